@@ -13,33 +13,10 @@ use lib.Ieee.Exact.{HasValue, round-exact}
 use lib.Ieee.Back.{round-whole, whole-unique}
 use lib.Ieee.Nearest.{div-same}
 use lib.Ieee.Scale.{round-same}
+use Rattle.numbers.specs.Units.{says, place, flat}
 use Rattle.numbers.specs.Whole.{roundAway}
 
 -- ---- a finite value, in units of the format's smallest
-
--- what `fits` says of an m that is not 0
-pub says : (f : Format) (s : Bool) (m : ℕ) (e : ℤ) → T (fits f (fin s (suc m) e)) → (suc m < 2 ^ prec f) × (down e ≤ 2 ^ low f) × (suc m * up e < 2 ^ suc (emax f) * down e)
-unfolding fits
-says f s m e t =
-    let A = eqb (suc m % 2) 1 in
-    let B = ltb (suc m) (2 ^ prec f) in
-    let C = leb (down e) (2 ^ low f) in
-    let D = ltb (suc m * up e) (2 ^ suc (emax f) * down e) in (
-      ltb→lt (suc m) (2 ^ prec f) (and-r A B (and-l (A && B) C (and-l (A && B && C) D t))),
-      leb→le (down e) (2 ^ low f) (and-r (A && B) C (and-l (A && B && C) D t)),
-      ltb→lt (suc m * up e) (2 ^ suc (emax f) * down e) (and-r (A && B && C) D t),
-    )
-
-pow-le-back : (a l : ℕ) → 2 ^ a ≤ 2 ^ l → a ≤ l
-pow-le-back a l h = le-of-suc-le-suc (lt-of-not-le (λ (g : suc l ≤ a). lt-irrefl (2 ^ l) (lt-of-lt-of-le (pow-lt g) h)))
-
--- 2 ^ e is 2 ^ j / 2 ^ l
-pub place : (l : ℕ) (e : ℤ) → down e ≤ 2 ^ l → (j : ℕ) × (up e * 2 ^ l ≡ 2 ^ j * down e)
-place l (pos a) h = (a + l, sym (pow-add 2 a l) ∙ sym (mul-one (2 ^ (a + l))))
-place l (negsuc a) h = (l - suc a, one-mul (2 ^ l) ∙ ap (λ (x : ℕ). 2 ^ x) (sym (back l (suc a) (pow-le-back (suc a) l h))) ∙ pow-add 2 (l - suc a) (suc a))
-  where
-    back : (l b : ℕ) → b ≤ l → l - b + b ≡ l
-    back l b h = omega arith
 
 -- n / d is a / l, so where n / d is below b, a is below b * l
 cross : (n d a l b : ℕ) → 0 < l → n * l ≡ a * d → n < b * d → a < b * l
@@ -78,11 +55,11 @@ module _ (f : Format) (m : ℕ) (e : ℤ) (F : T (fits f (fin false (suc m) e)))
   d = down e
 
   j : ℕ
-  j = place (low f) e (says f false m e F .1) .0
+  j = place (low f) e (says f false (suc m) e F .1) .0
 
   at : N * 2 ^ low f ≡ suc m * 2 ^ j * d
   unfolding j
-  at = mul-assoc (suc m) (up e) (2 ^ low f) ∙ ap (λ (x : ℕ). suc m * x) (place (low f) e (says f false m e F .1) .1) ∙ sym (mul-assoc (suc m) (2 ^ j) d)
+  at = mul-assoc (suc m) (up e) (2 ^ low f) ∙ ap (λ (x : ℕ). suc m * x) (place (low f) e (says f false (suc m) e F .1) .1) ∙ sym (mul-assoc (suc m) (2 ^ j) d)
 
   is : add f (fin false (suc m) e) (fin false (suc m) e) ≡ round f false (2 * N) d
   unfolding add sum
@@ -117,7 +94,7 @@ module _ (f : Format) (m : ℕ) (e : ℤ) (F : T (fits f (fin false (suc m) e)))
       ∙ ap (λ (x : ℕ). x * d) (mul-left-comm 2 (suc m) (2 ^ j) ∙ ap (λ (x : ℕ). suc m * x) (sym (pow-succ' 2 j)))
 
   exact : HasValue (add f (fin false (suc m) e) (fin false (suc m) e)) false (2 * N) d
-  exact = subst (λ (v : Float). HasValue v false (2 * N) d) (sym is) (round-exact f false (2 * N) d (suc m) (suc j) (down-pos e) (says f false m e F .0) room same)
+  exact = subst (λ (v : Float). HasValue v false (2 * N) d) (sym is) (round-exact f false (2 * N) d (suc m) (suc j) (down-pos e) (says f false (suc m) e F .0) room same)
 
 -- ---- half of a whole part and one: n / d and a half, cut
 half : (n d : ℕ) → 0 < d → (2 * n / d + 1) / 2 ≡ (2 * n + d) / (2 * d)
@@ -194,7 +171,7 @@ few m d P h k = le-of-lt (div-lt-iff-lt-mul (twice-pos d k) .1 (go m d P (P * d)
 whole-exact : (f : Format) (s : Bool) (m a : ℕ) → T (fits f (fin s (suc m) (pos a))) → HasValue (round f s (suc m * 2 ^ a) 1) s (suc m * 2 ^ a) 1
 whole-exact f s m a F =
     let M = suc m * 2 ^ a in
-    let k = says f s m (pos a) F in
+    let k = says f s (suc m) (pos a) F in
     let shifted : M * 2 ^ low f ≡ suc m * 2 ^ (a + low f) = mul-assoc (suc m) (2 ^ a) (2 ^ low f) ∙ ap (λ (x : ℕ). suc m * x) (sym (pow-add 2 a (low f))) in
     let room : suc m * 2 ^ (a + low f) < 2 ^ (low f + suc (emax f)) =
     lt-of-le-of-lt (le-of-eq (sym shifted)) (lt-of-lt-of-le (mul-lt-mul-of-pos-right (subst (λ (x : ℕ). M < x) (mul-one (2 ^ suc (emax f))) (k .2)) (pow-pos (low f))) (le-of-eq (mul-comm (2 ^ suc (emax f)) (2 ^ low f) ∙ sym (pow-add 2 (low f) (suc (emax f)))))) in
@@ -215,7 +192,7 @@ unfolding roundAway
 exact-whole f s zero (pos a) F = subst (λ (x : ℕ). HasValue (round f s x 1) s x 1) (sym (ap (λ (x : ℕ). (2 * x + 1) / 2) (zero-mul (2 ^ a)))) (round-whole f s 0 zero-le)
 exact-whole f s (suc m) (pos a) F = subst (λ (x : ℕ). HasValue (round f s x 1) s x 1) (sym (halved (suc m * 2 ^ a))) (whole-exact f s m a F)
 exact-whole f s zero (negsuc a) F = round-whole f s _ (few 0 (2 ^ suc a) (2 ^ prec f) (pow-pos (prec f)) (two-le a))
-exact-whole f s (suc m) (negsuc a) F = round-whole f s _ (few (suc m) (2 ^ suc a) (2 ^ prec f) (says f s m (negsuc a) F .0) (two-le a))
+exact-whole f s (suc m) (negsuc a) F = round-whole f s _ (few (suc m) (2 ^ suc a) (2 ^ prec f) (says f s (suc m) (negsuc a) F .0) (two-le a))
 
 pub stays : (f : Format) (x : Float) → T (fits f x) → T (lt (fin false 0 (pos 0)) x) → T (not (lt x (fin false 1 (pos (prec f - 1))))) → x ≡ roundAway f x
 unfolding lt
@@ -231,7 +208,7 @@ stays f (fin false (suc m) (pos a)) F p q = whole-stays f m a F
 stays f (fin false (suc m) (negsuc a)) F p q =
     let h = 2 ^ (prec f - 1) in
     let lo : h * 2 ≤ h * 2 ^ suc a = mul-le-mul-left h (pow-mono {i = 1} {j = suc a} (suc-le-suc zero-le)) in
-    absurd (clash (suc m) h (h * 2 ^ suc a) (2 ^ prec f) (hid-twice f) (says f false m (negsuc a) F .0) lo (tidy (suc m) h (2 ^ suc a) (nltb→le (suc m * 1 * 1) (1 * h * 2 ^ suc a) q)))
+    absurd (clash (suc m) h (h * 2 ^ suc a) (2 ^ prec f) (hid-twice f) (says f false (suc m) (negsuc a) F .0) lo (tidy (suc m) h (2 ^ suc a) (nltb→le (suc m * 1 * 1) (1 * h * 2 ^ suc a) q)))
   where
     hid-twice : (f : Format) → 2 ^ prec f ≡ 2 ^ (prec f - 1) * 2
     hid-twice binary32 = refl
@@ -288,17 +265,6 @@ turned-over (fin false m e) h = absurd (go (down e) (m * up e) (ltb→lt (m * up
     go d n h = omega arith
 
 -- ---- neither above zero nor below: a zero, or a NaN
-flat : (e : ℤ) → up e * down e ≡ 1 → e ≡ pos 0
-flat (pos zero) h = refl
-flat (pos (suc k)) h = absurd (two-up (2 ^ k) (sym (pow-succ' 2 k) ∙ sym (mul-one (2 ^ suc k)) ∙ h))
-  where
-    two-up : (p : ℕ) → 2 * p ≡ 1 → ⊥
-    two-up p e = omega arith
-flat (negsuc k) h = absurd (two-up (2 ^ k) (sym (pow-succ' 2 k) ∙ sym (one-mul (2 ^ suc k)) ∙ h))
-  where
-    two-up : (p : ℕ) → 2 * p ≡ 1 → ⊥
-    two-up p e = omega arith
-
 zero-stays : (f : Format) (s : Bool) → fin s 0 (pos 0) ≡ roundAway f (fin s 0 (pos 0))
 unfolding roundAway
 zero-stays binary32 s = refl

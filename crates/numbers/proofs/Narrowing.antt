@@ -3,20 +3,20 @@
 use mathlib.Core.Path.{_≡_, refl, sym, ap, _∙_, subst}
 use mathlib.Core.Logic.{_⊎_, inl, inr}
 use mathlib.Core.Bool.{Bool, true, false, not, cond}
-use Prim.Native.Nat.{ℕ, zero, suc, _+_, _-_, _*_, _^_, _≤_, _<_}
-use native.Mathlib.Nat.{le-trans, lt-of-lt-of-le, add-zero, lt-irrefl, eq-or-lt-of-le, le-of-suc-le-suc, zero-add}
+use Prim.Native.Nat.{ℕ, zero, suc, _+_, _-_, _*_, _/_, _%_, _^_, _≤_, _<_}
+use native.Mathlib.Nat.{le-trans, lt-of-lt-of-le, add-zero, lt-irrefl, eq-or-lt-of-le, le-of-suc-le-suc, zero-add, mod-lt, mod-eq-of-lt}
 use native.Mathlib.Omega.{arith}
-use lib.Dec.{T, eqb, lit≤, lit<}
+use lib.Dec.{T, leb, eqb, lit≤, lit<}
 use lib.Pow.{pow-pos, pow-mono, field}
-use lib.Ieee.{Float, nan, inf, fin, binary32, binary64, up, down, odd, round, ofFields, toBits, isNan, fits}
+use lib.Ieee.{Float, nan, inf, fin, binary32, binary64, up, down, odd, round, ofFields, ofBits, toBits, isNan, fits}
 use lib.Ieee.Fits.{down-pos, round-fits, nan-fits, inf-fits}
 use lib.Ieee.Exact.{HasValue, odd-sign}
 use lib.Ieee.Scale.{round-same}
 use lib.Ieee.Nearest.{closest}
-use borrow.Author.Tests.{ne-eqb}
+use borrow.Author.Tests.{ne-eqb, lt-leb}
 use Rattle.numbers.specs.Narrow.{narrow}
-use Rattle.numbers.proofs.Closest.{closest-zero}
-use Rattle.numbers.proofs.Rounding.{round-bits, round-over, round-no-nan, toBits-inf}
+use Rattle.numbers.proofs.Closest.{carried, closest-zero}
+use Rattle.numbers.proofs.Rounded.{round-bits, round-over, round-no-nan, toBits-inf}
 
 -- what a value of a known size narrows to
 narrow-val : (x : Float) (s : Bool) (a c : ℕ) → 0 < c → HasValue x s a c → narrow x ≡ round binary32 s a c
@@ -152,3 +152,65 @@ module _ (s : Bool) (t : ℕ) (h : t < 2 ^ 52) where
   pub tiny : (e : ℕ) → e < 863 → sign s ≡ toBits binary32 (narrow (ofFields binary64 s e t))
   tiny zero r = sym (add-zero (sign s)) ∙ sym at-zero
   tiny (suc j) r = sym (add-zero (sign s)) ∙ sym (small j (omega arith) (omega arith) ∙ ap (λ (x : ℕ). sign s + (0 * 2 ^ 23 + x)) (none D (925 - j) D-lt (omega arith)))
+
+-- ---- the fields of b, as the code has them
+abbrev pub s : ℕ → Bool
+s b = leb (2 ^ 63) b
+
+abbrev pub e : ℕ → ℕ
+e b = b / 2 ^ 52 % 2048
+
+abbrev pub t : ℕ → ℕ
+t b = b % 2 ^ 52
+
+pub read : (b : ℕ) → ofFields binary64 (s b) (e b) (t b) ≡ ofBits binary64 b
+unfolding ofBits
+read b = ap (λ (x : ℕ). ofFields binary64 (s b) x (t b)) (sym (field b 11 52))
+
+pub t-lt : (b : ℕ) → t b < 2 ^ 52
+t-lt b = mod-lt b (pow-pos 52)
+
+-- ---- a normal result above zero: the pattern itself is rounded
+-- the pattern of the field 897 + j, whose digits with the leading one are q * 2 ^ 29 + r
+carry : (j q r : ℕ) → r < 536870912
+    → (((896 + j) * 8388608 + q) * 536870912 + r + 268435455 + (((896 + j) * 8388608 + q) * 536870912 + r) / 536870912 % 2) / 536870912 - 7516192768 ≡ j * 8388608 + (q + (r + 268435455 + q % 2) / 536870912)
+carry j q r h =
+    ap (λ (x : ℕ). (((896 + j) * 8388608 + q) * 536870912 + r + 268435455 + x % 2) / 536870912 - 7516192768) (whole ((896 + j) * 8388608 + q) r h)
+    ∙ ap (λ (x : ℕ). (((896 + j) * 8388608 + q) * 536870912 + r + 268435455 + x) / 536870912 - 7516192768) (parity j q)
+    ∙ ap (λ (x : ℕ). x - 7516192768) (apart ((896 + j) * 8388608 + q) r (q % 2))
+    ∙ less j q ((r + 268435455 + q % 2) / 536870912)
+  where
+    whole : (a r : ℕ) → r < 536870912 → (a * 536870912 + r) / 536870912 ≡ a
+    whole a r h = omega arith
+
+    parity : (j q : ℕ) → ((896 + j) * 8388608 + q) % 2 ≡ q % 2
+    parity j q = omega arith
+
+    apart : (a r c : ℕ) → (a * 536870912 + r + 268435455 + c) / 536870912 ≡ a + (r + 268435455 + c) / 536870912
+    apart a r c = omega arith
+
+    less : (j q y : ℕ) → (896 + j) * 8388608 + q + y - 7516192768 ≡ j * 8388608 + (q + y)
+    less j q y = omega arith
+
+pub plain : (b : ℕ) → 897 * 2 ^ 52 ≤ b → b < 1151 * 2 ^ 52 → (b + 268435455 + b / 536870912 % 2) / 536870912 - 7516192768 ≡ toBits binary32 (narrow (ofBits binary64 b))
+plain b lo hi =
+    let j = e b - 897 in
+    let D = 2 ^ 52 + t b in
+    let f : e b ≡ b / 2 ^ 52 = mod-eq-of-lt (small b hi .0) in
+    let l : 897 ≤ e b = subst (λ (x : ℕ). 897 ≤ x) (sym f) (large b lo) in
+    let parts : b ≡ ((896 + j) * 8388608 + D / 536870912) * 536870912 + D % 536870912 = split b (e b) (t b) D f refl refl l in
+    subst (λ (x : ℕ). (x + 268435455 + x / 536870912 % 2) / 536870912 - 7516192768 ≡ j * 8388608 + closest D (2 ^ 29)) (sym parts)
+    (carry j (D / 536870912) (D % 536870912) (mod-lt D (lit< tt)) ∙ ap (λ (x : ℕ). j * 8388608 + x) (carried D (2 ^ 28) (pow-pos 28)))
+    ∙ sym (zero-add (j * 8388608 + closest D (2 ^ 29)))
+    ∙ medium false (t b) (t-lt b) (e b) l (subst (λ (x : ℕ). x < 1151) (sym f) (small b hi .1))
+    ∙ ap (λ (a : Bool). toBits binary32 (narrow (ofFields binary64 a (e b) (t b)))) (sym (lt-leb (2 ^ 63) b (small b hi .2)))
+    ∙ ap (λ (x : Float). toBits binary32 (narrow x)) (read b)
+  where
+    large : (b : ℕ) → 4039728865751334912 ≤ b → 897 ≤ b / 4503599627370496
+    large b h = omega arith
+
+    small : (b : ℕ) → b < 5183643171103440896 → (b / 4503599627370496 < 2048) × (b / 4503599627370496 < 1151) × (b < 9223372036854775808)
+    small b h = (omega arith, omega arith, omega arith)
+
+    split : (b e t D : ℕ) → e ≡ b / 4503599627370496 → t ≡ b % 4503599627370496 → D ≡ 4503599627370496 + t → 897 ≤ e → b ≡ ((896 + (e - 897)) * 8388608 + D / 536870912) * 536870912 + D % 536870912
+    split b e t D p q r l = omega arith

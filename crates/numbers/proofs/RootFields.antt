@@ -15,9 +15,9 @@ use lib.Ieee.Digits.{size-lt}
 use borrow.Author.Tests.{leb-false, ne-eqb}
 use Rattle.numbers.specs.Order.{negative}
 use Rattle.numbers.specs.Root.{root, rootUnits, sqrt}
-use Rattle.numbers.proofs.Tests.{yes}
+use Rattle.numbers.specs.Tests.{yes}
 use Rattle.numbers.proofs.Signs.{negative-bits}
-use Rattle.numbers.proofs.Rounding.{pow-lt-back, toBits-inf, units-no-nan}
+use Rattle.numbers.proofs.Rounded.{pow-lt-back, toBits-inf, units-no-nan}
 use Rattle.numbers.proofs.Squares.{root-cut, root-lt}
 use Rattle.numbers.proofs.Roots.{sqrt-val, rootUnits-is}
 

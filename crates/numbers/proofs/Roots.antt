@@ -1,18 +1,20 @@
 -- The pattern of a square root, over the format: from the root of a whole number of twice as many digits, cut. Assumes nothing.
 use mathlib.Core.Path.{_≡_, refl, sym, ap, _∙_, subst}
-use mathlib.Core.Bool.{true, false, true≢false}
+use mathlib.Core.Bool.{Bool, true, false, true≢false}
 use Prim.Native.Nat.{ℕ, zero, suc, _+_, _-_, _*_, _/_, _^_, _≤_, _<_, compare}
 use native.Mathlib.Nat.{le-trans, le-of-eq, le-of-lt, le-of-suc-le-suc, lt-of-le-of-lt, lt-of-lt-of-le, lt-irrefl, zero-add, zero-mul, mul-comm, mul-assoc, mul-pos, mul-le-mul, mul-le-mul-left, mul-lt-mul-of-pos-right, div-one, mul-div-cancel}
 use native.Mathlib.Numerals.{add-one}
 use native.Mathlib.Omega.{arith}
+use lib.Dec.{leb}
 use lib.Pow.{pow-add, pow-pos, pow-mono}
 use lib.Ieee.{Float, nan, inf, fin, Format, prec, low, up, down, size, nearest, units, hid, ones, toBits}
 use lib.Ieee.Fits.{down-pos}
+use borrow.Author.Tests.{leb-true, leb-false}
 use lib.Ieee.Exact.{HasValue}
 use Rattle.numbers.specs.Root.{root, rootUnits, sqrt}
 use Rattle.numbers.proofs.Closest.{cmp, at-lt, at-gt}
-use Rattle.numbers.proofs.Rounding.{dropped, packed, twice, halve}
-use Rattle.numbers.proofs.Squares.{Cut, cut-unique, root-lt, below, square-next, square-twice, root-cut}
+use Rattle.numbers.proofs.Rounded.{dropped, packed, twice, halve}
+use Rattle.numbers.proofs.Squares.{Cut, Near, near-stays, near-moves, root-lt, square-next, square-twice, root-cut}
 
 -- `rootUnits`, from its k and its r on
 abbrev core : Format → ℕ → ℕ → ℕ → Float
@@ -23,9 +25,15 @@ unfolding rootUnits
 rootUnits-is f v = refl
 
 -- d has prec digits, and d * 2 ^ a is d * 2 ^ i times the square of 2 ^ k, for an i of prec or one less. r is the root of d * 2 ^ i, cut
-module _ (f : Format) (d a k i r : ℕ) (h : d < 2 ^ prec f) (l : 2 ^ prec f ≤ 2 * d) (e : a ≡ i + (k + k)) (i-lo : prec f ≤ suc i) (i-hi : i ≤ prec f) (c : Cut (d * 2 ^ i) r) where
+module _ (f : Format) (d a k i : ℕ) (h : d < 2 ^ prec f) (l : 2 ^ prec f ≤ 2 * d) (e : a ≡ i + (k + k)) (i-lo : prec f ≤ suc i) (i-hi : i ≤ prec f) where
   abbrev n : ℕ
   n = d * 2 ^ i
+
+  abbrev r : ℕ
+  r = root n
+
+  c : Cut n r
+  c = root-cut n
 
   abbrev K : ℕ
   K = 2 ^ k * 2 ^ k
@@ -49,7 +57,7 @@ module _ (f : Format) (d a k i r : ℕ) (h : d < 2 ^ prec f) (l : 2 ^ prec f ≤
   K-pos = mul-pos (pow-pos k) (pow-pos k)
 
   root-is : root (d * 2 ^ a / K) ≡ r
-  root-is = ap root (ap (λ (x : ℕ). x / K) v-is ∙ mul-div-cancel n K-pos) ∙ cut-unique n (root n) r (root-cut n) c
+  root-is = ap root (ap (λ (x : ℕ). x / K) v-is ∙ mul-div-cancel n K-pos)
 
   at : rootUnits f (d * 2 ^ a) ≡ core f (n * K) k r
   at =
@@ -84,26 +92,34 @@ module _ (f : Format) (d a k i r : ℕ) (h : d < 2 ^ prec f) (l : 2 ^ prec f ≤
       go n s r o e g = omega arith
 
   -- r has prec digits
-  pub r-lt : r < 2 ^ prec f
+  r-lt : r < 2 ^ prec f
   r-lt = root-lt r (2 ^ prec f) (lt-of-le-of-lt (c .0) (lt-of-lt-of-le (mul-lt-mul-of-pos-right h (pow-pos i)) (mul-le-mul-left (2 ^ prec f) (pow-mono i-hi))))
 
   hid-le : hid f ≤ d
   hid-le = halve (hid f) d (le-trans (le-of-eq (sym (twice f))) l)
 
-  pub r-ge : hid f ≤ r
+  r-ge : hid f ≤ r
   r-ge = le-of-suc-le-suc (subst (λ (x : ℕ). hid f < x) (add-one r) (root-lt (hid f) (r + 1) (lt-of-le-of-lt (mul-le-mul hid-le (pow-mono (go (prec f) i i-lo))) (c .1))))
     where
       go : (p i : ℕ) → p ≤ suc i → p - 1 ≤ i
       go p i h = omega arith
 
-  pub pattern-stays : suc k < ones f → n ≤ r * r + r → k * hid f + r ≡ toBits f (rootUnits f (d * 2 ^ a))
+  pattern-stays : suc k < ones f → n ≤ r * r + r → k * hid f + r ≡ toBits f (rootUnits f (d * 2 ^ a))
   pattern-stays t g = sym (ap (toBits f) (at ∙ ap (λ (x : ℕ). units f false x k) (sym (stays g))) ∙ packed f false r k (le-of-lt r-lt) (λ z. r-ge) t ∙ zero-add (k * hid f + r))
 
-  pub pattern-moves : suc k < ones f → r * r + r < n → k * hid f + (r + 1) ≡ toBits f (rootUnits f (d * 2 ^ a))
+  pattern-moves : suc k < ones f → r * r + r < n → k * hid f + (r + 1) ≡ toBits f (rootUnits f (d * 2 ^ a))
   pattern-moves t g =
       sym (ap (toBits f) (at ∙ ap (λ (x : ℕ). units f false x k) (sym (moves g)))
       ∙ packed f false (r + 1) k (subst (λ (x : ℕ). x ≤ 2 ^ prec f) (sym (add-one r)) r-lt) (λ z. le-trans r-ge (le-of-lt (subst (λ (x : ℕ). r < x) (sym (add-one r)) (le-of-eq refl)))) t
       ∙ zero-add (k * hid f + (r + 1)))
+
+  -- the pattern, from the root of n rounded
+  pub pattern : (q : ℕ) → Near n q → suc k < ones f → k * hid f + q ≡ toBits f (rootUnits f (d * 2 ^ a))
+  pattern q w t = go (leb n (r * r + r)) refl
+    where
+      go : (b : Bool) → leb n (r * r + r) ≡ b → k * hid f + q ≡ toBits f (rootUnits f (d * 2 ^ a))
+      go true z = let g = leb-true n (r * r + r) z in ap (λ (x : ℕ). k * hid f + x) (near-stays n r q c (lt-of-lt-of-le (pow-pos (prec f - 1)) r-ge) w g) ∙ pattern-stays t g
+      go false z = let g = leb-false n (r * r + r) z in ap (λ (x : ℕ). k * hid f + x) (near-moves n r q c w g) ∙ pattern-moves t g
 
 -- ---- `sqrt` of a value above zero, by its size in units
 pub sqrt-val : (f : Format) (x : Float) (a : ℕ) → 0 < a → HasValue x false a (2 ^ low f) → sqrt f x ≡ rootUnits f (a * 2 ^ low f)

@@ -1,7 +1,7 @@
 -- Squares of whole numbers, and the square root cut to a whole number. Assumes nothing.
 use mathlib.Core.Path.{_≡_, refl, sym, ap, _∙_, subst}
 use mathlib.Core.Bool.{Bool, true, false, not, cond}
-use Prim.Native.Nat.{ℕ, zero, suc, _+_, _*_, _/_, _^_, _≤_, _<_}
+use Prim.Native.Nat.{ℕ, zero, suc, _+_, _*_, _/_, _^_, _≤_, _<_, zero-le}
 use native.Mathlib.Nat.{le-trans, le-of-eq, le-antisymm, le-of-suc-le-suc, lt-of-le-of-lt, lt-of-lt-of-le, lt-of-not-le, not-le-of-lt, mul-le-mul, mul-one, one-mul, mul-assoc, mul-comm, mul-left-comm, mul-add, add-mul, pow-succ', div-lt-iff-lt-mul}
 use native.Mathlib.Numerals.{add-one}
 use native.Mathlib.Omega.{arith}
@@ -39,6 +39,42 @@ square-twice x = mul-assoc 2 x (2 * x) ∙ ap (λ (y : ℕ). 2 * y) (mul-left-co
   where
     go : (s : ℕ) → 2 * (2 * s) ≡ 4 * s
     go s = omega arith
+
+-- ---- r is the root of n, rounded: n lies between the squares of r less a half and of r and a half
+abbrev pub Near : ℕ → ℕ → Type 0
+Near n r = (n ≤ r * r + r) × (r * r < n + r)
+
+near-below : (n q b : ℕ) → Near n q → n ≤ b * b + b → q ≤ b
+near-below n zero b h l = zero-le
+near-below n (suc p) b h l = lt-of-not-le (λ (g : b ≤ p). clash n p b (p * p) (b * b) (suc p * suc p) (ap (λ (x : ℕ). x * x) (sym (add-one p)) ∙ square-next p) (h .1) l g (mul-le-mul g g))
+  where
+    clash : (n p b P B Q : ℕ) → Q ≡ P + 2 * p + 1 → Q < n + suc p → n ≤ B + b → b ≤ p → B ≤ P → ⊥
+    clash n p b P B Q e h l g k = omega arith
+
+near-unique : (n q r : ℕ) → Near n q → Near n r → q ≡ r
+near-unique n q r a b = le-antisymm (near-below n q r a (b .0)) (near-below n r q b (a .0))
+
+pub near-lt : (n q b : ℕ) → Near n q → n < b * b → q ≤ b
+near-lt n q b h l = near-below n q b h (go n (b * b) b l)
+  where
+    go : (n B b : ℕ) → n < B → n ≤ B + b
+    go n B b l = omega arith
+
+-- from the root that is cut: up to r and a half it stays
+pub near-stays : (n r q : ℕ) → Cut n r → 0 < r → Near n q → n ≤ r * r + r → q ≡ r
+near-stays n r q c p w g = near-unique n q r w (g, go n r (r * r) p (c .0))
+  where
+    go : (n r R : ℕ) → 0 < r → R ≤ n → R < n + r
+    go n r R p h = omega arith
+
+pub near-moves : (n r q : ℕ) → Cut n r → Near n q → r * r + r < n → q ≡ r + 1
+near-moves n r q c w g = near-unique n q (r + 1) w (go n r (r * r) ((r + 1) * (r + 1)) (square-next r) (c .1), up n r (r * r) ((r + 1) * (r + 1)) (square-next r) g)
+  where
+    go : (n r R S : ℕ) → S ≡ R + 2 * r + 1 → n < S → n ≤ S + (r + 1)
+    go n r R S e h = omega arith
+
+    up : (n r R S : ℕ) → S ≡ R + 2 * r + 1 → R + r < n → S < n + (r + 1)
+    up n r R S e h = omega arith
 
 -- ---- `rootIn`
 step : (n s : ℕ) → Cut (n / 4) s → Cut n (cond (leb ((2 * s + 1) * (2 * s + 1)) n) (2 * s + 1) (2 * s))

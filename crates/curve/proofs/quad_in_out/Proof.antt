@@ -1,0 +1,15 @@
+-- `curve::quad_in_out` meets its contract, by what `in_out` ensures. Assumes nothing.
+use Rattle.curve.specs.Curve.{quadInOut}
+use borrow.Author.Needs.{needs}
+use Rattle.curve.proofs.quad_in_out.Statement.{statement}
+use Rattle.curve.proofs.quad_in_out.Tie as tie
+
+in-out-requires : tie.Need-in-out-requires
+in-out-requires c κs = search needs
+
+returns : tie.Need-returns
+unfolding quadInOut
+returns c = rw (c .in-out .ensures)
+
+pub quad-in-out-spec : {M : Type 1} → statement M
+quad-in-out-spec = tie.close (tie.spec in-out-requires returns)

@@ -1,0 +1,4 @@
+pub mod F32
+pub mod Curve
+pub mod Laws
+pub mod Examples

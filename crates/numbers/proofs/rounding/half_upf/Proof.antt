@@ -1,0 +1,42 @@
+-- `numbers::rounding::half_upf` meets its contract: `Halves.antt` at binary32.
+-- Assumes nothing.
+use mathlib.Core.Path.{sym, ap, _∙_, subst}
+use Prim.Native.Nat.{ℕ, _+_, _/_, _^_, _<_}
+use native.Mathlib.Omega.{arith}
+use lib.IntN.{pos}
+use lib.Dec.{T, le→leb}
+use lib.Ieee.{binary32, fits, ofInt, ofBits, inFloat}
+use Rattle.numbers.specs.Tests.{yes, no}
+use Rattle.numbers.proofs.Halves.{Up, up-of, stays}
+use Rattle.numbers.proofs.rounding.half_upf.Statement.{statement}
+use Rattle.numbers.proofs.rounding.half_upf.Tie as tie
+
+held : (c : tie.Start) → T (fits binary32 (c .args .x))
+held c = yes (c .good .0 .1)
+
+at : (c : tie.Then1) → Up binary32 (c .before .args .x)
+unfolding ofBits
+at c = up-of binary32 (c .before .args .x) (held (c .before)) (c .before .pre) (yes (c .if1 .taken))
+
+little : (c : tie.After-truncating-f32-to-u64) → c .truncating-f32-to-u64 .result < 2 ^ 24
+little c = subst (λ (z : ℕ). z < 2 ^ 24) (sym (c .truncating-f32-to-u64 .ensures)) (at (c .before) .little)
+
+truncating-f32-to-u64-requires : tie.Need-truncating-f32-to-u64-requires
+truncating-f32-to-u64-requires c κs = (at c .over, at c .under)
+
+add-result : tie.Need-add-result
+add-result c = omega (arith, little c)
+
+int-to-float-result : tie.Need-int-to-float-result
+unfolding inFloat
+int-to-float-result c = le→leb ((c .before .truncating-f32-to-u64 .result + 1) / 2) (2 ^ 24) (omega (arith, little (c .before)))
+
+returns : tie.Need-returns
+returns c = ap (λ (z : ℕ). ofInt binary32 (pos ((z + 1) / 2))) (c .before .truncating-f32-to-u64 .ensures) ∙ at (c .before .before) .is-up
+
+returns-2 : tie.Need-returns-2
+unfolding ofBits
+returns-2 c = stays binary32 (c .before .args .x) (held (c .before)) (c .before .pre) (no (c .if1 .left))
+
+pub half-upf-spec : {M : Type 1} → statement M
+half-upf-spec = tie.close (tie.spec truncating-f32-to-u64-requires add-result int-to-float-result returns returns-2)
