@@ -1,0 +1,40 @@
+//! Measures the port's functions beside the Rust's, on the same inputs in the same run. bench/run
+//! builds both sides and starts this program; bench/README.md says what the figures mean.
+//!
+//!     bench times              the time of each figure
+//!     bench list               for each figure: its symbols, how often a pass calls them, its name
+//!     bench pass FIGURE SIDE   one pass of one side, for callgrind to count
+#[macro_use]
+mod figure;
+mod inputs;
+
+use figure::{Figure, Side};
+use rust_side as _;
+
+fn figures() -> Vec<Figure> {
+    vec![
+        calls!("the call alone", rattle_echo, rust_echo, f64 => f64, inputs::fractions()),
+        calls!("f64 to f32, fractions", rattle_narrow, rust_narrow, f64 => f32, inputs::fractions()),
+        calls!("f64 to f32, any", rattle_narrow, rust_narrow, f64 => f32, inputs::doubles()),
+        calls!("u64 to f32, below 2^24", rattle_u64_to_f32, rust_u64_to_f32, u64 => f32, inputs::words(24)),
+        calls!("u64 to f32, any", rattle_u64_to_f32, rust_u64_to_f32, u64 => f32, inputs::words(64)),
+        calls!("f64 to u64", rattle_f64_to_u64, rust_f64_to_u64, f64 => u64, inputs::scaled(1e6)),
+        calls!("round", rattle_round, rust_round, f64 => f64, inputs::scaled(1e3)),
+        calls!("roundf", rattle_roundf, rust_roundf, f32 => f32, inputs::singles(inputs::scaled(1e3))),
+        calls!("sqrtf, fractions", rattle_sqrtf, rust_sqrtf, f32 => f32, inputs::singles(inputs::fractions())),
+    ]
+}
+
+fn main() {
+    let words: Vec<String> = std::env::args().skip(1).collect();
+    let words: Vec<&str> = words.iter().map(String::as_str).collect();
+    match words[..] {
+        ["times"] => figures().iter().for_each(Figure::print_times),
+        ["list"] => figures().iter().for_each(Figure::print_symbols),
+        ["pass", figure, side] => {
+            let figure: usize = figure.parse().expect("a figure's number");
+            figures()[figure].side(side).pass();
+        }
+        _ => panic!("bench times | list | pass FIGURE SIDE"),
+    }
+}

@@ -1,0 +1,58 @@
+-- `vectors::replay::replay` ends: the measure is the number of turns that are left. A held line is always shorter than the buffer.
+-- Assumes nothing.
+use Prim.Native.Nat.{_<_}
+use mathlib.Core.Path.{_≡_}
+use native.Mathlib.Omega.{arith}
+use lib.ListN.{length}
+use borrow.Author.Needs.{needs}
+use Rattle.vectors.proofs.replay.replay.Statement.{statement}
+use Rattle.vectors.proofs.replay.replay.Tie as tie
+
+abbrev Inv-loop : tie.InvT-loop
+Inv-loop buf₀ r₀ turns₀ buf r turns = (r .held < length buf) × (length buf ≡ length buf₀)
+
+abbrev μ-loop : tie.MeasureT-loop
+μ-loop buf₀ r₀ turns₀ buf r turns = turns
+
+loop-holds : tie.Need-loop-holds Inv-loop μ-loop
+loop-holds c = omega arith
+
+sub-turns : tie.Need-sub-turns Inv-loop μ-loop
+sub-turns c = omega arith
+
+turn-requires : tie.Need-turn-requires Inv-loop μ-loop
+turn-requires c κs = search needs
+
+same-length : tie.Need-same-length Inv-loop μ-loop
+same-length c = search needs
+
+returns : tie.Need-returns Inv-loop μ-loop
+returns c = search needs
+
+loop-less : tie.Need-loop-less Inv-loop μ-loop
+loop-less c = omega arith
+
+loop-again : tie.Need-loop-again Inv-loop μ-loop
+loop-again c = search needs
+
+same-length-2 : tie.Need-same-length-2 Inv-loop μ-loop
+same-length-2 c = search needs
+
+returns-2 : tie.Need-returns-2 Inv-loop μ-loop
+returns-2 c = search needs
+
+pub replay-spec : {M : Type 1} → statement M
+replay-spec =
+    tie.close
+    (tie.spec
+    Inv-loop
+    μ-loop
+    loop-holds
+    sub-turns
+    turn-requires
+    same-length
+    returns
+    loop-less
+    loop-again
+    same-length-2
+    returns-2)

@@ -1,0 +1,139 @@
+//! Answers of the ported Rust. One call a line on standard input gives one answer a line on
+//! standard output; or random calls are made here. DRIVER.md has the forms.
+mod calls;
+mod domain;
+mod edges;
+mod random;
+mod records;
+mod rules;
+mod session;
+mod text;
+
+use calls::{call, Answer};
+use random::Random;
+use session::{session, Sessions};
+use std::io::{BufRead, BufWriter, Result, Write};
+use text::{arguments, Read, Registers, Words, OPERATIONS};
+
+const USAGE: &str = "oracle_driver [--raw]
+oracle_driver --gen SEED N [OPERATION,..]
+oracle_driver --vectors SEED N [OPERATION,..]
+oracle_driver --sessions SEED N [WORDS]";
+
+fn main() -> Result<()> {
+    std::panic::set_hook(Box::new(|_| {}));
+    let words: Vec<String> = std::env::args().skip(1).collect();
+    let words: Vec<&str> = words.iter().map(String::as_str).collect();
+    let mut out = BufWriter::new(std::io::stdout().lock());
+    match words[..] {
+        [] => replies(&mut out, false)?,
+        ["--raw"] => replies(&mut out, true)?,
+        [mode @ ("--gen" | "--vectors" | "--sessions"), seed, count, ref rest @ ..] => {
+            let (Ok(seed), Ok(count)) = (seed.parse(), count.parse()) else {
+                panic_usage();
+            };
+            match mode {
+                "--sessions" => random_session(&mut out, seed, count, rest.first())?,
+                _ => random_calls(&mut out, seed, count, rest.first(), mode == "--vectors")?,
+            }
+        }
+        _ => panic_usage(),
+    }
+    out.flush()
+}
+
+fn panic_usage() -> ! {
+    eprintln!("{USAGE}");
+    std::process::exit(2);
+}
+
+fn random_calls(
+    out: &mut impl Write,
+    seed: u64,
+    count: u64,
+    ops: Option<&&str>,
+    answers: bool,
+) -> Result<()> {
+    let all: Vec<&str> = OPERATIONS.iter().map(|o| o.0).collect();
+    let ops = ops.map_or(all, |s| s.split(',').collect());
+    let mut r = Random(seed);
+    for _ in 0..count {
+        let op = r.one_of(&ops);
+        let a = r.call(op);
+        write!(out, "{op}{}", arguments(&a))?;
+        if answers {
+            write!(out, " => {}", call(op, &a, false).text)?;
+        }
+        writeln!(out)?;
+    }
+    Ok(())
+}
+
+fn random_session(out: &mut impl Write, seed: u64, count: u64, words: Option<&&str>) -> Result<()> {
+    let mut r = Random(seed);
+    let words: u64 = match words.map(|w| w.parse()) {
+        None => r.one_of(&[0, 1027, 1028, 2056, 3084, 5140, 10280 + 1027]),
+        Some(Ok(words)) => words,
+        Some(Err(_)) => panic_usage(),
+    };
+    let mut sessions = Sessions::new();
+    let mut line = format!("s open {} {words}", r.one_of(&[0, 7, u32::MAX]));
+    for _ in 0..count {
+        let call: Vec<&str> = line.split(' ').collect();
+        let answer = session(&mut sessions, &Registers::new(), &call);
+        writeln!(out, "session {line} => {}", answer.expect("a call made here"))?;
+        let (call, a) = r.session_call(words);
+        line = format!("s {call}{}", arguments(&a));
+    }
+    Ok(())
+}
+
+fn replies(out: &mut impl Write, raw: bool) -> Result<()> {
+    let mut registers = Registers::new();
+    let mut sessions = Sessions::new();
+    for line in std::io::stdin().lock().lines() {
+        let line = line?;
+        let call = line.split(" => ").next().unwrap_or("");
+        let mut words: Vec<&str> = call.split_whitespace().collect();
+        if words.first().is_none_or(|w| w.starts_with('#')) {
+            continue;
+        }
+        let mut name = None;
+        if let [register, "=", _, ..] = words[..] {
+            name = register.strip_prefix('@');
+            words.drain(..2);
+        }
+        match reply(&words, raw, &registers, &mut sessions) {
+            Err(text) => writeln!(out, "error {text}")?,
+            Ok(answer) => {
+                writeln!(out, "{}", answer.text)?;
+                if let (Some(name), Some(e)) = (name, answer.envelope) {
+                    registers.insert(name.into(), e);
+                }
+            }
+        }
+    }
+    Ok(())
+}
+
+fn reply(words: &[&str], raw: bool, registers: &Registers, sessions: &mut Sessions) -> Read<Answer> {
+    let op = words[0];
+    if op == "session" {
+        let text = session(sessions, registers, &words[1..])?;
+        return Ok(Answer { text, envelope: None });
+    }
+    if op == "{" || op.starts_with('@') {
+        let e = Words::new(words, registers).envelope()?;
+        return Ok(Answer {
+            text: format!("ok {}", text::envelope(&e, &[])),
+            envelope: Some(e),
+        });
+    }
+    let (kinds, _) = text::signature(op).ok_or(format!("no operation {op}"))?;
+    let mut rest = Words::new(&words[1..], registers);
+    let a: Vec<text::Arg> = kinds.chars().map(|k| rest.argument(k)).collect::<Read<_>>()?;
+    if !rest.is_empty() {
+        return Err("too many words".into());
+    }
+    Ok(call(op, &a, raw))
+}

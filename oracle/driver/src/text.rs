@@ -1,0 +1,323 @@
+//! The text forms of calls and answers, and the table of operations. DRIVER.md has the forms.
+use crate::records::{code_of, controls, curve_of, AutomationPoint, CurveType, Envelope};
+use std::collections::HashMap;
+use std::hint::black_box;
+
+#[derive(Clone, Debug)]
+pub enum Arg {
+    D(f64),
+    F(f32),
+    U(u64),
+    N(u64),
+    B(bool),
+    O(Option<f32>),
+    C(CurveType),
+    P(AutomationPoint),
+    E(Envelope),
+}
+
+pub type Read<T> = Result<T, String>;
+
+/// Envelopes that lines have named.
+pub type Registers = HashMap<String, Envelope>;
+
+/// An operation's name, the kinds of its arguments, and its group: e edit, c combination,
+/// l lookup or analysis, n number. Kinds: D f64, T f64 that may be anything, F f32, G f32 that may
+/// be anything, U u64 (16 digits), N decimal, B 0 or 1, O f32 or none, C curve, P point, E envelope.
+pub const OPERATIONS: &[(&str, &str, char)] = &[
+    ("value_at", "ET", 'l'),
+    ("value_at_sample", "EU", 'l'),
+    ("slope_at", "ET", 'l'),
+    ("range", "EDD", 'l'),
+    ("range_samples", "EUU", 'l'),
+    ("peaks", "ENN", 'l'),
+    ("valleys", "ENN", 'l'),
+    ("render", "EDNNNN", 'l'),
+    ("to_buffer", "EDDNN", 'l'),
+    ("walk", "EDDN", 'l'),
+    ("eq", "EE", 'l'),
+    ("eq_exact", "EE", 'l'),
+    ("point_eq", "PP", 'l'),
+    ("point_eq_exact", "PP", 'l'),
+    ("sheet", "EN", 'l'),
+    ("valid", "E", 'l'),
+    ("add_point", "EP", 'e'),
+    ("remove_point_at", "ED", 'e'),
+    ("shift", "ED", 'e'),
+    ("scale_time", "ED", 'e'),
+    ("trim", "EDD", 'e'),
+    ("reverse", "E", 'e'),
+    ("invert_values", "EFF", 'e'),
+    ("quantize_time", "ED", 'e'),
+    ("simplify", "EF", 'e'),
+    ("normalize", "EFF", 'e'),
+    ("scale", "EF", 'e'),
+    ("offset", "EF", 'e'),
+    ("clamp_values", "EFF", 'e'),
+    ("apply_fade_in", "EDC", 'e'),
+    ("apply_fade_out", "EDC", 'e'),
+    ("apply_fades", "EDDC", 'e'),
+    ("apply_gate", "EF", 'e'),
+    ("apply_compression", "EFF", 'e'),
+    ("merge", "EED", 'e'),
+    ("set_enabled", "EB", 'e'),
+    ("set_min", "EO", 'e'),
+    ("set_max", "EO", 'e'),
+    ("set_step", "EO", 'e'),
+    ("fade_in", "EDC", 'e'),
+    ("fade_out", "EDC", 'e'),
+    ("pulse", "EDDDC", 'e'),
+    ("ramp", "EDFFC", 'e'),
+    ("blend", "EEF", 'c'),
+    ("add", "EE", 'c'),
+    ("multiply", "EE", 'c'),
+    ("min", "EE", 'c'),
+    ("max", "EE", 'c'),
+    ("subtract", "EE", 'c'),
+    ("interpolate", "CGGG", 'n'),
+    ("roundf", "G", 'n'),
+    ("round", "T", 'n'),
+    ("sqrtf", "G", 'n'),
+    ("square", "G", 'n'),
+    ("narrow", "T", 'n'),
+    ("u64_to_f32", "U", 'n'),
+    ("f64_to_u64", "T", 'n'),
+    ("total_cmp", "TT", 'n'),
+    ("fmax", "GG", 'n'),
+    ("fmin", "GG", 'n'),
+];
+
+/// The kinds of an operation's arguments, and its group.
+pub fn signature(op: &str) -> Option<(&'static str, char)> {
+    OPERATIONS.iter().find(|o| o.0 == op).map(|o| (o.1, o.2))
+}
+
+/// The words of a line, read from the left.
+pub struct Words<'a> {
+    words: &'a [&'a str],
+    registers: &'a Registers,
+}
+
+impl<'a> Words<'a> {
+    pub fn new(words: &'a [&'a str], registers: &'a Registers) -> Self {
+        Words { words, registers }
+    }
+
+    pub fn is_empty(&self) -> bool {
+        self.words.is_empty()
+    }
+
+    pub fn word(&mut self) -> Read<&'a str> {
+        let (first, rest) = self.words.split_first().ok_or("too few words")?;
+        self.words = rest;
+        Ok(first)
+    }
+
+    fn none(&mut self) -> bool {
+        let none = self.words.first() == Some(&"-");
+        if none {
+            self.words = &self.words[1..];
+        }
+        none
+    }
+
+    fn hexadecimal(&mut self, digits: usize) -> Read<u64> {
+        let s = self.word()?;
+        let capital = |b: u8| b.is_ascii_digit() || (b'A'..=b'F').contains(&b);
+        if s.len() != digits || !s.bytes().all(capital) {
+            return Err(format!("not {digits} digits: {s}"));
+        }
+        u64::from_str_radix(s, 16).map_err(|e| e.to_string())
+    }
+
+    fn double(&mut self) -> Read<f64> {
+        Ok(f64::from_bits(self.hexadecimal(16)?))
+    }
+
+    fn single(&mut self) -> Read<f32> {
+        Ok(f32::from_bits(self.hexadecimal(8)? as u32))
+    }
+
+    fn optional(&mut self) -> Read<Option<f32>> {
+        if self.none() {
+            return Ok(None);
+        }
+        self.single().map(Some)
+    }
+
+    pub fn decimal(&mut self) -> Read<u64> {
+        let s = self.word()?;
+        s.parse().map_err(|_| format!("not decimal: {s}"))
+    }
+
+    fn curve(&mut self) -> Read<CurveType> {
+        let code = self.decimal()?;
+        if code == 5 {
+            return Ok(CurveType::Bezier(self.single()?, self.single()?));
+        }
+        if !(self.none() && self.none()) {
+            return Err("controls on a plain curve".into());
+        }
+        if code == 6 {
+            return Err("Elastic is left out".into());
+        }
+        curve_of(code, 0.0, 0.0).ok_or("curve code".into())
+    }
+
+    fn point(&mut self) -> Read<AutomationPoint> {
+        let time = self.double()?;
+        let sample_position = if self.none() {
+            None
+        } else {
+            Some(self.hexadecimal(16)?)
+        };
+        let value = self.single()?;
+        let curve = self.curve()?;
+        Ok(AutomationPoint {
+            time,
+            sample_position,
+            value,
+            curve,
+        })
+    }
+
+    pub fn envelope(&mut self) -> Read<Envelope> {
+        let s = self.word()?;
+        if let Some(n) = s.strip_prefix('@') {
+            return self.registers.get(n).cloned().ok_or(format!("no register {n}"));
+        }
+        if s != "{" {
+            return Err(format!("not an envelope: {s}"));
+        }
+        let mut e = Envelope::new(self.decimal()? as u32);
+        e.enabled = self.word()? == "1";
+        e.min_value = self.optional()?;
+        e.max_value = self.optional()?;
+        e.step_size = self.optional()?;
+        for _ in 0..self.decimal()? {
+            e.points.push(self.point()?);
+        }
+        if self.word()? != "}" {
+            return Err("no }".into());
+        }
+        Ok(e)
+    }
+
+    pub fn argument(&mut self, kind: char) -> Read<Arg> {
+        Ok(match kind {
+            'D' | 'T' => Arg::D(self.double()?),
+            'F' | 'G' => Arg::F(self.single()?),
+            'U' => Arg::U(self.hexadecimal(16)?),
+            'N' => Arg::N(self.decimal()?),
+            'B' => Arg::B(self.word()? == "1"),
+            'O' => Arg::O(self.optional()?),
+            'C' => Arg::C(self.curve()?),
+            'P' => Arg::P(self.point()?),
+            _ => Arg::E(self.envelope()?),
+        })
+    }
+}
+
+/// Bits in capitals. Any NaN is written as the same one, so that lists do not depend on the machine;
+/// the bits are hidden from the compiler first, which may otherwise leave a NaN's as they are.
+pub fn single(x: f32) -> String {
+    let b = black_box(x.to_bits());
+    format!(
+        "{:08X}",
+        if b % (1 << 31) > 0x7F80_0000 {
+            0x7FC0_0000
+        } else {
+            b
+        }
+    )
+}
+
+pub fn double(x: f64) -> String {
+    let b = black_box(x.to_bits());
+    word(if b % (1 << 63) > 0x7FF0_0000_0000_0000 {
+        0x7FF8_0000_0000_0000
+    } else {
+        b
+    })
+}
+
+pub fn word(x: u64) -> String {
+    format!("{x:016X}")
+}
+
+/// A value with `~` after a zero whose sign the Rust leaves open.
+pub fn marked(x: f32, open: bool) -> String {
+    single(x) + if open && x == 0.0 { "~" } else { "" }
+}
+
+fn optional(x: Option<f32>) -> String {
+    x.map_or("-".into(), single)
+}
+
+fn curve(c: &CurveType) -> String {
+    let k = controls(c);
+    format!(
+        "{:02} {} {}",
+        code_of(c),
+        optional(k.map(|x| x.0)),
+        optional(k.map(|x| x.1))
+    )
+}
+
+fn point(p: &AutomationPoint, open: bool) -> String {
+    let position = p.sample_position.map_or("-".into(), word);
+    format!(
+        "{} {} {} {}",
+        double(p.time),
+        position,
+        marked(p.value, open),
+        curve(&p.curve)
+    )
+}
+
+fn settings(e: &Envelope) -> String {
+    let limits = [e.min_value, e.max_value, e.step_size].map(optional).join(" ");
+    format!("{} {} {}", e.target, e.enabled as u8, limits)
+}
+
+/// An envelope, with the values marked that `open` says.
+pub fn envelope(e: &Envelope, open: &[bool]) -> String {
+    let mut s = format!("{{ {} {}", settings(e), e.points.len());
+    for (i, p) in e.points.iter().enumerate() {
+        s += " ";
+        s += &point(p, open.get(i).copied().unwrap_or(false));
+    }
+    s + " }"
+}
+
+/// The envelope's sheet, as document 01 has it.
+pub fn sheet(e: &Envelope) -> String {
+    let mut s = format!(
+        "target enabled min max step\n{}\ntime position value curve cp1 cp2\n",
+        settings(e)
+    );
+    for p in &e.points {
+        s += &point(p, false);
+        s += "\n";
+    }
+    s
+}
+
+fn argument(a: &Arg) -> String {
+    match a {
+        Arg::D(x) => double(*x),
+        Arg::F(x) => single(*x),
+        Arg::U(x) => word(*x),
+        Arg::N(x) => x.to_string(),
+        Arg::B(b) => (*b as u8).to_string(),
+        Arg::O(x) => optional(*x),
+        Arg::C(c) => curve(c),
+        Arg::P(p) => point(p, false),
+        Arg::E(e) => envelope(e, &[]),
+    }
+}
+
+/// Arguments, each with a space before it.
+pub fn arguments(a: &[Arg]) -> String {
+    a.iter().fold(String::new(), |s, x| s + " " + &argument(x))
+}
