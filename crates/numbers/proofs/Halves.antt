@@ -1,20 +1,21 @@
 -- The nearest whole number, over the format: what the code does with an x above zero, and with its sign. Assumes nothing.
 use mathlib.Core.Path.{_≡_, refl, sym, ap, _∙_, subst}
-use mathlib.Core.Bool.{Bool, true, false, not, _&&_, cond, true≢false}
-use Prim.Native.Nat.{ℕ, zero, suc, _+_, _-_, _*_, _/_, _%_, _^_, _≤_, _<_, min, zero-le, suc-le-suc}
-use native.Mathlib.Nat.{le-trans, le-of-lt, zero-mul, le-of-eq, lt-of-lt-of-le, lt-of-le-of-lt, lt-of-not-le, lt-irrefl, le-of-suc-le-suc, zero-lt-suc, one-mul, mul-one, mul-comm, mul-assoc, mul-left-comm, mul-right-comm, mul-pos, mul-le-mul-left, mul-le-mul-right, mul-lt-mul-of-pos-right, lt-of-mul-lt-mul-right, pow-succ', add-div-right, div-div-eq-div-mul, div-lt-iff-lt-mul}
+use mathlib.Core.Bool.{Bool, true, false, not, cond, true≢false}
+use Prim.Native.Nat.{ℕ, zero, suc, _+_, _-_, _*_, _/_, _^_, _≤_, _<_, min, zero-le, suc-le-suc}
+use native.Mathlib.Nat.{le-trans, le-of-lt, zero-mul, le-of-eq, lt-of-lt-of-le, lt-of-le-of-lt, zero-lt-suc, one-mul, mul-one, mul-comm, mul-assoc, mul-left-comm, mul-right-comm, mul-pos, mul-le-mul-left, mul-le-mul-right, mul-lt-mul-of-pos-right, lt-of-mul-lt-mul-right, pow-succ', add-div-right, div-div-eq-div-mul, div-lt-iff-lt-mul}
 use native.Mathlib.Omega.{arith}
 use lib.IntN.{ℤ, pos, negsuc}
-use lib.Dec.{T, T-not, leb, ltb, eqb, leb→le, ltb→lt, lt→ltb, nltb→le, eqb→eq, lit≤}
-use lib.Pow.{pow-add, pow-pos, pow-mono, pow-lt}
+use lib.Dec.{T, T-not, ltb, ltb→lt, lt→ltb, nltb→le, eqb→eq, lit≤}
+use lib.Pow.{pow-add, pow-pos, pow-mono}
 use lib.Ieee.{Float, nan, inf, fin, Format, binary32, binary64, prec, emax, low, up, down, odd, units, round, neg, add, sum, lt, ofInt, toUnsigned, fits}
-use lib.Ieee.Fits.{and-l, and-r, up-pos, down-pos, round-is, round-fits, reach, two}
+use lib.Ieee.Fits.{up-pos, down-pos, round-is, round-fits, reach, two}
 use lib.Ieee.Exact.{HasValue, round-exact}
 use lib.Ieee.Back.{round-whole, whole-unique}
 use lib.Ieee.Nearest.{div-same}
 use lib.Ieee.Scale.{round-same}
 use Rattle.numbers.specs.Units.{says, place, flat}
 use Rattle.numbers.specs.Whole.{roundAway}
+use Rattle.numbers.proofs.Rounded.{twice}
 
 -- ---- a finite value, in units of the format's smallest
 
@@ -130,14 +131,18 @@ up-at f m e F small =
     fits-64 binary64 = lit≤ tt
 
     twice-lt : (f : Format) (n d : ℕ) → n < 2 ^ (prec f - 1) * d → 2 * n < 2 ^ prec f * d
-    twice-lt f n d h = go n (2 ^ (prec f - 1) * d) (2 ^ prec f * d) (ap (λ (x : ℕ). x * d) (hid-twice f) ∙ mul-assoc 2 (2 ^ (prec f - 1)) d) h
+    twice-lt f n d h = go n (2 ^ (prec f - 1) * d) (2 ^ prec f * d) (ap (λ (x : ℕ). x * d) (twice f) ∙ mul-assoc 2 (2 ^ (prec f - 1)) d) h
       where
-        hid-twice : (f : Format) → 2 ^ prec f ≡ 2 * 2 ^ (prec f - 1)
-        hid-twice binary32 = refl
-        hid-twice binary64 = refl
-
         go : (a b c : ℕ) → c ≡ 2 * b → a < b → 2 * a < c
         go a b c e h = omega arith
+
+-- a zero is not above zero
+pub zero-over : (e : ℤ) → T (lt (fin false 0 (pos 0)) (fin false 0 e)) → ⊥
+unfolding lt
+zero-over e h = none (up e) (down e) (ltb→lt (0 * 1 * down e) (0 * up e * 1) h)
+  where
+    none : (u d : ℕ) → 0 * 1 * d < 0 * u * 1 → ⊥
+    none u d h = omega arith
 
 pub up-of : (f : Format) (x : Float) → T (fits f x) → T (lt (fin false 0 (pos 0)) x) → T (lt x (fin false 1 (pos (prec f - 1)))) → Up f x
 unfolding lt
@@ -145,10 +150,7 @@ up-of f nan F p q = absurd p
 up-of f (inf true) F p q = absurd p
 up-of f (inf false) F p q = absurd q
 up-of f (fin true m e) F p q = absurd p
-up-of f (fin false zero e) F p q = absurd (none (up e) (down e) (ltb→lt (0 * 1 * down e) (0 * up e * 1) p))
-  where
-    none : (u d : ℕ) → 0 * 1 * d < 0 * u * 1 → ⊥
-    none u d h = omega arith
+up-of f (fin false zero e) F p q = absurd (zero-over e p)
 up-of f (fin false (suc m) e) F p q = up-at f m e F (tidy (suc m * up e) (2 ^ (prec f - 1)) (down e) (ltb→lt (suc m * up e * 1) (1 * 2 ^ (prec f - 1) * down e) q))
   where
     tidy : (n b d : ℕ) → n * 1 < 1 * b * d → n < b * d
@@ -200,20 +202,13 @@ stays f nan F p q = absurd p
 stays f (inf true) F p q = absurd p
 stays f (inf false) F p q = unfold roundAway in refl
 stays f (fin true m e) F p q = absurd p
-stays f (fin false zero e) F p q = absurd (none (up e) (down e) (ltb→lt (0 * 1 * down e) (0 * up e * 1) p))
-  where
-    none : (u d : ℕ) → 0 * 1 * d < 0 * u * 1 → ⊥
-    none u d h = omega arith
+stays f (fin false zero e) F p q = absurd (zero-over e p)
 stays f (fin false (suc m) (pos a)) F p q = whole-stays f m a F
 stays f (fin false (suc m) (negsuc a)) F p q =
     let h = 2 ^ (prec f - 1) in
     let lo : h * 2 ≤ h * 2 ^ suc a = mul-le-mul-left h (pow-mono {i = 1} {j = suc a} (suc-le-suc zero-le)) in
-    absurd (clash (suc m) h (h * 2 ^ suc a) (2 ^ prec f) (hid-twice f) (says f false (suc m) (negsuc a) F .0) lo (tidy (suc m) h (2 ^ suc a) (nltb→le (suc m * 1 * 1) (1 * h * 2 ^ suc a) q)))
+    absurd (clash (suc m) h (h * 2 ^ suc a) (2 ^ prec f) (twice f ∙ mul-comm 2 h) (says f false (suc m) (negsuc a) F .0) lo (tidy (suc m) h (2 ^ suc a) (nltb→le (suc m * 1 * 1) (1 * h * 2 ^ suc a) q)))
   where
-    hid-twice : (f : Format) → 2 ^ prec f ≡ 2 ^ (prec f - 1) * 2
-    hid-twice binary32 = refl
-    hid-twice binary64 = refl
-
     tidy : (m h u : ℕ) → 1 * h * u ≤ m * 1 * 1 → h * u ≤ m
     tidy m h u k = subst (λ (x : ℕ). x * u ≤ m) (one-mul h) (subst (λ (x : ℕ). 1 * h * u ≤ x) (mul-one (m * 1) ∙ mul-one m) k)
 

@@ -10,12 +10,14 @@ use lib.Pow.{pow-add, pow-pos, pow-mono, pow-lt, shl-lt}
 use lib.Count.{leadingZeros, leading-top}
 use lib.Ieee.{Float, nan, inf, fin, Format, binary32, prec, emax, low, up, down, size, nearest, odd, units, ofFields, ofBits, toBits, isNan, fits, lt, eq}
 use lib.Ieee.Fits.{odd-fits, and-l, and-i, nearest-le, inf-fits, eq→eqb, up-pos}
+use lib.Ieee.Bits.{is-true}
 use lib.Ieee.Exact.{odd-sign}
 use lib.Ieee.Digits.{size-lt}
 use borrow.Author.Tests.{leb-false, ne-eqb}
 use Rattle.numbers.specs.Order.{negative}
 use Rattle.numbers.specs.Root.{root, rootUnits, sqrt}
-use Rattle.numbers.specs.Tests.{yes}
+use Rattle.numbers.specs.Tests.{yes, compared}
+use Rattle.numbers.proofs.Halves.{zero-over}
 use Rattle.numbers.proofs.Signs.{negative-bits}
 use Rattle.numbers.proofs.Rounded.{pow-lt-back, toBits-inf, units-no-nan}
 use Rattle.numbers.proofs.Squares.{root-cut, root-lt}
@@ -26,10 +28,7 @@ nought = fin false 0 (pos 0)
 
 -- ---- above zero: no NaN, and no sign
 pub over-number : (x : Float) → T (lt nought x) → T (not (isNan x))
-unfolding lt isNan
-over-number nan h = absurd h
-over-number (inf s) h = tt
-over-number (fin s m e) h = tt
+over-number x h = compared nought x (is-true (lt nought x) h) .1
 
 over-sign : (x : Float) → T (lt nought x) → negative x ≡ false
 unfolding lt
@@ -214,10 +213,7 @@ sqrt-over f nan h = absurd h
 sqrt-over f (inf true) h = absurd h
 sqrt-over f (inf false) h = (inf-fits f false, tt)
 sqrt-over f (fin true m e) h = absurd h
-sqrt-over f (fin false zero e) h = absurd (none (up e) (down e) (ltb→lt (0 * 1 * down e) (0 * up e * 1) h))
-  where
-    none : (u d : ℕ) → 0 * 1 * d < 0 * u * 1 → ⊥
-    none u d h = omega arith
+sqrt-over f (fin false zero e) h = absurd (zero-over e h)
 sqrt-over f (fin false (suc m) e) h = let v = suc m * up e * (2 ^ low f * 2 ^ low f) / down e in (rootUnits-fits f v, rootUnits-number f v)
 
 -- ---- a zero, and what has no root

@@ -4,7 +4,7 @@ use mathlib.Core.Path.{_≡_, refl, sym, ap, _∙_, subst}
 use mathlib.Core.Logic.{_⊎_, inl, inr}
 use mathlib.Core.Bool.{Bool, true, false, not, cond}
 use Prim.Native.Nat.{ℕ, zero, suc, _+_, _-_, _*_, _/_, _^_, _≤_, _<_}
-use native.Mathlib.Nat.{le-trans, le-of-eq, le-antisymm, lt-of-lt-of-le, lt-of-le-of-lt, lt-of-not-le, lt-irrefl, eq-zero-or-pos, eq-or-lt-of-le, add-comm, add-assoc, mul-comm, mul-assoc, mul-le-mul-left, mul-le-mul-right, mul-pos, suc-mul, le-of-mul-le-mul-right, le-of-suc-le-suc, pow-succ', div-one, div-lt-iff-lt-mul, le-div-iff-mul-le, mul-div-cancel}
+use native.Mathlib.Nat.{le-trans, le-of-eq, le-antisymm, lt-of-lt-of-le, lt-of-le-of-lt, lt-of-not-le, lt-irrefl, eq-zero-or-pos, eq-or-lt-of-le, add-comm, add-assoc, mul-comm, mul-assoc, mul-le-mul-left, mul-le-mul-right, mul-pos, suc-mul, le-of-mul-le-mul-right, pow-succ', div-one, div-lt-iff-lt-mul, le-div-iff-mul-le, mul-div-cancel}
 use native.Mathlib.Omega.{arith}
 use lib.Dec.{T, ltb}
 use borrow.Author.Tests.{ltb-true, ltb-false, le-ltb}
@@ -15,6 +15,7 @@ use lib.Ieee.Fits.{round-is, down-pos, two, reach, two-le-pos}
 use lib.Ieee.Exact.{HasValue, units-val}
 use lib.Ieee.Nearest.{closest, closest-same}
 use lib.Ieee.Bits.{toBits-lt, ofBits-toBits, nanBits-is}
+use Rattle.numbers.specs.Units.{pow-le-back}
 use Rattle.numbers.proofs.Closest.{closest-le, closest-ge}
 
 pub pow-lt-back : (i p : ℕ) → 2 ^ i < 2 ^ p → i < p
@@ -133,9 +134,6 @@ over f q k h l g =
     let g' : 2 ^ p * 2 ^ k ≤ q * 2 ^ k = subst (λ (x : ℕ). x ≤ q * 2 ^ k) (ap (λ (x : ℕ). 2 ^ x) sum ∙ pow-add 2 p k) g in
     (le-antisymm h (le-of-mul-le-mul-right g' (pow-pos k)), e)
   where
-    pow-le-back : (a b : ℕ) → 2 ^ a ≤ 2 ^ b → a ≤ b
-    pow-le-back a b h = le-of-suc-le-suc (lt-of-not-le (λ (g : suc b ≤ a). lt-irrefl (2 ^ b) (lt-of-lt-of-le (pow-lt g) h)))
-
     top-k : (p e k : ℕ) → 2 ≤ p → suc k < 2 * e + 1 → e + p - 2 + suc e ≤ p + k → suc (suc k) ≡ 2 * e + 1
     top-k p e k a b c = omega arith
 

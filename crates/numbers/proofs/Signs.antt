@@ -1,11 +1,10 @@
 -- The highest bit of a float's pattern is its sign. Assumes nothing.
-use mathlib.Core.Path.{_≡_, refl, sym, ap, _∙_, subst}
+use mathlib.Core.Path.{_≡_, refl}
 use mathlib.Core.Bool.{Bool, true, false, not, cond}
 use Prim.Native.Nat.{ℕ, zero, suc, _+_, _*_, _/_, _%_, _^_, _≤_, _<_}
 use native.Mathlib.Omega.{arith}
 use lib.Dec.{T, leb, eqb, leb→le, nleb→lt}
-use lib.Ieee.{Float, nan, inf, Format, binary64, prec, low, odd, hid, ones, top, ofFields, ofBits, toBits, fits, isNan}
-use lib.Ieee.Bits.{ofBits-toBits, toBits-lt}
+use lib.Ieee.{Float, nan, inf, Format, prec, low, odd, hid, ones, top, ofFields, ofBits, isNan}
 use Rattle.numbers.specs.Order.{negative}
 
 negative-odd : (d : ℕ) (s : Bool) (q k l : ℕ) → negative (odd d s q k l) ≡ s
@@ -27,11 +26,6 @@ pub negative-bits : (f : Format) (b : ℕ) → T (not (isNan (ofBits f b))) → 
 unfolding ofBits
 negative-bits f b n = negative-fields f (leb (top f) b) (b % top f / hid f) (b % hid f) n
 
-pub sign-of : (f : Format) (x : Float) → T (fits f x) → T (not (isNan x)) → negative x ≡ leb (top f) (toBits f x)
-sign-of f x F n =
-    let e = ofBits-toBits f x F in
-    ap negative (sym e) ∙ negative-bits f (toBits f x) (subst (λ (v : Float). T (not (isNan v))) (sym e) n)
-
 -- the bit, of a pattern of 64
 pub bit : (b : ℕ) → b < 2 * 2 ^ 63 → b / 2 ^ 63 ≡ cond (leb (2 ^ 63) b) 1 0
 bit b h = go (leb (2 ^ 63) b) (leb→le (2 ^ 63) b) (nleb→lt (2 ^ 63) b)
@@ -45,6 +39,3 @@ bit b h = go (leb (2 ^ 63) b) (leb→le (2 ^ 63) b) (nleb→lt (2 ^ 63) b)
     go : (a : Bool) → (T a → 2 ^ 63 ≤ b) → (T (not a) → b < 2 ^ 63) → b / 2 ^ 63 ≡ cond a 1 0
     go true p q = above b h (p tt)
     go false p q = under b (q tt)
-
-pub sign-bit : (x : Float) → T (fits binary64 x) → T (not (isNan x)) → toBits binary64 x / 2 ^ 63 ≡ cond (negative x) 1 0
-sign-bit x F n = bit (toBits binary64 x) (toBits-lt binary64 x F) ∙ ap (λ (s : Bool). cond s 1 0) (sym (sign-of binary64 x F n))

@@ -2,7 +2,7 @@
 use mathlib.Core.Path.{_≡_, refl, sym, ap, _∙_, subst}
 use mathlib.Core.Bool.{Bool, true, false, not, cond}
 use Prim.Native.Nat.{ℕ, zero, suc, _+_, _*_, _/_, _^_, _≤_, _<_, zero-le}
-use native.Mathlib.Nat.{le-trans, le-of-eq, le-antisymm, le-of-suc-le-suc, lt-of-le-of-lt, lt-of-lt-of-le, lt-of-not-le, not-le-of-lt, mul-le-mul, mul-one, one-mul, mul-assoc, mul-comm, mul-left-comm, mul-add, add-mul, pow-succ', div-lt-iff-lt-mul}
+use native.Mathlib.Nat.{le-trans, le-of-eq, le-antisymm, lt-of-le-of-lt, lt-of-lt-of-le, lt-of-not-le, not-le-of-lt, mul-le-mul, mul-one, one-mul, mul-assoc, mul-comm, mul-left-comm, mul-add, add-mul, pow-succ', div-lt-iff-lt-mul}
 use native.Mathlib.Numerals.{add-one}
 use native.Mathlib.Omega.{arith}
 use lib.Dec.{T, leb, leb→le, nleb→lt}
@@ -20,12 +20,6 @@ below r b n c h k e = root-lt r b (lt-of-le-of-lt h (subst (λ (x : ℕ). n < x)
 -- r is the root of n, cut
 abbrev pub Cut : ℕ → ℕ → Type 0
 Cut n r = (r * r ≤ n) × (n < (r + 1) * (r + 1))
-
-same-le : (n r s : ℕ) → Cut n r → Cut n s → r ≤ s
-same-le n r s a b = le-of-suc-le-suc (subst (λ (x : ℕ). r < x) (add-one s) (root-lt r (s + 1) (lt-of-le-of-lt (a .0) (b .1))))
-
-pub cut-unique : (n r s : ℕ) → Cut n r → Cut n s → r ≡ s
-cut-unique n r s a b = le-antisymm (same-le n r s a b) (same-le n s r b a)
 
 -- (x + 1) * (x + 1), written out
 pub square-next : (x : ℕ) → (x + 1) * (x + 1) ≡ x * x + 2 * x + 1

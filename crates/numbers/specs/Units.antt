@@ -2,12 +2,12 @@
 use mathlib.Core.Path.{_≡_, refl, sym, ap, _∙_, subst}
 use mathlib.Core.Bool.{Bool, _&&_}
 use Prim.Native.Nat.{ℕ, zero, suc, _+_, _-_, _*_, _/_, _%_, _^_, _≤_, _<_}
-use native.Mathlib.Nat.{le-of-eq, lt-of-lt-of-le, lt-of-le-of-lt, lt-of-not-le, lt-irrefl, le-of-suc-le-suc, one-mul, mul-one, mul-assoc, mul-comm, mul-right-comm, mul-pos, mul-lt-mul-of-pos-right, lt-of-mul-lt-mul-right, mul-div-cancel, zero-mul, pow-succ', add-comm}
+use native.Mathlib.Nat.{le-of-eq, lt-of-lt-of-le, lt-of-le-of-lt, lt-of-not-le, lt-irrefl, le-of-suc-le-suc, one-mul, mul-one, mul-assoc, mul-right-comm, mul-pos, mul-lt-mul-of-pos-right, lt-of-mul-lt-mul-right, mul-div-cancel, pow-succ', add-comm}
 use native.Mathlib.Omega.{arith}
 use lib.IntN.{ℤ, pos, negsuc}
 use lib.Dec.{T, leb, ltb, eqb, leb→le, ltb→lt, eqb→eq}
 use lib.Pow.{pow-add, pow-pos, pow-lt}
-use lib.Ieee.{Float, fin, Format, prec, emax, low, up, down, fits}
+use lib.Ieee.{fin, Format, prec, emax, low, up, down, fits}
 use lib.Ieee.Fits.{and-l, and-r, down-pos}
 use lib.Ieee.Scale.{overflow}
 
@@ -44,14 +44,14 @@ says f s (suc m) e t =
 
 -- ---- the size in units
 
+pub pow-le-back : (a b : ℕ) → 2 ^ a ≤ 2 ^ b → a ≤ b
+pow-le-back a b h = le-of-suc-le-suc (lt-of-not-le (λ (g : suc b ≤ a). lt-irrefl (2 ^ b) (lt-of-lt-of-le (pow-lt g) h)))
+
 -- 2 ^ e is 2 ^ j / 2 ^ l
 pub place : (l : ℕ) (e : ℤ) → down e ≤ 2 ^ l → (j : ℕ) × (up e * 2 ^ l ≡ 2 ^ j * down e)
 place l (pos a) h = (a + l, sym (pow-add 2 a l) ∙ sym (mul-one (2 ^ (a + l))))
 place l (negsuc a) h = (l - suc a, one-mul (2 ^ l) ∙ ap (λ (x : ℕ). 2 ^ x) (sym (back l (suc a) (pow-le-back (suc a) l h))) ∙ pow-add 2 (l - suc a) (suc a))
   where
-    pow-le-back : (a l : ℕ) → 2 ^ a ≤ 2 ^ l → a ≤ l
-    pow-le-back a l h = le-of-suc-le-suc (lt-of-not-le (λ (g : suc l ≤ a). lt-irrefl (2 ^ l) (lt-of-lt-of-le (pow-lt g) h)))
-
     back : (l b : ℕ) → b ≤ l → l - b + b ≡ l
     back l b h = omega arith
 

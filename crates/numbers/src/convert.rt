@@ -9,7 +9,7 @@ ghost use lib.Ieee.{binary32, binary64};
 ghost use lib.Ieee.Nearest.{closest};
 ghost use Rattle.numbers.specs.Narrow.{narrow};
 
-// x toward zero, stopped at the ends of the range; a NaN gives 0. Rust's `x as u64`.
+// x cut towards zero: a NaN and negatives give 0, too large gives 2^64 - 1. Rust's `x as u64`.
 pub fn f64_to_u64(x: f64) -> u64
     ensures { λ r. ⌜ r ≡ Ieee.toUnsigned 64 x ⌝ }
 {

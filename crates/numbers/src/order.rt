@@ -44,20 +44,14 @@ pub fn total_cmp(x: f64, y: f64) -> Ordering
 pub fn max(a: f32, b: f32) -> f32
     ensures { λ r. ⌜ r ≡ maxNum a b ⌝ }
 {
-    if a != a {
-        return b;
-    }
-    if a < b { b } else { a }
+    if (a != a) | (a < b) { b } else { a }
 }
 
 // The smaller of the two, by the same rules.
 pub fn min(a: f32, b: f32) -> f32
     ensures { λ r. ⌜ r ≡ minNum a b ⌝ }
 {
-    if a != a {
-        return b;
-    }
-    if b < a { b } else { a }
+    if (a != a) | (b < a) { b } else { a }
 }
 
 // Neither a NaN nor an infinity.

@@ -33,6 +33,7 @@ pub fn round(x: f64) -> f64
     x
 }
 
+// The same at `f32`: from 2^23 on x is whole.
 fn half_upf(x: f32) -> f32
     requires { ⌜ T (Ieee.lt (fin false 0 (pos 0)) x) ⌝ }
     ensures { λ r. ⌜ r ≡ roundAway binary32 x ⌝ }
@@ -44,6 +45,7 @@ fn half_upf(x: f32) -> f32
     }
 }
 
+// The same at `f32`. Rust's `x.round()`.
 pub fn roundf(x: f32) -> f32
     ensures { λ r. ⌜ r ≡ roundAway binary32 x ⌝ }
 {

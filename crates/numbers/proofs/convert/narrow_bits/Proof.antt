@@ -2,11 +2,11 @@
 -- Assumes nothing.
 use mathlib.Core.Path.{_≡_, refl, sym, ap, _∙_, subst}
 use mathlib.Core.Bool.{Bool, true, false, not, cond}
-use Prim.Native.Nat.{ℕ, _+_, _-_, _*_, _/_, _%_, _^_, _≤_, _<_}
+use Prim.Native.Nat.{ℕ, _+_, _-_, _*_, _/_, _^_, _≤_, _<_}
 use native.Mathlib.Nat.{le-trans, le-of-eq, le-add-right, lt-of-lt-of-le, mod-lt, zero-lt-suc}
 use native.Mathlib.Omega.{arith}
-use lib.Dec.{T, leb}
-use lib.Pow.{pow-add, pow-pos, pow-mono, field}
+use lib.Dec.{T}
+use lib.Pow.{pow-add, pow-pos, pow-mono}
 use lib.Ieee.{Float, binary32, binary64, ofFields, ofBits, toBits, isNan}
 use lib.Ieee.Nearest.{closest}
 use borrow.Author.Needs.{needs}

@@ -3,7 +3,7 @@
 use mathlib.Core.Path.{_≡_, sym, ap, _∙_, subst}
 use mathlib.Core.Bool.{false, not}
 use Prim.Native.Nat.{ℕ, suc, _+_, _-_, _*_, _%_, _^_, _≤_, _<_, zero-le}
-use native.Mathlib.Nat.{le-trans, le-of-eq, le-of-lt, lt-of-le-of-lt, lt-of-lt-of-le, zero-add, add-comm, mod-eq-of-lt, mul-assoc, mul-one, mul-le-mul-left, mul-le-mul-right, zero-lt-suc, pow-succ'}
+use native.Mathlib.Nat.{le-trans, le-of-eq, le-of-lt, lt-of-le-of-lt, lt-of-lt-of-le, zero-add, add-comm, mod-eq-of-lt, mul-one, mul-le-mul-left, mul-le-mul-right, zero-lt-suc, pow-succ'}
 use native.Mathlib.Omega.{arith}
 use lib.IntN.{pos}
 use lib.Dec.{T, le→leb, lit≤}

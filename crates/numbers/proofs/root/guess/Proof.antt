@@ -9,9 +9,9 @@ use Rattle.numbers.specs.Tests.{compared}
 use Rattle.numbers.proofs.root.guess.Statement.{statement}
 use Rattle.numbers.proofs.root.guess.Tie as tie
 
-int-to-float-u : tie.Need-int-to-float-u
+int-to-float-y : tie.Need-int-to-float-y
 unfolding inFloat
-int-to-float-u c = le→leb (c .before .args .m) (2 ^ 53) (omega arith)
+int-to-float-y c = le→leb (c .before .args .m) (2 ^ 53) (omega arith)
 
 float-to-bits-result : tie.Need-float-to-bits-result
 float-to-bits-result c = compared _ _ (c .if1 .taken) .1
@@ -23,4 +23,4 @@ returns-2 : tie.Need-returns-2
 returns-2 c = search needs
 
 pub guess-spec : {M : Type 1} → statement M
-guess-spec = tie.close (tie.spec int-to-float-u float-to-bits-result returns returns-2)
+guess-spec = tie.close (tie.spec int-to-float-y float-to-bits-result returns returns-2)

@@ -1,6 +1,6 @@
 -- `numbers::root::nearest_root` meets its contract. The first loop takes the guess up until n is at most the square of r and a half, and the second down until it is above the square of r less a half.
 -- Assumes nothing.
-use mathlib.Core.Path.{_≡_, refl, ap, _∙_, subst}
+use mathlib.Core.Path.{_≡_, refl, ap, _∙_}
 use Prim.Native.Nat.{ℕ, zero, suc, _+_, _-_, _*_, _^_, _≤_, _<_}
 use native.Mathlib.Nat.{mul-le-mul, zero-mul}
 use native.Mathlib.Omega.{arith}

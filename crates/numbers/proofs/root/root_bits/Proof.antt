@@ -22,9 +22,6 @@ k a = (a - 23) / 2
 parts : (a : ℕ) → 126 ≤ a → a ≡ 23 + p a + (k a + k a)
 parts a h = omega arith
 
-p-lt : (a : ℕ) → p a ≤ 1
-p-lt a = omega arith
-
 k-lt : (a : ℕ) → a < 403 → suc (k a) < 255
 k-lt a h = omega arith
 
@@ -85,13 +82,13 @@ returns c =
     let d = c .before .args .d in
     let a = c .before .args .a in
     let r = c .before .pre in
-    pattern binary32 d a (k a) (23 + p a) (r .1) (full d (r .0)) (parts a (r .2)) (le-of-eq24 a) (one a) (c .nearest-root .result) (near c) (k-lt a (r .3))
+    pattern binary32 d a (k a) (23 + p a) (r .1) (full d (r .0)) (parts a (r .2)) (long a) (one a) (c .nearest-root .result) (near c) (k-lt a (r .3))
   where
     full : (d : ℕ) → 8388608 ≤ d → 16777216 ≤ 2 * d
     full d h = omega arith
 
-    le-of-eq24 : (a : ℕ) → 24 ≤ suc (23 + (a - 23) % 2)
-    le-of-eq24 a = omega arith
+    long : (a : ℕ) → 24 ≤ suc (23 + (a - 23) % 2)
+    long a = omega arith
 
     one : (a : ℕ) → 23 + (a - 23) % 2 ≤ 24
     one a = omega arith
