@@ -1,0 +1,49 @@
+use mathlib.Core.Path.{_≡_, sym, ap, _∙_}
+use Rattle.points.specs.Refusal.{gives}
+use Rattle.points.specs.Laws.{and-both}
+use Rattle.envelope.specs.Envelope.{envelopesEqual}
+use borrow.Author.Needs.{needs}
+use Rattle.envelope.proofs.AutomationEnvelope.equal.Statement.{statement}
+use Rattle.envelope.proofs.AutomationEnvelope.equal.Tie as tie
+use Rattle.envelope.proofs.AutomationEnvelope.equal.Reads as reads
+use Rattle.envelope.proofs.AutomationEnvelope.equal.Lts as lts
+use Rattle.envelope.proofs.AutomationEnvelope.is_valid.Reads as is-valid-reads
+use Rattle.envelope.proofs.AutomationEnvelope.same_settings.Reads as same-settings-reads
+use Rattle.points.proofs.Points.same.Reads as same-reads
+
+-- src/lib.rt:104:12
+is-valid-requires : tie.Need-is-valid-requires
+is-valid-requires c κs = search needs
+
+-- src/lib.rt:104:30
+is-valid-requires-2 : tie.Need-is-valid-requires-2
+is-valid-requires-2 c κs = search needs
+
+-- src/lib.rt:107:26
+same-settings-requires : tie.Need-same-settings-requires
+same-settings-requires c κs = search needs
+
+-- src/lib.rt:107:54
+same-requires : tie.Need-same-requires
+same-requires c κs = search needs
+
+-- src/lib.rt:101:5
+returns : tie.Need-returns
+unfolding envelopesEqual
+returns c = rw (sym (and-both (c .before .before .before .before .before .before .is-valid .ensures) (c .before .before .before .before .before .is-valid2 .ensures)) ∙ c .before .before .before .before .if1 .taken) (ap gives (and-both (c .before .same-settings .ensures) (c .same .ensures)))
+
+-- src/lib.rt:101:5
+returns-2 : tie.Need-returns-2
+unfolding envelopesEqual
+returns-2 c = rw (sym (and-both (c .before .before .is-valid .ensures) (c .before .is-valid2 .ensures)) ∙ c .if1 .left)
+
+pub equal-spec : {M : Type 1} → statement M
+equal-spec =
+    tie.close
+    (tie.spec
+    is-valid-requires
+    is-valid-requires-2
+    same-settings-requires
+    same-requires
+    returns
+    returns-2)

@@ -1,0 +1,19 @@
+use Rattle.envelope.specs.Envelope.{new}
+use borrow.Author.Needs.{needs}
+use Rattle.envelope.proofs.AutomationEnvelope.new.Statement.{statement}
+use Rattle.envelope.proofs.AutomationEnvelope.new.Tie as tie
+use Rattle.envelope.proofs.AutomationEnvelope.new.Reads as reads
+use Rattle.envelope.proofs.AutomationEnvelope.new.Lts as lts
+use Rattle.points.proofs.list.none.Reads as none-reads
+
+-- src/lib.rt:54:13
+none-requires : tie.Need-none-requires
+none-requires c κs = search needs
+
+-- src/lib.rt:51:5
+returns : tie.Need-returns
+unfolding new
+returns c = cc
+
+pub new-spec : {M : Type 1} → statement M
+new-spec = tie.close (tie.spec none-requires returns)

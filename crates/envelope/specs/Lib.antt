@@ -1,0 +1,3 @@
+-- The envelope: its record, its equalities, its edits, and the proved examples.
+pub mod Envelope
+pub mod Typed

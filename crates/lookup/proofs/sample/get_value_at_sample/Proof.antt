@@ -1,0 +1,47 @@
+-- `lookup::sample::get_value_at_sample` meets its contract. Assumes nothing.
+use mathlib.Core.Path.{sym, _∙_}
+use Rattle.points.specs.Laws.{and-right}
+use Rattle.points.specs.Points.{validPoints, listOf}
+use Rattle.lookup.specs.Limits.{finiteLimits}
+use Rattle.lookup.specs.Lookup.{getValueAtSample, rawAtSample}
+use Rattle.lookup.specs.LookupLaws.{heard-off, keys-rise-is, keys-rise-off}
+use borrow.Author.Needs.{needs}
+use Rattle.lookup.proofs.sample.get_value_at_sample.Statement.{statement}
+use Rattle.lookup.proofs.sample.get_value_at_sample.Tie as tie
+
+is-valid-requires : tie.Need-is-valid-requires
+is-valid-requires c κs = search needs
+
+keys-rise-requires : tie.Need-keys-rise-requires
+keys-rise-requires c κs = search needs
+
+value-at-sample-requires : tie.Need-value-at-sample-requires
+value-at-sample-requires c κs = (and-right (finiteLimits (c .before .before .before .before .before .args .limits)) (validPoints (c .before .before .before .before .before .args .points)) (sym (c .before .before .before .before .is-valid .ensures) ∙ c .before .before .before .if1 .taken), keys-rise-is (c .before .before .before .before .before .args .points) (c .before .before .before .before .before .args .enabled) (c .before .before .if2 .taken) ∙ sym (c .before .keys-rise .ensures) ∙ c .if3 .taken)
+
+returns : tie.Need-returns
+unfolding getValueAtSample
+returns c = rw (sym (c .before .before .before .before .before .is-valid .ensures) ∙ c .before .before .before .before .if1 .taken, keys-rise-is (c .before .before .before .before .before .before .args .points) (c .before .before .before .before .before .before .args .enabled) (c .before .before .before .if2 .taken) ∙ sym (c .before .before .keys-rise .ensures) ∙ c .before .if3 .taken) (c .value-at-sample .ensures)
+
+returns-2 : tie.Need-returns-2
+unfolding getValueAtSample
+returns-2 c = rw (sym (c .before .before .before .before .is-valid .ensures) ∙ c .before .before .before .if1 .taken, keys-rise-is (c .before .before .before .before .before .args .points) (c .before .before .before .before .before .args .enabled) (c .before .before .if2 .taken) ∙ sym (c .before .keys-rise .ensures) ∙ c .if3 .left)
+
+returns-3 : tie.Need-returns-3
+unfolding getValueAtSample
+returns-3 c = rw (sym (c .before .before .is-valid .ensures) ∙ c .before .if1 .taken, keys-rise-off (c .before .before .before .args .points) (c .before .before .before .args .enabled) (c .if2 .left)) (heard-off (c .before .before .before .args .limits) (c .before .before .before .args .enabled) (rawAtSample (listOf (c .before .before .before .args .points)) (c .before .before .before .args .sample)) (c .if2 .left))
+
+returns-4 : tie.Need-returns-4
+unfolding getValueAtSample
+returns-4 c = rw (sym (c .before .is-valid .ensures) ∙ c .if1 .left)
+
+pub get-value-at-sample-spec : {M : Type 1} → statement M
+get-value-at-sample-spec =
+    tie.close
+    (tie.spec
+    is-valid-requires
+    keys-rise-requires
+    value-at-sample-requires
+    returns
+    returns-2
+    returns-3
+    returns-4)

@@ -1,0 +1,194 @@
+-- `lookup::sample::raw_at_sample` meets its contract. Assumes nothing.
+use Prim.Native.Nat.{_+_, _-_, _/_}
+use mathlib.Core.Path.{sym, ap, _∙_}
+use mathlib.Core.Option.{some}
+use native.Mathlib.Omega.{arith}
+use Rattle.points.specs.Point.{anyPoint}
+use Rattle.points.specs.Refusal.{gives}
+use Rattle.lookup.specs.Lookup.{sampleKey}
+use Rattle.lookup.specs.Search.{Searching, search-start, search-up, search-down, search-end}
+use Rattle.lookup.specs.LookupLaws.{sample-none, sample-one, sample-first, sample-last, sample-at-point, sample-between, sample-before, sample-past, valid-count}
+use Rattle.lookup.proofs.Good.{inside}
+use Rattle.lookup.proofs.sample.raw_at_sample.Statement.{statement}
+use Rattle.lookup.proofs.sample.raw_at_sample.Tie as tie
+
+abbrev Inv-loop : tie.InvT-loop
+Inv-loop sample points n low₀ high₀ low high = Searching sampleKey anyPoint sample (points .places) n low high
+
+abbrev μ-loop : tie.MeasureT-loop
+μ-loop sample points n low₀ high₀ low high = high - low
+
+returns : tie.Need-returns Inv-loop μ-loop
+returns c =
+    let ps = c .before .args .t1 in
+    ap gives (sym (sample-none (ps .places) (ps .count) (c .before .args .sample) (inside ps _ (c .before .good .0) (c .before .pre .0)) (c .if1 .taken)))
+
+element-copy-out-first : tie.Need-element-copy-out-first Inv-loop μ-loop
+element-copy-out-first c = omega arith
+
+returns-2 : tie.Need-returns-2 Inv-loop μ-loop
+returns-2 c =
+    let ps = c .before .before .before .args .t1 in
+    ap gives (sym (sample-one (ps .places) (ps .count) (c .before .before .before .args .sample) (inside ps _ (c .before .before .before .good .0) (c .before .before .before .pre .0)) (c .if2 .taken)))
+
+start-key-requires : tie.Need-start-key-requires Inv-loop μ-loop
+start-key-requires c κs = tt
+
+returns-3 : tie.Need-returns-3 Inv-loop μ-loop
+returns-3 c =
+    let ps = c .before .before .before .before .before .args .t1 in
+    ap gives (sym (sample-first (ps .places) (ps .count) (c .before .before .before .before .before .args .sample) (inside ps _ (c .before .before .before .before .before .good .0) (c .before .before .before .before .before .pre .0)) (omega arith) (omega (arith, c .before .start-key .ensures, c .if3 .taken))))
+
+sub-last : tie.Need-sub-last Inv-loop μ-loop
+sub-last c = omega arith
+
+mul-last : tie.Need-mul-last Inv-loop μ-loop
+mul-last c = omega (arith, valid-count (c .before .before .before .before .before .args .t1) (c .before .before .before .before .before .pre .0))
+
+element-copy-out-last : tie.Need-element-copy-out-last Inv-loop μ-loop
+element-copy-out-last c = omega (arith, valid-count (c .before .before .before .before .before .args .t1) (c .before .before .before .before .before .pre .0))
+
+sample-key-requires : tie.Need-sample-key-requires Inv-loop μ-loop
+sample-key-requires c κs = tt
+
+returns-4 : tie.Need-returns-4 Inv-loop μ-loop
+returns-4 c =
+    let ps = c .before .before .before .before .before .before .before .before .args .t1 in
+    ap gives (sym (sample-last (ps .places) (ps .count) (c .before .before .before .before .before .before .before .before .args .sample) (inside ps _ (c .before .before .before .before .before .before .before .before .good .0) (c .before .before .before .before .before .before .before .before .pre .0)) (omega arith) (omega (arith, c .before .before .before .before .start-key .ensures, c .before .before .before .if3 .left)) (omega (arith, c .before .sample-key .ensures, c .if4 .taken))))
+
+loop-holds : tie.Need-loop-holds Inv-loop μ-loop
+loop-holds c = search-start sampleKey anyPoint (c .before .before .before .before .before .before .before .before .args .sample) (c .before .before .before .before .before .before .before .before .args .t1 .places) (c .before .before .before .before .before .before .before .before .args .t1 .count)
+
+sub-mid : tie.Need-sub-mid Inv-loop μ-loop
+sub-mid c = omega arith
+
+add-mid : tie.Need-add-mid Inv-loop μ-loop
+add-mid c = omega (arith, valid-count (c .before .before .before .before .before .before .before .before .before .before .args .t1) (c .before .before .before .before .before .before .before .before .before .before .pre .0))
+
+mul-p : tie.Need-mul-p Inv-loop μ-loop
+mul-p c = omega (arith, valid-count (c .before .before .before .before .before .before .before .before .before .before .args .t1) (c .before .before .before .before .before .before .before .before .before .before .pre .0))
+
+element-copy-out-p : tie.Need-element-copy-out-p Inv-loop μ-loop
+element-copy-out-p c = omega (arith, valid-count (c .before .before .before .before .before .before .before .before .before .before .args .t1) (c .before .before .before .before .before .before .before .before .before .before .pre .0))
+
+sample-key-requires-2 : tie.Need-sample-key-requires-2 Inv-loop μ-loop
+sample-key-requires-2 c κs = tt
+
+add-low : tie.Need-add-low Inv-loop μ-loop
+add-low c = omega (arith, valid-count (c .before .before .before .before .before .before .before .before .before .before .before .before .before .args .t1) (c .before .before .before .before .before .before .before .before .before .before .before .before .before .pre .0))
+
+loop-less : tie.Need-loop-less Inv-loop μ-loop
+loop-less c = omega arith
+
+loop-again : tie.Need-loop-again Inv-loop μ-loop
+loop-again c =
+    let ps = c .before .before .before .before .before .before .before .before .before .before .before .before .before .args .t1 in
+    let h = c .before .before .before .before .loop in
+    search-up sampleKey anyPoint (c .before .before .before .before .before .before .before .before .before .before .before .before .before .args .sample) (ps .places) (ps .count) (h .low) (h .high) (h .low + (h .high - h .low) / 2) (h .inv)
+    (c .before .before .before .before .before .before .before .before .before .before .before .before .before .pre .1) (inside ps _ (c .before .before .before .before .before .before .before .before .before .before .before .before .before .good .0) (c .before .before .before .before .before .before .before .before .before .before .before .before .before .pre .0)) (omega arith) (omega (arith, c .before .sample-key2 .ensures, c .if5 .taken))
+
+loop-less-2 : tie.Need-loop-less-2 Inv-loop μ-loop
+loop-less-2 c = omega arith
+
+loop-again-2 : tie.Need-loop-again-2 Inv-loop μ-loop
+loop-again-2 c =
+    let ps = c .before .before .before .before .before .before .before .before .before .before .before .before .before .args .t1 in
+    let h = c .before .before .before .before .loop in
+    search-down sampleKey anyPoint (c .before .before .before .before .before .before .before .before .before .before .before .before .before .args .sample) (ps .places) (ps .count) (h .low) (h .high) (h .low + (h .high - h .low) / 2) (h .inv)
+    (omega arith) (omega arith) (omega (arith, c .before .sample-key2 .ensures, c .if5 .left))
+
+mul-q : tie.Need-mul-q Inv-loop μ-loop
+mul-q c = omega (arith, valid-count (c .before .before .before .before .before .before .before .before .before .before .before .args .t1) (c .before .before .before .before .before .before .before .before .before .before .before .pre .0))
+
+element-copy-out-q : tie.Need-element-copy-out-q Inv-loop μ-loop
+element-copy-out-q c = omega (arith, valid-count (c .before .before .before .before .before .before .before .before .before .before .before .args .t1) (c .before .before .before .before .before .before .before .before .before .before .before .pre .0))
+
+sample-key-requires-3 : tie.Need-sample-key-requires-3 Inv-loop μ-loop
+sample-key-requires-3 c κs = tt
+
+between-samples-requires : tie.Need-between-samples-requires Inv-loop μ-loop
+between-samples-requires c κs = tt
+
+sub-p : tie.Need-sub-p Inv-loop μ-loop
+sub-p c = omega arith
+
+mul-p-2 : tie.Need-mul-p-2 Inv-loop μ-loop
+mul-p-2 c = omega (arith, valid-count (c .before .before .before .before .before .before .before .before .before .before .before .before .before .before .before .args .t1) (c .before .before .before .before .before .before .before .before .before .before .before .before .before .before .before .pre .0))
+
+element-copy-out-p-2 : tie.Need-element-copy-out-p-2 Inv-loop μ-loop
+element-copy-out-p-2 c = omega (arith, valid-count (c .before .before .before .before .before .before .before .before .before .before .before .before .before .before .before .args .t1) (c .before .before .before .before .before .before .before .before .before .before .before .before .before .before .before .pre .0))
+
+between-samples-requires-2 : tie.Need-between-samples-requires-2 Inv-loop μ-loop
+between-samples-requires-2 c κs = tt
+
+returns-5 : tie.Need-returns-5 Inv-loop μ-loop
+returns-5 c =
+    let ps = c .before .before .before .before .before .before .before .before .before .before .before .before .before .before .before .args .t1 in
+    let h = c .before .before .before .before .before .before .loop in
+    let f = inside ps _ (c .before .before .before .before .before .before .before .before .before .before .before .before .before .before .before .good .0) (c .before .before .before .before .before .before .before .before .before .before .before .before .before .before .before .pre .0) in
+    let e = search-end sampleKey anyPoint (c .before .before .before .before .before .before .before .before .before .before .before .before .before .before .before .args .sample) (ps .places) (ps .count) (h .low) (h .high) (h .inv) f (omega arith) in
+    ap gives (ap some (c .between-samples .ensures) ∙ sym (sample-at-point (ps .places) (ps .count) (c .before .before .before .before .before .before .before .before .before .before .before .before .before .before .before .args .sample) f (omega arith) (omega (arith, c .before .before .before .before .before .before .before .before .before .before .before .start-key .ensures, c .before .before .before .before .before .before .before .before .before .before .if3 .left)) (omega (arith, c .before .before .before .before .before .before .before .before .sample-key .ensures, c .before .before .before .before .before .before .before .if4 .left)) (h .low) e (c .before .before .before .before .if6 .taken) (sym (c .before .before .sample-key3 .ensures) ∙ c .before .if7 .taken)))
+
+returns-6 : tie.Need-returns-6 Inv-loop μ-loop
+returns-6 c =
+    let ps = c .before .before .before .before .before .before .before .before .before .before .before .before .before .before .before .before .before .args .t1 in
+    let h = c .before .before .before .before .before .before .before .before .loop in
+    let f = inside ps _ (c .before .before .before .before .before .before .before .before .before .before .before .before .before .before .before .before .before .good .0) (c .before .before .before .before .before .before .before .before .before .before .before .before .before .before .before .before .before .pre .0) in
+    let e = search-end sampleKey anyPoint (c .before .before .before .before .before .before .before .before .before .before .before .before .before .before .before .before .before .args .sample) (ps .places) (ps .count) (h .low) (h .high) (h .inv) f (omega arith) in
+    ap gives (ap some (c .between-samples2 .ensures) ∙ sym (sample-between (ps .places) (ps .count) (c .before .before .before .before .before .before .before .before .before .before .before .before .before .before .before .before .before .args .sample) f (omega arith) (omega (arith, c .before .before .before .before .before .before .before .before .before .before .before .before .before .start-key .ensures, c .before .before .before .before .before .before .before .before .before .before .before .before .if3 .left)) (omega (arith, c .before .before .before .before .before .before .before .before .before .before .sample-key .ensures, c .before .before .before .before .before .before .before .before .before .if4 .left)) (h .low) e (c .before .before .before .before .before .before .if6 .taken) (λ q. c .before .before .before .if7 .left (c .before .before .before .before .sample-key3 .ensures ∙ q)) (c .before .before .if8 .taken)))
+
+returns-7 : tie.Need-returns-7 Inv-loop μ-loop
+returns-7 c =
+    let ps = c .before .before .before .before .before .before .before .before .before .before .before .before .before .before .before .args .t1 in
+    let h = c .before .before .before .before .before .before .loop in
+    let f = inside ps _ (c .before .before .before .before .before .before .before .before .before .before .before .before .before .before .before .good .0) (c .before .before .before .before .before .before .before .before .before .before .before .before .before .before .before .pre .0) in
+    let e = search-end sampleKey anyPoint (c .before .before .before .before .before .before .before .before .before .before .before .before .before .before .before .args .sample) (ps .places) (ps .count) (h .low) (h .high) (h .inv) f (omega arith) in
+    ap gives (sym (sample-before (ps .places) (ps .count) (c .before .before .before .before .before .before .before .before .before .before .before .before .before .before .before .args .sample) f (omega arith) (omega (arith, c .before .before .before .before .before .before .before .before .before .before .before .start-key .ensures, c .before .before .before .before .before .before .before .before .before .before .if3 .left)) (omega (arith, c .before .before .before .before .before .before .before .before .sample-key .ensures, c .before .before .before .before .before .before .before .if4 .left)) (h .low) e (c .before .before .before .before .if6 .taken) (λ q. c .before .if7 .left (c .before .before .sample-key3 .ensures ∙ q)) (omega arith)))
+
+returns-8 : tie.Need-returns-8 Inv-loop μ-loop
+returns-8 c =
+    let ps = c .before .before .before .before .before .before .before .before .before .before .before .args .t1 in
+    let h = c .before .before .loop in
+    let f = inside ps _ (c .before .before .before .before .before .before .before .before .before .before .before .good .0) (c .before .before .before .before .before .before .before .before .before .before .before .pre .0) in
+    let e = search-end sampleKey anyPoint (c .before .before .before .before .before .before .before .before .before .before .before .args .sample) (ps .places) (ps .count) (h .low) (h .high) (h .inv) f (omega arith) in
+    ap gives (sym (sample-past (ps .places) (ps .count) (c .before .before .before .before .before .before .before .before .before .before .before .args .sample) f (omega arith) (omega (arith, c .before .before .before .before .before .before .before .start-key .ensures, c .before .before .before .before .before .before .if3 .left)) (omega (arith, c .before .before .before .before .sample-key .ensures, c .before .before .before .if4 .left)) (h .low) e (omega arith)))
+
+pub raw-at-sample-spec : {M : Type 1} → statement M
+raw-at-sample-spec =
+    tie.close
+    (tie.spec
+    Inv-loop
+    μ-loop
+    returns
+    element-copy-out-first
+    returns-2
+    start-key-requires
+    returns-3
+    sub-last
+    mul-last
+    element-copy-out-last
+    sample-key-requires
+    returns-4
+    loop-holds
+    sub-mid
+    add-mid
+    mul-p
+    element-copy-out-p
+    sample-key-requires-2
+    add-low
+    loop-less
+    loop-again
+    loop-less-2
+    loop-again-2
+    mul-q
+    element-copy-out-q
+    sample-key-requires-3
+    between-samples-requires
+    sub-p
+    mul-p-2
+    element-copy-out-p-2
+    between-samples-requires-2
+    returns-5
+    returns-6
+    returns-7
+    returns-8)

@@ -1,0 +1,26 @@
+-- `lookup::time::get_value_at` meets its contract. Assumes nothing.
+use mathlib.Core.Path.{sym, _∙_}
+use Rattle.points.specs.Laws.{and-right}
+use Rattle.points.specs.Points.{validPoints}
+use Rattle.lookup.specs.Limits.{finiteLimits}
+use Rattle.lookup.specs.Lookup.{getValueAt}
+use borrow.Author.Needs.{needs}
+use Rattle.lookup.proofs.time.get_value_at.Statement.{statement}
+use Rattle.lookup.proofs.time.get_value_at.Tie as tie
+
+is-valid-requires : tie.Need-is-valid-requires
+is-valid-requires c κs = search needs
+
+value-at-requires : tie.Need-value-at-requires
+value-at-requires c κs = and-right (finiteLimits (c .before .before .args .limits)) (validPoints (c .before .before .args .points)) (sym (c .before .is-valid .ensures) ∙ c .if1 .taken)
+
+returns : tie.Need-returns
+unfolding getValueAt
+returns c = rw (sym (c .before .before .is-valid .ensures) ∙ c .before .if1 .taken) (c .value-at .ensures)
+
+returns-2 : tie.Need-returns-2
+unfolding getValueAt
+returns-2 c = rw (sym (c .before .is-valid .ensures) ∙ c .if1 .left)
+
+pub get-value-at-spec : {M : Type 1} → statement M
+get-value-at-spec = tie.close (tie.spec is-valid-requires value-at-requires returns returns-2)

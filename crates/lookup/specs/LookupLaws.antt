@@ -1,0 +1,205 @@
+-- The ways out of the lookups, each as a law: over the first n places of an array, as the functions have the points. Assumes nothing.
+use Prim.Native.Nat.{ℕ, zero, suc, _-_, _≤_, _<_}
+use mathlib.Core.Path.{_≡_, refl, sym, ap, _∙_}
+use mathlib.Core.Bool.{Bool, true, false, cond, false≢true}
+use mathlib.Core.List.{List, [], _∷_}
+use mathlib.Core.Option.{Option, none, some}
+use native.Mathlib.Nat.{le-of-suc-le-suc}
+use native.Mathlib.Omega.{arith}
+use lib.Dec.{leb}
+use lib.ListN.{length, take}
+use lib.Seq.{getD-take, length-take-le}
+use lib.Ieee.{Float, le}
+use borrow.Author.Tests.{lt-ltb, le-ltb, eq-eqb, ne-eqb, le-leb, lt-leb, leb-true}
+use Rattle.numbers.specs.Order.{orderKey}
+use Rattle.points.specs.Laws.{and-left, and-right}
+use Rattle.points.specs.Point.{anyPoint, finitePoint, isUnused}
+use Rattle.points.specs.Points.{listOf, restOf, every, risingBy, rising, timeKey, validPoints}
+use Rattle.points.specs.declared.Points.{Points}
+use Rattle.points.specs.Refusal.{gives}
+use Rattle.points.specs.declared.AutomationPoint.{AutomationPoint}
+use Rattle.lookup.specs.Lookup.{pointAt, lastPoint, placeBy, surrounded, between, rawAt, keyFrom, sampleKey, betweenSamples, rawAtSample, heard, keysRise, told, constrainedAnswer}
+use Rattle.lookup.specs.declared.Limits.{Limits}
+use Rattle.lookup.specs.declared.Lookup.{Lookup}
+use Rattle.lookup.specs.declared.Lookup.the-variants.{Silent, Value, Refused}
+
+-- ---- between the first point and the last: by the place i that the search ends at
+
+module _ {A : Type 0} (key : AutomationPoint → ℕ) (k : ℕ) (give : AutomationPoint → AutomationPoint → A) (ps : List AutomationPoint) (n i : ℕ)
+    (f : n ≤ length ps) (e : placeBy key k (take n ps) ≡ i) where
+  -- the search ended past the last point
+  pub around-past : n ≤ i → surrounded key k give (take n ps) ≡ none
+  unfolding surrounded
+  around-past h = rw (e, length-take-le n ps f, le-ltb i n h)
+
+  -- at a point of that key
+  pub around-at : i < n → key (pointAt ps i) ≡ k → surrounded key k give (take n ps) ≡ some (give (pointAt ps i) (pointAt ps i))
+  unfolding surrounded
+  around-at h w = rw (e, length-take-le n ps f, lt-ltb i n h, getD-take n ps i anyPoint h, eq-eqb (key (pointAt ps i)) k w)
+
+  -- between two points
+  pub around-between : i < n → (key (pointAt ps i) ≡ k → ⊥) → 0 < i → surrounded key k give (take n ps) ≡ some (give (pointAt ps (i - 1)) (pointAt ps i))
+  unfolding surrounded
+  around-between h w p =
+      let b : i - 1 < n = omega arith in
+      rw (e, length-take-le n ps f, lt-ltb i n h, getD-take n ps i anyPoint h, ne-eqb (key (pointAt ps i)) k w, lt-ltb 0 i p, getD-take n ps (i - 1) anyPoint b)
+
+  -- before the first point
+  pub around-before : i < n → (key (pointAt ps i) ≡ k → ⊥) → i ≤ 0 → surrounded key k give (take n ps) ≡ none
+  unfolding surrounded
+  around-before h w p = rw (e, length-take-le n ps f, lt-ltb i n h, getD-take n ps i anyPoint h, ne-eqb (key (pointAt ps i)) k w, le-ltb 0 i p)
+
+-- ---- the ends, which both lookups have in common: a test of the first point, one of the last, and what is between
+
+unfoldable ends : (AutomationPoint → Bool) → (AutomationPoint → Bool) → Option Float → List AutomationPoint → Option Float
+ends early late inner [] = none
+ends early late inner (p ∷ []) = some (p .value)
+ends early late inner (p ∷ (q ∷ l)) = cond (early p) (some (p .value)) (cond (late (lastPoint (q ∷ l))) (some (lastPoint (q ∷ l) .value)) inner)
+
+last-taken : (p q : AutomationPoint) (l : List AutomationPoint) (m : ℕ) → suc m ≤ length (q ∷ l) → lastPoint (take (suc m) (q ∷ l)) ≡ pointAt (p ∷ (q ∷ l)) (suc (suc m) - 1)
+last-taken p q l m f =
+    let a : suc m - 1 ≡ m = omega arith in
+    let b : suc (suc m) - 1 ≡ suc m = omega arith in
+    let h : m < suc m = omega arith in
+    rw (length-take-le (suc m) (q ∷ l) f, a, b) (getD-take (suc m) (q ∷ l) m anyPoint h)
+
+module _ (early late : AutomationPoint → Bool) (inner : Option Float) where
+  ends-one : (ps : List AutomationPoint) (n : ℕ) → n ≤ length ps → n ≡ 1 → ends early late inner (take n ps) ≡ some (pointAt ps 0 .value)
+  unfolding ends
+  ends-one [] n f e = absurd (omega arith)
+  ends-one (p ∷ l) n f e = rw e
+
+  ends-two : (ps : List AutomationPoint) (n : ℕ) → n ≤ length ps → 2 ≤ n
+      → ends early late inner (take n ps)
+      ≡ cond (early (pointAt ps 0)) (some (pointAt ps 0 .value)) (cond (late (pointAt ps (n - 1))) (some (pointAt ps (n - 1) .value)) inner)
+  unfolding ends
+  ends-two [] n f w = absurd (omega arith)
+  ends-two (p ∷ []) n f w = absurd (omega arith)
+  ends-two (p ∷ (q ∷ l)) zero f w = absurd (omega arith)
+  ends-two (p ∷ (q ∷ l)) (suc zero) f w = absurd (omega arith)
+  ends-two (p ∷ (q ∷ l)) (suc (suc m)) f w =
+      ap (λ (x : AutomationPoint). cond (early p) (some (p .value)) (cond (late x) (some (x .value)) inner)) (last-taken p q l m (le-of-suc-le-suc f))
+
+-- ---- by time
+
+by-time : (l : List AutomationPoint) (time : Float)
+    → rawAt l time ≡ ends (λ p. le time (p .time)) (λ p. le (p .time) time) (surrounded timeKey (orderKey time) (between time) l) l
+unfolding rawAt ends
+by-time [] time = refl
+by-time (p ∷ []) time = refl
+by-time (p ∷ (q ∷ l)) time = refl
+
+module _ (ps : List AutomationPoint) (n : ℕ) (time : Float) (f : n ≤ length ps) where
+  pub raw-none : n ≡ 0 → rawAt (take n ps) time ≡ none
+  unfolding rawAt
+  raw-none e = rw e
+
+  pub raw-one : n ≡ 1 → rawAt (take n ps) time ≡ some (pointAt ps 0 .value)
+  raw-one e = by-time (take n ps) time ∙ ends-one _ _ _ ps n f e
+
+  pub raw-first : 2 ≤ n → le time (pointAt ps 0 .time) ≡ true → rawAt (take n ps) time ≡ some (pointAt ps 0 .value)
+  raw-first w a = by-time (take n ps) time ∙ ends-two _ _ _ ps n f w ∙ rw a
+
+  pub raw-last : 2 ≤ n → le time (pointAt ps 0 .time) ≡ false → le (pointAt ps (n - 1) .time) time ≡ true → rawAt (take n ps) time ≡ some (pointAt ps (n - 1) .value)
+  raw-last w a b = by-time (take n ps) time ∙ ends-two _ _ _ ps n f w ∙ rw (a, b)
+
+  -- between the ends, by the place i that the search ends at
+  module _ (w : 2 ≤ n) (a : le time (pointAt ps 0 .time) ≡ false) (b : le (pointAt ps (n - 1) .time) time ≡ false) (i : ℕ) (e : placeBy timeKey (orderKey time) (take n ps) ≡ i) where
+    raw-inner : rawAt (take n ps) time ≡ surrounded timeKey (orderKey time) (between time) (take n ps)
+    raw-inner = by-time (take n ps) time ∙ ends-two _ _ _ ps n f w ∙ rw (a, b)
+
+    pub raw-at-point : i < n → timeKey (pointAt ps i) ≡ orderKey time → rawAt (take n ps) time ≡ some (between time (pointAt ps i) (pointAt ps i))
+    raw-at-point h t = raw-inner ∙ around-at timeKey (orderKey time) (between time) ps n i f e h t
+
+    pub raw-between : i < n → (timeKey (pointAt ps i) ≡ orderKey time → ⊥) → 0 < i → rawAt (take n ps) time ≡ some (between time (pointAt ps (i - 1)) (pointAt ps i))
+    raw-between h t p = raw-inner ∙ around-between timeKey (orderKey time) (between time) ps n i f e h t p
+
+    pub raw-before : i < n → (timeKey (pointAt ps i) ≡ orderKey time → ⊥) → i ≤ 0 → rawAt (take n ps) time ≡ none
+    raw-before h t p = raw-inner ∙ around-before timeKey (orderKey time) (between time) ps n i f e h t p
+
+    pub raw-past : n ≤ i → rawAt (take n ps) time ≡ none
+    raw-past h = raw-inner ∙ around-past timeKey (orderKey time) (between time) ps n i f e h
+
+-- ---- by sample
+
+by-sample : (l : List AutomationPoint) (sample : ℕ)
+    → rawAtSample l sample ≡ ends (λ p. leb sample (keyFrom (p .«sample_position») 0)) (λ p. leb (sampleKey p) sample) (surrounded sampleKey sample (betweenSamples sample) l) l
+unfolding rawAtSample ends
+by-sample [] sample = refl
+by-sample (p ∷ []) sample = refl
+by-sample (p ∷ (q ∷ l)) sample = refl
+
+module _ (ps : List AutomationPoint) (n sample : ℕ) (f : n ≤ length ps) where
+  pub sample-none : n ≡ 0 → rawAtSample (take n ps) sample ≡ none
+  unfolding rawAtSample
+  sample-none e = rw e
+
+  pub sample-one : n ≡ 1 → rawAtSample (take n ps) sample ≡ some (pointAt ps 0 .value)
+  sample-one e = by-sample (take n ps) sample ∙ ends-one _ _ _ ps n f e
+
+  pub sample-first : 2 ≤ n → sample ≤ keyFrom (pointAt ps 0 .«sample_position») 0 → rawAtSample (take n ps) sample ≡ some (pointAt ps 0 .value)
+  sample-first w a = by-sample (take n ps) sample ∙ ends-two _ _ _ ps n f w ∙ rw (le-leb sample (keyFrom (pointAt ps 0 .«sample_position») 0) a)
+
+  module _ (w : 2 ≤ n) (a : keyFrom (pointAt ps 0 .«sample_position») 0 < sample) where
+    sample-rest : rawAtSample (take n ps) sample ≡ cond (leb (sampleKey (pointAt ps (n - 1))) sample) (some (pointAt ps (n - 1) .value)) (surrounded sampleKey sample (betweenSamples sample) (take n ps))
+    sample-rest = by-sample (take n ps) sample ∙ ends-two _ _ _ ps n f w ∙ rw (lt-leb sample (keyFrom (pointAt ps 0 .«sample_position») 0) a)
+
+    pub sample-last : sampleKey (pointAt ps (n - 1)) ≤ sample → rawAtSample (take n ps) sample ≡ some (pointAt ps (n - 1) .value)
+    sample-last b = sample-rest ∙ rw (le-leb (sampleKey (pointAt ps (n - 1))) sample b)
+
+    -- between the ends, by the place i that the search ends at
+    module _ (b : sample < sampleKey (pointAt ps (n - 1))) (i : ℕ) (e : placeBy sampleKey sample (take n ps) ≡ i) where
+      sample-inner : rawAtSample (take n ps) sample ≡ surrounded sampleKey sample (betweenSamples sample) (take n ps)
+      sample-inner = sample-rest ∙ rw (lt-leb (sampleKey (pointAt ps (n - 1))) sample b)
+
+      pub sample-at-point : i < n → sampleKey (pointAt ps i) ≡ sample → rawAtSample (take n ps) sample ≡ some (betweenSamples sample (pointAt ps i) (pointAt ps i))
+      sample-at-point h t = sample-inner ∙ around-at sampleKey sample (betweenSamples sample) ps n i f e h t
+
+      pub sample-between : i < n → (sampleKey (pointAt ps i) ≡ sample → ⊥) → 0 < i → rawAtSample (take n ps) sample ≡ some (betweenSamples sample (pointAt ps (i - 1)) (pointAt ps i))
+      sample-between h t p = sample-inner ∙ around-between sampleKey sample (betweenSamples sample) ps n i f e h t p
+
+      pub sample-before : i < n → (sampleKey (pointAt ps i) ≡ sample → ⊥) → i ≤ 0 → rawAtSample (take n ps) sample ≡ none
+      sample-before h t p = sample-inner ∙ around-before sampleKey sample (betweenSamples sample) ps n i f e h t p
+
+      pub sample-past : n ≤ i → rawAtSample (take n ps) sample ≡ none
+      sample-past h = sample-inner ∙ around-past sampleKey sample (betweenSamples sample) ps n i f e h
+
+-- ---- the answers
+
+-- enabled: constraining the answer is constraining what is heard
+pub heard-on : (limits : Limits) (enabled : Bool) (answer : Lookup) (raw : Option Float) → enabled ≡ true → told answer ≡ gives raw
+    → told (constrainedAnswer limits answer) ≡ gives (heard enabled limits raw)
+heard-on limits false answer raw on h = absurd (false≢true on)
+heard-on limits true Silent none on h = refl
+heard-on limits true Silent (some v) on h = cc
+heard-on limits true (Value v) none on h = cc
+heard-on limits true (Value v) (some x) on h = let e : v ≡ x = cc in rw e
+heard-on limits true (Refused r) raw on h = cc
+
+-- disabled: nothing is heard
+pub heard-off : (limits : Limits) (enabled : Bool) (raw : Option Float) → enabled ≡ false → told Silent ≡ gives (heard enabled limits raw)
+heard-off limits false raw off = refl
+heard-off limits true raw off = absurd (false≢true (sym off))
+
+-- the keys have to rise only where the points are enabled
+pub keys-rise-is : (ps : Points) (enabled : Bool) → enabled ≡ true → keysRise ps enabled ≡ risingBy sampleKey (listOf ps)
+keys-rise-is ps false on = absurd (false≢true on)
+keys-rise-is ps true on = refl
+
+pub keys-rise-off : (ps : Points) (enabled : Bool) → enabled ≡ false → keysRise ps enabled ≡ true
+keys-rise-off ps false off = refl
+keys-rise-off ps true off = absurd (false≢true (sym off))
+
+-- ---- what validity tells
+
+pub valid-count : (ps : Points) → validPoints ps ≡ true → ps .count ≤ 256
+unfolding validPoints
+valid-count ps v = leb-true (ps .count) 256 (and-left (leb (ps .count) 256) _ v)
+
+pub valid-finite : (ps : Points) → validPoints ps ≡ true → every finitePoint (listOf ps) ≡ true
+unfolding validPoints
+valid-finite ps v = and-left (every finitePoint (listOf ps)) _ (and-left _ (every isUnused (restOf ps)) (and-right (leb (ps .count) 256) _ v))
+
+pub valid-rising : (ps : Points) → validPoints ps ≡ true → rising (listOf ps) ≡ true
+unfolding validPoints
+valid-rising ps v = and-right (every finitePoint (listOf ps)) _ (and-left _ (every isUnused (restOf ps)) (and-right (leb (ps .count) 256) _ v))

@@ -1,0 +1,42 @@
+use mathlib.Core.Path.{_≡_, sym, ap, _∙_}
+use mathlib.Core.Bool.{Bool, true, false}
+use Rattle.points.specs.Refusal.{Said, gives}
+use Rattle.points.specs.Laws.{and-both}
+use Rattle.points.specs.Point.{pointsEqual, samePoint, samePointExact}
+use borrow.Author.Needs.{needs}
+use Rattle.points.proofs.AutomationPoint.eq.Statement.{statement}
+use Rattle.points.proofs.AutomationPoint.eq.Tie as tie
+use Rattle.points.proofs.AutomationPoint.eq.Reads as reads
+use Rattle.points.proofs.AutomationPoint.eq.Lts as lts
+use Rattle.points.proofs.AutomationPoint.is_finite.Reads as is-finite-reads
+use Rattle.points.proofs.AutomationPoint.same.Reads as same-reads
+
+-- src/point.rt:84:12
+is-finite-requires : tie.Need-is-finite-requires
+is-finite-requires c κs = search needs
+
+-- src/point.rt:84:31
+is-finite-requires-2 : tie.Need-is-finite-requires-2
+is-finite-requires-2 c κs = search needs
+
+-- src/point.rt:85:26
+same-requires : tie.Need-same-requires
+same-requires c κs = search needs
+
+-- src/point.rt:81:5
+returns : tie.Need-returns
+unfolding pointsEqual
+returns c =
+    let t = sym (and-both (c .before .before .before .is-finite .ensures) (c .before .before .is-finite2 .ensures)) ∙ c .before .if1 .taken in
+    rw t (ap gives (c .same .ensures))
+
+-- src/point.rt:81:5
+returns-2 : tie.Need-returns-2
+unfolding pointsEqual
+returns-2 c =
+    let t = sym (and-both (c .before .before .is-finite .ensures) (c .before .is-finite2 .ensures)) ∙ c .if1 .left in
+    rw t
+
+pub eq-spec : {M : Type 1} → statement M
+eq-spec =
+    tie.close (tie.spec is-finite-requires is-finite-requires-2 same-requires returns returns-2)

@@ -1,0 +1,28 @@
+use borrow.Author.Needs.{needs}
+use Rattle.points.proofs.AutomationPoint.is_finite.Statement.{statement}
+use Rattle.points.proofs.AutomationPoint.is_finite.Tie as tie
+use Rattle.points.proofs.AutomationPoint.is_finite.Reads as reads
+use Rattle.points.proofs.AutomationPoint.is_finite.Lts as lts
+use Rattle.curve.proofs.CurveType.is_finite.Reads as CurveType-is-finite-reads
+use Rattle.numbers.proofs.order.is_finite.Reads as order-is-finite-reads
+use Rattle.numbers.proofs.order.is_finitef.Reads as is-finitef-reads
+
+-- src/point.rt:48:9
+is-finite-requires : tie.Need-is-finite-requires
+is-finite-requires c κs = search needs
+
+-- src/point.rt:48:48
+is-finitef-requires : tie.Need-is-finitef-requires
+is-finitef-requires c κs = search needs
+
+-- src/point.rt:48:89
+is-finite-requires-2 : tie.Need-is-finite-requires-2
+is-finite-requires-2 c κs = search needs
+
+-- src/point.rt:44:5
+returns : tie.Need-returns
+returns c = cc
+
+pub is-finite-spec : {M : Type 1} → statement M
+is-finite-spec =
+    tie.close (tie.spec is-finite-requires is-finitef-requires is-finite-requires-2 returns)

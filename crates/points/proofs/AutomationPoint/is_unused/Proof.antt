@@ -1,0 +1,34 @@
+use borrow.Author.Needs.{needs}
+use Rattle.points.proofs.AutomationPoint.is_unused.Statement.{statement}
+use Rattle.points.proofs.AutomationPoint.is_unused.Tie as tie
+use Rattle.points.proofs.AutomationPoint.is_unused.Reads as reads
+use Rattle.points.proofs.AutomationPoint.is_unused.Lts as lts
+use Rattle.curve.proofs.CurveType.is_linear.Reads as is-linear-reads
+use Rattle.points.proofs.SamplePosition.is_none.Reads as is-none-reads
+use Rattle.points.proofs.point.plus_zero.Reads as plus-zero-reads
+use Rattle.points.proofs.point.plus_zerof.Reads as plus-zerof-reads
+
+-- src/point.rt:56:9
+plus-zero-requires : tie.Need-plus-zero-requires
+plus-zero-requires c κs = search needs
+
+-- src/point.rt:56:32
+is-none-requires : tie.Need-is-none-requires
+is-none-requires c κs = search needs
+
+-- src/point.rt:56:53
+plus-zerof-requires : tie.Need-plus-zerof-requires
+plus-zerof-requires c κs = search needs
+
+-- src/point.rt:56:78
+is-linear-requires : tie.Need-is-linear-requires
+is-linear-requires c κs = search needs
+
+-- src/point.rt:51:5
+returns : tie.Need-returns
+returns c = cc
+
+pub is-unused-spec : {M : Type 1} → statement M
+is-unused-spec =
+    tie.close
+    (tie.spec plus-zero-requires is-none-requires plus-zerof-requires is-linear-requires returns)

@@ -1,0 +1,17 @@
+use mathlib.Core.Path.{sym}
+use lib.IntN.{negsuc}
+use lib.Ieee.{binary32, binary64, sub, ofBits}
+use Rattle.points.specs.Laws.{and-both}
+use Rattle.points.proofs.Floats.{abs-below}
+use Rattle.points.proofs.AutomationPoint.same.Statement.{statement}
+use Rattle.points.proofs.AutomationPoint.same.Tie as tie
+use Rattle.points.proofs.AutomationPoint.same.Reads as reads
+use Rattle.points.proofs.AutomationPoint.same.Lts as lts
+
+-- src/point.rt:60:5
+returns : tie.Need-returns
+unfolding ofBits
+returns c = sym (and-both (abs-below _ 1 (negsuc 51)) (abs-below _ 1 (negsuc 22)))
+
+pub same-spec : {M : Type 1} → statement M
+same-spec = tie.close (tie.spec returns)

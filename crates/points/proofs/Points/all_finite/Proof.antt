@@ -1,0 +1,80 @@
+use Prim.Native.Nat.{ℕ, _≤_, _-_}
+use mathlib.Core.Path.{_≡_, refl, ap, _∙_}
+use mathlib.Core.List.{List}
+use native.Mathlib.Omega.{arith}
+use lib.ListN.{take}
+use Rattle.points.specs.declared.AutomationPoint.{AutomationPoint}
+use Rattle.points.specs.Point.{finitePoint, anyPoint}
+use Rattle.points.specs.Points.{every}
+use Rattle.points.specs.Laws.{every-more, take-min}
+use Rattle.points.proofs.Good.{places}
+use Rattle.points.proofs.Points.all_finite.Statement.{statement}
+use Rattle.points.proofs.Points.all_finite.Tie as tie
+use Rattle.points.proofs.Points.all_finite.Reads as reads
+use Rattle.points.proofs.Points.all_finite.Lts as lts
+use Rattle.points.proofs.AutomationPoint.is_finite.Reads as is-finite-reads
+use Rattle.points.proofs.Points.used.Reads as used-reads
+
+abbrev Inv-loop : tie.InvT-loop
+Inv-loop self n ok₀ i₀ ok i = (i ≤ n) × (ok ≡ every finitePoint (take i (self .places)))
+
+abbrev μ-loop : tie.MeasureT-loop
+μ-loop self n ok₀ i₀ ok i = n - i
+
+-- src/list.rt:31:13
+used-requires : tie.Need-used-requires Inv-loop μ-loop
+used-requires c κs = tt
+
+-- src/list.rt:34:9
+loop-holds : tie.Need-loop-holds Inv-loop μ-loop
+unfolding every
+loop-holds c = (omega arith, refl)
+
+-- src/list.rt:35:21
+mul-p : tie.Need-mul-p Inv-loop μ-loop
+mul-p c = omega arith
+
+-- src/list.rt:35:21
+element-copy-out-p : tie.Need-element-copy-out-p Inv-loop μ-loop
+element-copy-out-p c = omega arith
+
+-- src/list.rt:36:23
+is-finite-requires : tie.Need-is-finite-requires Inv-loop μ-loop
+is-finite-requires c κs = tt
+
+-- src/list.rt:37:13
+add-i : tie.Need-add-i Inv-loop μ-loop
+add-i c = omega arith
+
+-- src/list.rt:34:9
+loop-less : tie.Need-loop-less Inv-loop μ-loop
+loop-less c = omega arith
+
+-- src/list.rt:34:9
+loop-again : tie.Need-loop-again Inv-loop μ-loop
+loop-again c =
+    let len = places (c .before .before .before .before .before .args .t1) _ (c .before .before .before .before .before .good .0) in
+    (omega arith, cc (every-more finitePoint (c .before .before .before .before .before .args .t1 .places) (c .before .before .before .loop .i) anyPoint (omega arith)))
+
+-- src/list.rt:28:5
+returns : tie.Need-returns Inv-loop μ-loop
+returns c =
+    let ps = c .before .before .before .args .t1 in
+    let at : c .before .loop .i ≡ c .before .before .used .result = omega arith in
+    c .before .loop .inv .1 ∙ ap (every finitePoint) (ap (λ (k : ℕ). take k (ps .places)) (at ∙ c .before .before .used .ensures) ∙ take-min (ps .count) (ps .places) 256 (places ps _ (c .before .before .before .good .0)))
+
+pub all-finite-spec : {M : Type 1} → statement M
+all-finite-spec =
+    tie.close
+    (tie.spec
+    Inv-loop
+    μ-loop
+    used-requires
+    loop-holds
+    mul-p
+    element-copy-out-p
+    is-finite-requires
+    add-i
+    loop-less
+    loop-again
+    returns)

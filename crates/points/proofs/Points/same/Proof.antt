@@ -1,0 +1,115 @@
+use Prim.Native.Nat.{ℕ, _≤_, _-_, min}
+use mathlib.Core.Path.{_≡_, refl, sym, ap, _∙_}
+use mathlib.Core.List.{List}
+use native.Mathlib.Omega.{arith}
+use lib.ListN.{length, take, length-take}
+use Rattle.points.specs.declared.AutomationPoint.{AutomationPoint}
+use Rattle.points.specs.Point.{matching, anyPoint}
+use Rattle.points.specs.Points.{listOf, everyPair}
+use Rattle.points.specs.Laws.{pair-none, pair-more, pair-length, take-min}
+use Rattle.points.proofs.Good.{places}
+use Rattle.points.proofs.Points.same.Statement.{statement}
+use Rattle.points.proofs.Points.same.Tie as tie
+use Rattle.points.proofs.Points.same.Reads as reads
+use Rattle.points.proofs.Points.same.Lts as lts
+use Rattle.points.proofs.Points.used.Reads as used-reads
+use Rattle.points.proofs.list.match_points.Reads as match-points-reads
+
+abbrev Inv-loop : tie.InvT-loop
+Inv-loop exact self other n ok₀ i₀ ok i = (i ≤ n) × (ok ≡ everyPair (matching exact) (take i (self .places)) (take i (other .places)))
+
+abbrev μ-loop : tie.MeasureT-loop
+μ-loop exact self other n ok₀ i₀ ok i = n - i
+
+-- src/list.rt:94:13
+used-requires : tie.Need-used-requires Inv-loop μ-loop
+used-requires c κs = tt
+
+-- src/list.rt:95:17
+used-requires-2 : tie.Need-used-requires-2 Inv-loop μ-loop
+used-requires-2 c κs = tt
+
+-- src/list.rt:96:13
+returns : tie.Need-returns Inv-loop μ-loop
+returns c =
+    let a = c .before .before .before .args .t1 in
+    let b = c .before .before .before .args .t2 in
+    let la : length (a .places) ≡ 256 = places a _ (c .before .before .before .good .0) in
+    let lb : length (b .places) ≡ 256 = places b _ (c .before .before .before .good .1 .0) in
+    let ka = length-take (a .count) (a .places) in
+    let kb = length-take (b .count) (b .places) in
+    sym (pair-length (matching (c .before .before .before .args .exact)) (listOf a) (listOf b) (λ (e : length (listOf a) ≡ length (listOf b)). c .if1 .taken (omega (arith, c .before .before .used .ensures, c .before .used2 .ensures))))
+
+-- src/list.rt:100:9
+loop-holds : tie.Need-loop-holds Inv-loop μ-loop
+loop-holds c = (omega arith, pair-none (matching (c .before .before .before .args .exact)))
+
+-- src/list.rt:101:21
+mul-p : tie.Need-mul-p Inv-loop μ-loop
+mul-p c = omega arith
+
+-- src/list.rt:101:21
+element-copy-out-p : tie.Need-element-copy-out-p Inv-loop μ-loop
+element-copy-out-p c = omega arith
+
+-- src/list.rt:102:21
+mul-q : tie.Need-mul-q Inv-loop μ-loop
+mul-q c = omega arith
+
+-- src/list.rt:102:21
+element-copy-out-q : tie.Need-element-copy-out-q Inv-loop μ-loop
+element-copy-out-q c = omega arith
+
+-- src/list.rt:103:23
+match-points-requires : tie.Need-match-points-requires Inv-loop μ-loop
+match-points-requires c κs = tt
+
+-- src/list.rt:104:13
+add-i : tie.Need-add-i Inv-loop μ-loop
+add-i c = omega arith
+
+-- src/list.rt:100:9
+loop-less : tie.Need-loop-less Inv-loop μ-loop
+loop-less c = omega arith
+
+-- src/list.rt:100:9
+loop-again : tie.Need-loop-again Inv-loop μ-loop
+loop-again c =
+    let a = c .before .before .before .before .before .before .before .before .args .t1 in
+    let b = c .before .before .before .before .before .before .before .before .args .t2 in
+    let la : length (a .places) ≡ 256 = places a _ (c .before .before .before .before .before .before .before .before .good .0) in
+    let lb : length (b .places) ≡ 256 = places b _ (c .before .before .before .before .before .before .before .before .good .1 .0) in
+    (omega arith, cc (pair-more (matching (c .before .before .before .before .before .before .before .before .args .exact)) (a .places) (b .places) (c .before .before .before .before .loop .i) anyPoint (omega arith) (omega arith)))
+
+-- src/list.rt:91:5
+returns-2 : tie.Need-returns-2 Inv-loop μ-loop
+returns-2 c =
+    let a = c .before .before .before .before .before .args .t1 in
+    let b = c .before .before .before .before .before .args .t2 in
+    let la : length (a .places) ≡ 256 = places a _ (c .before .before .before .before .before .good .0) in
+    let lb : length (b .places) ≡ 256 = places b _ (c .before .before .before .before .before .good .1 .0) in
+    let at : c .before .loop .i ≡ min (a .count) 256 = omega (arith, c .before .before .before .before .used .ensures) in
+    let bt : c .before .loop .i ≡ min (b .count) 256 = omega (arith, c .before .before .before .before .used .ensures, c .before .before .before .used2 .ensures) in
+    let ea = ap (λ (k : ℕ). take k (a .places)) at ∙ take-min (a .count) (a .places) 256 la in
+    let eb = ap (λ (k : ℕ). take k (b .places)) bt ∙ take-min (b .count) (b .places) 256 lb in
+    c .before .loop .inv .1 ∙ (λ i. everyPair (matching (c .before .before .before .before .before .args .exact)) (ea i) (eb i))
+
+pub same-spec : {M : Type 1} → statement M
+same-spec =
+    tie.close
+    (tie.spec
+    Inv-loop
+    μ-loop
+    used-requires
+    used-requires-2
+    returns
+    loop-holds
+    mul-p
+    element-copy-out-p
+    mul-q
+    element-copy-out-q
+    match-points-requires
+    add-i
+    loop-less
+    loop-again
+    returns-2)

@@ -1,0 +1,101 @@
+use Prim.Native.Nat.{ℕ, _≤_, _-_, max}
+use mathlib.Core.Path.{_≡_, refl, sym, ap, _∙_}
+use mathlib.Core.List.{List}
+use native.Mathlib.Omega.{arith}
+use lib.ListN.{take}
+use lib.Dec.{ltb}
+use mathlib.Core.Bool.{Bool, _&&_}
+use Rattle.points.specs.declared.AutomationPoint.{AutomationPoint}
+use Rattle.points.specs.Point.{anyPoint}
+use Rattle.points.specs.Points.{timeKey, rising}
+use Rattle.points.specs.Laws.{rising-next, rising-one, rising-end, take-min}
+use Rattle.points.proofs.Good.{places}
+use Rattle.points.proofs.Points.times_rise.Statement.{statement}
+use Rattle.points.proofs.Points.times_rise.Tie as tie
+use Rattle.points.proofs.Points.times_rise.Reads as reads
+use Rattle.points.proofs.Points.times_rise.Lts as lts
+use Rattle.numbers.proofs.order.order_key.Reads as order-key-reads
+use Rattle.points.proofs.Points.used.Reads as used-reads
+
+abbrev Inv-loop : tie.InvT-loop
+Inv-loop self n ok₀ i₀ ok i = (1 ≤ i) × (i ≤ max 1 n) × (ok ≡ rising (take i (self .places)))
+
+abbrev μ-loop : tie.MeasureT-loop
+μ-loop self n ok₀ i₀ ok i = n - i
+
+-- src/list.rt:45:13
+used-requires : tie.Need-used-requires Inv-loop μ-loop
+used-requires c κs = tt
+
+-- src/list.rt:48:9
+loop-holds : tie.Need-loop-holds Inv-loop μ-loop
+loop-holds c = (omega arith, omega arith, sym (rising-one timeKey (c .before .args .t1 .places)))
+
+-- src/list.rt:49:33
+sub-p : tie.Need-sub-p Inv-loop μ-loop
+sub-p c = omega arith
+
+-- src/list.rt:49:21
+mul-p : tie.Need-mul-p Inv-loop μ-loop
+mul-p c = omega arith
+
+-- src/list.rt:49:21
+element-copy-out-p : tie.Need-element-copy-out-p Inv-loop μ-loop
+element-copy-out-p c = omega arith
+
+-- src/list.rt:50:21
+mul-q : tie.Need-mul-q Inv-loop μ-loop
+mul-q c = omega arith
+
+-- src/list.rt:50:21
+element-copy-out-q : tie.Need-element-copy-out-q Inv-loop μ-loop
+element-copy-out-q c = omega arith
+
+-- src/list.rt:51:24
+order-key-requires : tie.Need-order-key-requires Inv-loop μ-loop
+order-key-requires c κs = tt
+
+-- src/list.rt:51:60
+order-key-requires-2 : tie.Need-order-key-requires-2 Inv-loop μ-loop
+order-key-requires-2 c κs = tt
+
+-- src/list.rt:52:13
+add-i : tie.Need-add-i Inv-loop μ-loop
+add-i c = omega arith
+
+-- src/list.rt:48:9
+loop-less : tie.Need-loop-less Inv-loop μ-loop
+loop-less c = omega arith
+
+-- src/list.rt:48:9
+loop-again : tie.Need-loop-again Inv-loop μ-loop
+loop-again c =
+    let len = places (c .before .before .before .before .before .before .before .args .t1) _ (c .before .before .before .before .before .before .before .good .0) in
+    (omega arith, omega arith, cc (rising-next timeKey (c .before .before .before .before .before .before .before .args .t1 .places) (c .before .before .before .before .before .loop .i) anyPoint (omega arith) (omega arith)))
+
+-- src/list.rt:42:5
+returns : tie.Need-returns Inv-loop μ-loop
+returns c =
+    let ps = c .before .before .before .args .t1 in
+    c .before .loop .inv .2 ∙ rising-end timeKey (ps .places) (c .before .loop .i) (c .before .before .used .result) (omega arith) (omega arith) (omega arith)
+    ∙ ap rising (ap (λ (k : ℕ). take k (ps .places)) (c .before .before .used .ensures) ∙ take-min (ps .count) (ps .places) 256 (places ps _ (c .before .before .before .good .0)))
+
+pub times-rise-spec : {M : Type 1} → statement M
+times-rise-spec =
+    tie.close
+    (tie.spec
+    Inv-loop
+    μ-loop
+    used-requires
+    loop-holds
+    sub-p
+    mul-p
+    element-copy-out-p
+    mul-q
+    element-copy-out-q
+    order-key-requires
+    order-key-requires-2
+    add-i
+    loop-less
+    loop-again
+    returns)

@@ -1,0 +1,22 @@
+use mathlib.Core.Path.{ap}
+use mathlib.Core.List.{[]}
+use lib.ListN.{replicate}
+use Rattle.points.specs.declared.AutomationPoint.{AutomationPoint}
+use Rattle.points.specs.declared.Points.{Points}
+use borrow.Author.Needs.{needs}
+use Rattle.points.proofs.list.none.Statement.{statement}
+use Rattle.points.proofs.list.none.Tie as tie
+use Rattle.points.proofs.list.none.Reads as reads
+use Rattle.points.proofs.list.none.Lts as lts
+use Rattle.points.proofs.point.unused.Reads as unused-reads
+
+-- src/list.rt:13:9
+unused-requires : tie.Need-unused-requires
+unused-requires c κs = search needs
+
+-- src/list.rt:10:1
+returns : tie.Need-returns
+returns c = ap {B = Points} (λ (p : AutomationPoint). record { count = 0; places = replicate 256 p }) (c .unused .ensures)
+
+pub none-spec : {M : Type 1} → statement M
+none-spec = tie.close (tie.spec unused-requires returns)

@@ -1,0 +1,14 @@
+use mathlib.Core.Path.{refl}
+use lib.Ieee.{ofBits}
+use Rattle.points.proofs.point.unused.Statement.{statement}
+use Rattle.points.proofs.point.unused.Tie as tie
+use Rattle.points.proofs.point.unused.Reads as reads
+use Rattle.points.proofs.point.unused.Lts as lts
+
+-- src/point.rt:32:1
+returns : tie.Need-returns
+unfolding ofBits
+returns c = refl
+
+pub unused-spec : {M : Type 1} → statement M
+unused-spec = tie.close (tie.spec returns)

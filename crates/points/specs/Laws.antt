@@ -1,0 +1,127 @@
+-- Laws of lists and of the tests over them, for any element. Assumes nothing.
+use Prim.Native.Nat.{ℕ, zero, suc, _+_, _-_, _≤_, _<_, min, max}
+use mathlib.Core.Path.{_≡_, refl, sym, ap, _∙_}
+use mathlib.Core.Bool.{Bool, true, false, _&&_, false≢true}
+use mathlib.Core.List.{List, [], _∷_, _++_}
+use native.Mathlib.Numerals.{add-one}
+use native.Mathlib.Nat.{le-of-suc-le-suc, not-suc-le-zero}
+use native.Mathlib.Omega.{arith}
+use lib.Dec.{ltb, leb}
+use borrow.Author.Tests.{leb-true, leb-false}
+use lib.ListN.{length, take, drop, getD, length-drop}
+use lib.Seq.{take-suc, take-all, getD-drop}
+use Rattle.points.specs.Points.{every, everyPair, risingBy}
+
+-- ---- tests
+
+pub and-assoc : (a b c : Bool) → (a && b) && c ≡ a && (b && c)
+and-assoc true b c = refl
+and-assoc false b c = refl
+
+pub and-true : (a : Bool) → a && true ≡ a
+and-true true = refl
+and-true false = refl
+
+pub and-false : (a : Bool) → a && false ≡ false
+and-false true = refl
+and-false false = refl
+
+pub and-left : (a b : Bool) → (a && b) ≡ true → a ≡ true
+and-left true b h = refl
+and-left false b h = h
+
+pub and-right : (a b : Bool) → (a && b) ≡ true → b ≡ true
+and-right true b h = h
+and-right false b h = absurd (false≢true h)
+
+pub and-both : {a a′ b b′ : Bool} → a ≡ a′ → b ≡ b′ → (a && b) ≡ (a′ && b′)
+and-both p q = λ i. p i && q i
+
+module _ {A : Type 0} where
+  -- ---- a test of each element
+
+  pub every-append : (q : A → Bool) (xs ys : List A) → every q (xs ++ ys) ≡ (every q xs && every q ys)
+  unfolding every
+  every-append q [] ys = refl
+  every-append q (x ∷ xs) ys = rw (every-append q xs ys) (sym (and-assoc (q x) (every q xs) (every q ys)))
+
+  pub every-one : (q : A → Bool) (x : A) → every q (x ∷ []) ≡ q x
+  unfolding every
+  every-one q x = and-true (q x)
+
+  -- one more element
+  pub every-more : (q : A → Bool) (l : List A) (i : ℕ) (d : A) → i < length l → every q (take (i + 1) l) ≡ (every q (take i l) && q (getD l i d))
+  every-more q l i d h = rw (add-one, take-suc l i d h, every-append) (ap (λ (b : Bool). every q (take i l) && b) (every-one q (getD l i d)))
+
+  -- one more from a place on
+  pub every-rest : (q : A → Bool) (l : List A) (i j : ℕ) (d : A) → i ≤ j → j < length l → every q (take (j + 1 - i) (drop i l)) ≡ (every q (take (j - i) (drop i l)) && q (getD l j d))
+  every-rest q l i j d h k =
+      let e : j + 1 - i ≡ (j - i) + 1 = omega arith in
+      let w : i + (j - i) ≡ j = omega arith in
+      rw e (every-more q (drop i l) (j - i) d (simp length-drop (omega arith)) ∙ rw (getD-drop, w))
+
+  -- ---- keys that rise
+
+  rising-more : (key : A → ℕ) (l : List A) (i : ℕ) (d : A) → suc i < length l
+      → risingBy key (take (suc (suc i)) l) ≡ (risingBy key (take (suc i) l) && ltb (key (getD l i d)) (key (getD l (suc i) d)))
+  unfolding risingBy
+  rising-more key [] i d h = absurd (not-suc-le-zero h)
+  rising-more key (x ∷ []) i d h = absurd (not-suc-le-zero (le-of-suc-le-suc h))
+  rising-more key (x ∷ (y ∷ l)) zero d h = and-true (ltb (key x) (key y))
+  rising-more key (x ∷ (y ∷ l)) (suc i) d h =
+      ap (λ (b : Bool). ltb (key x) (key y) && b) (rising-more key (y ∷ l) i d (le-of-suc-le-suc h))
+      ∙ sym (and-assoc (ltb (key x) (key y)) _ _)
+
+  -- one more element, as a loop has it: the one at i, after those before it
+  pub rising-next : (key : A → ℕ) (l : List A) (i : ℕ) (d : A) → 0 < i → i < length l
+      → risingBy key (take (i + 1) l) ≡ (risingBy key (take i l) && ltb (key (getD l (i - 1) d)) (key (getD l i d)))
+  rising-next key l zero d p h = absurd (not-suc-le-zero p)
+  rising-next key l (suc k) d p h = let e : suc k - 1 ≡ k = omega arith in rw (add-one, e) (rising-more key l k d h)
+
+  pub rising-one : (key : A → ℕ) (l : List A) → risingBy key (take 1 l) ≡ true
+  unfolding risingBy
+  rising-one key [] = refl
+  rising-one key (x ∷ l) = refl
+
+  -- where the loop ends: at n, or at 1 where n is 0
+  pub rising-end : (key : A → ℕ) (l : List A) (i n : ℕ) → 1 ≤ i → i ≤ max 1 n → n ≤ i → risingBy key (take i l) ≡ risingBy key (take n l)
+  unfolding risingBy
+  rising-end key l i zero p q r = let e : i ≡ 1 = omega arith in rw e (rising-one key l)
+  rising-end key l i (suc n) p q r = let e : i ≡ suc n = omega arith in rw e
+
+  -- ---- no more places than there are
+
+  pub take-min : (n : ℕ) (l : List A) (k : ℕ) → length l ≡ k → take (min n k) l ≡ take n l
+  take-min n l k h = go (leb n k) refl
+    where
+      go : (b : Bool) → leb n k ≡ b → take (min n k) l ≡ take n l
+      go true e = let m : min n k ≡ n = omega (arith, leb-true n k e) in rw m
+      go false e = take-all (min n k) l (omega (arith, leb-false n k e)) ∙ sym (take-all n l (omega (arith, leb-false n k e)))
+
+  -- ---- a test of each pair
+
+  pub pair-none : (q : A → A → Bool) → true ≡ everyPair q [] []
+  unfolding everyPair
+  pair-none q = refl
+
+  pair-step : (q : A → A → Bool) (l m : List A) (i : ℕ) (d : A) → i < length l → i < length m
+      → everyPair q (take (suc i) l) (take (suc i) m) ≡ (everyPair q (take i l) (take i m) && q (getD l i d) (getD m i d))
+  unfolding everyPair
+  pair-step q [] m i d h k = absurd (not-suc-le-zero h)
+  pair-step q (x ∷ l) [] i d h k = absurd (not-suc-le-zero k)
+  pair-step q (x ∷ l) (y ∷ m) zero d h k = and-true (q x y)
+  pair-step q (x ∷ l) (y ∷ m) (suc i) d h k =
+      ap (λ (b : Bool). q x y && b) (pair-step q l m i d (le-of-suc-le-suc h) (le-of-suc-le-suc k)) ∙ sym (and-assoc (q x y) _ _)
+
+  -- one more pair
+  pub pair-more : (q : A → A → Bool) (l m : List A) (i : ℕ) (d : A) → i < length l → i < length m
+      → everyPair q (take (i + 1) l) (take (i + 1) m) ≡ (everyPair q (take i l) (take i m) && q (getD l i d) (getD m i d))
+  pair-more q l m i d h k = rw add-one (pair-step q l m i d h k)
+
+  -- lists of other lengths
+  pub pair-length : (q : A → A → Bool) (l m : List A) → (length l ≡ length m → ⊥) → everyPair q l m ≡ false
+  unfolding everyPair
+  pair-length q [] [] h = absurd (h refl)
+  pair-length q [] (y ∷ m) h = refl
+  pair-length q (x ∷ l) [] h = refl
+  pair-length q (x ∷ l) (y ∷ m) h = rw (pair-length q l m (λ e. h (ap suc e))) (and-false (q x y))
