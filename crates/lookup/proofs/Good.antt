@@ -11,7 +11,7 @@ use denote.Struct.Declared.{row}
 use Rattle.points.specs.Points.{validPoints}
 use Rattle.points.specs.declared.Points.{Points}
 use Rattle.points.proofs.Points.{the-type}
-use Rattle.lookup.specs.LookupLaws.{valid-count}
+use Rattle.points.specs.ValidLaws.{valid-count}
 
 -- there are 256 places
 pub places : (ps : Points) (vs : List Val) → Is (row the-type) ps vs → length (ps .places) ≡ 256

@@ -16,7 +16,8 @@ use Rattle.points.specs.Refusal.{Said, gives}
 use Rattle.points.specs.declared.AutomationPoint.{AutomationPoint}
 use Rattle.points.specs.declared.SamplePosition.the-variants as position
 use Rattle.lookup.specs.Limits.{constrained}
-use Rattle.lookup.specs.Lookup.{placeBy, surrounded, fraction, rawAt, rawAtSample, getValueAt, getValueAtSample}
+use Rattle.lookup.specs.Lookup.{surrounded, fraction, rawAt, rawAtSample, getValueAt, getValueAtSample}
+use Rattle.points.specs.Search.{placeBy}
 use Rattle.lookup.specs.declared.Limit.{Limit}
 use Rattle.lookup.specs.declared.Limit.the-variants as limit
 use Rattle.lookup.specs.declared.Limits.{Limits}

@@ -2,6 +2,8 @@
 pub mod Limits
 pub mod Lookup
 pub mod Render
-pub mod Search
 pub mod LookupLaws
+pub mod Runs
+pub mod RenderLaws
+pub mod Writer
 pub mod Examples

@@ -12,6 +12,7 @@ use Rattle.numbers.specs.Order.{orderKey}
 use Rattle.curve.specs.Curve.{interpolated}
 use Rattle.points.specs.Point.{anyPoint}
 use Rattle.points.specs.Points.{listOf, risingBy, timeKey}
+use Rattle.points.specs.Search.{placeBy}
 use Rattle.points.specs.Refusal.{Said, refuses, gives, number}
 use Rattle.points.specs.declared.AutomationPoint.{AutomationPoint}
 use Rattle.points.specs.declared.Points.{Points}
@@ -27,11 +28,6 @@ pointAt l i = getD l i anyPoint
 
 abbrev pub lastPoint : List AutomationPoint → AutomationPoint
 lastPoint l = pointAt l (length l - 1)
-
--- how many elements at the start have a key below k: where a search by that key ends
-unfoldable pub placeBy : {A : Type 0} → (A → ℕ) → ℕ → List A → ℕ
-placeBy key k [] = 0
-placeBy key k (x ∷ l) = cond (ltb (key x) k) (suc (placeBy key k l)) 0
 
 -- 000's search for the surrounding points, over any key: "at an inner point's own time .. both ends are that point"; before the first and past the last there is none
 unfoldable pub surrounded : {A : Type 0} → (AutomationPoint → ℕ) → ℕ → (AutomationPoint → AutomationPoint → A) → List AutomationPoint → Option A

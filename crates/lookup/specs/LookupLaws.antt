@@ -10,18 +10,20 @@ use lib.Dec.{leb}
 use lib.ListN.{length, take}
 use lib.Seq.{getD-take, length-take-le}
 use lib.Ieee.{Float, le}
-use borrow.Author.Tests.{lt-ltb, le-ltb, eq-eqb, ne-eqb, le-leb, lt-leb, leb-true}
+use borrow.Author.Tests.{lt-ltb, le-ltb, eq-eqb, ne-eqb, le-leb, lt-leb}
 use Rattle.numbers.specs.Order.{orderKey}
-use Rattle.points.specs.Laws.{and-left, and-right}
-use Rattle.points.specs.Point.{anyPoint, finitePoint, isUnused}
-use Rattle.points.specs.Points.{listOf, restOf, every, risingBy, rising, timeKey, validPoints}
+use Rattle.points.specs.Point.{anyPoint}
+use Rattle.points.specs.Points.{listOf, risingBy, timeKey}
 use Rattle.points.specs.declared.Points.{Points}
 use Rattle.points.specs.Refusal.{gives}
 use Rattle.points.specs.declared.AutomationPoint.{AutomationPoint}
-use Rattle.lookup.specs.Lookup.{pointAt, lastPoint, placeBy, surrounded, between, rawAt, keyFrom, sampleKey, betweenSamples, rawAtSample, heard, keysRise, told, constrainedAnswer}
+use Rattle.lookup.specs.Lookup.{pointAt, lastPoint, surrounded, between, rawAt, keyFrom, sampleKey, betweenSamples, rawAtSample, heard, keysRise, told, constrainedAnswer}
+use Rattle.points.specs.Search.{placeBy}
 use Rattle.lookup.specs.declared.Limits.{Limits}
 use Rattle.lookup.specs.declared.Lookup.{Lookup}
 use Rattle.lookup.specs.declared.Lookup.the-variants.{Silent, Value, Refused}
+-- what validity tells of the points
+pub use Rattle.points.specs.ValidLaws.{valid-count, valid-finite, valid-rising}
 
 -- ---- between the first point and the last: by the place i that the search ends at
 
@@ -189,17 +191,3 @@ keys-rise-is ps true on = refl
 pub keys-rise-off : (ps : Points) (enabled : Bool) → enabled ≡ false → keysRise ps enabled ≡ true
 keys-rise-off ps false off = refl
 keys-rise-off ps true off = absurd (false≢true (sym off))
-
--- ---- what validity tells
-
-pub valid-count : (ps : Points) → validPoints ps ≡ true → ps .count ≤ 256
-unfolding validPoints
-valid-count ps v = leb-true (ps .count) 256 (and-left (leb (ps .count) 256) _ v)
-
-pub valid-finite : (ps : Points) → validPoints ps ≡ true → every finitePoint (listOf ps) ≡ true
-unfolding validPoints
-valid-finite ps v = and-left (every finitePoint (listOf ps)) _ (and-left _ (every isUnused (restOf ps)) (and-right (leb (ps .count) 256) _ v))
-
-pub valid-rising : (ps : Points) → validPoints ps ≡ true → rising (listOf ps) ≡ true
-unfolding validPoints
-valid-rising ps v = and-right (every finitePoint (listOf ps)) _ (and-left _ (every isUnused (restOf ps)) (and-right (leb (ps .count) 256) _ v))

@@ -1,9 +1,303 @@
 // Rendering into a lent buffer, and the walk over the samples.
 ghost use mathlib.Core.Path.{_≡_};
+ghost use mathlib.Core.Bool.{true};
+ghost use mathlib.Core.List.{map};
+ghost use Prim.Native.Nat.{_+_, _<_, _≤_};
+ghost use lib.ListN.{length, take, replicate};
+ghost use Rattle.points.specs.Points.{listOf, validPoints, risingBy, timeKey};
+ghost use Rattle.points.specs.Refusal.{said};
+ghost use Rattle.points.specs.Search.{placeBy};
+ghost use Rattle.lookup.specs.Render.{sampleAt, run, runInto, render, toBuffer};
+ghost use Rattle.lookup.specs.Writer.{itself, segmentOf, segmentAround, segmentAt, outsideAt, Stretch};
+use crate::Limits;
+use curve::CurveType;
+use points::AutomationPoint;
+use points::Points;
+use points::refusal::Answer;
+use points::refusal::Refusal;
 
 // 000's SampleIterator, without its borrow.
 pub struct SampleIterator {
     pub sample_rate: f64,
     pub current_sample: u64,
     pub total_samples: u64,
+}
+
+// The way from one point to the next.
+struct Segment {
+    from: f64,
+    to: f64,
+    start: f32,
+    end: f32,
+    curve: CurveType,
+}
+
+// The times of the first point and the last, and their values, constrained.
+struct Ends {
+    first: f64,
+    early: f32,
+    last: f64,
+    late: f32,
+}
+
+impl Segment {
+    fn new(p: AutomationPoint, q: AutomationPoint) -> Segment
+        ensures { λ r. ⌜ r ≡ segmentOf p q ⌝ }
+    {
+        let curve = p.curve;
+        Segment {
+            from: p.time,
+            to: q.time,
+            start: p.value,
+            end: q.value,
+            curve,
+        }
+    }
+
+    // Between p and q, or at q where it is q's key.
+    fn around(p: AutomationPoint, q: AutomationPoint, key: u64) -> Segment
+        ensures { λ r. ⌜ r ≡ segmentAround key p q ⌝ }
+    {
+        if numbers::order::order_key(q.time) == key {
+            Segment::new(q, q)
+        } else {
+            Segment::new(p, q)
+        }
+    }
+
+    fn value_at(self, limits: Limits, time: f64) -> f32
+        ensures { λ r. ⌜ r ≡ segmentAt limits self time ⌝ }
+    {
+        let c = self.curve;
+        let t = crate::time::fraction(self.from, self.to, time);
+        limits.apply_constraints(c.interpolate(self.start, self.end, t))
+    }
+}
+
+impl Ends {
+    // The value at a time that no segment holds; 0.0 at a NaN.
+    fn value_at(self, time: f64) -> f32
+        ensures { λ r. ⌜ r ≡ outsideAt self time ⌝ }
+    {
+        if time <= self.first {
+            self.early
+        } else if time >= self.last {
+            self.late
+        } else {
+            0.0
+        }
+    }
+}
+
+fn fill(v: f32, out: &mut [f32])
+    ensures { λ _. ⌜ now (out .exit) ≡ replicate (length (now (out .entry))) v ⌝ }
+{
+    let mut i: usize = 0;
+    while i < out.len() {
+        out[i] = v;
+        i += 1;
+    }
+}
+
+// The points' keys, in the first places.
+fn time_keys(points: Points) -> [u64; 256]
+    ensures { λ r. ⌜ take (points .count) r ≡ map timeKey (listOf points) ⌝ }
+{
+    let n = points.used();
+    let mut keys: [u64; 256] = [0; 256];
+    let mut i: usize = 0;
+    while i < n {
+        let p = points.places[i];
+        keys[i] = numbers::order::order_key(p.time);
+        i += 1;
+    }
+    keys
+}
+
+// How many of the first n keys are below a key, by a binary search.
+fn search(keys: &[u64; 256], n: usize, key: u64) -> usize
+    requires { ⌜ (n ≤ 256) × (n ≤ length (now keys)) × (risingBy itself (take n (now keys)) ≡ true) ⌝ }
+    ensures { λ r. ⌜ r ≡ placeBy itself key (take n (now (keys .entry))) ⌝ }
+{
+    let mut low: usize = 0;
+    let mut high: usize = n;
+    while low < high {
+        let mid = low + (high - low) / 2;
+        if keys[mid] < key {
+            low = mid + 1;
+        } else {
+            high = mid;
+        }
+    }
+    low
+}
+
+// The first sample, and those after it while their times lie inside the segment; how many they are.
+fn write_stretch(seg: Segment, limits: Limits, rate: f64, first: u32, out: &mut [f32]) -> usize
+    requires { ⌜ (0 < length (now out)) × (first + length (now out) ≤ 4294967295) ⌝ }
+    ensures { λ r. ⌜ Stretch seg limits rate first (now (out .entry)) (now (out .exit)) r ⌝ }
+{
+    out[0] = seg.value_at(limits, first as f64 / rate);
+    let mut i: usize = 1;
+    let mut k: u32 = first + 1;
+    while i < out.len() {
+        let time = k as f64 / rate;
+        if (seg.from < time) & (time < seg.to) {
+            out[i] = seg.value_at(limits, time);
+            i += 1;
+            k += 1;
+        } else {
+            return i;
+        }
+    }
+    i
+}
+
+// The samples of two or more points. Each segment is searched for once and serves while the times stay inside it.
+fn write_segments(points: Points, limits: Limits, rate: f64, first: u32, out: &mut [f32])
+    requires { ⌜ (validPoints points ≡ true) × (2 ≤ points .count) × (first + length (now out) ≤ 4294967295) ⌝ }
+    ensures { λ _. ⌜ now (out .exit) ≡ run (sampleAt points true limits rate) first (length (now (out .entry))) ⌝ }
+{
+    let n = points.count;
+    let p = points.places[0];
+    let q = points.places[n - 1];
+    let ends = Ends {
+        first: p.time,
+        early: limits.apply_constraints(p.value),
+        last: q.time,
+        late: limits.apply_constraints(q.value),
+    };
+    let keys = time_keys(points);
+    let end = out.len();
+    let mut i: usize = 0;
+    let mut k: u32 = first;
+    while i < end {
+        let time = k as f64 / rate;
+        if (ends.first < time) & (time < ends.last) {
+            let key = numbers::order::order_key(time);
+            let j = search(&keys, n, key);
+            let a = points.places[j - 1];
+            let b = points.places[j];
+            let seg = Segment::around(a, b, key);
+            let m = write_stretch(seg, limits, rate, k, &mut out[i..end]);
+            i += m;
+            k += m as u32;
+        } else {
+            out[i] = ends.value_at(time);
+            i += 1;
+            k += 1;
+        }
+    }
+}
+
+// The sample writer: the samples from the first on, one for each place.
+fn write_samples(
+    points: Points,
+    enabled: bool,
+    limits: Limits,
+    rate: f64,
+    first: u64,
+    out: &mut [f32],
+)
+    requires { ⌜ (validPoints points ≡ true) × (first + length (now out) ≤ 4294967295) ⌝ }
+    ensures { λ _. ⌜ now (out .exit) ≡ run (sampleAt points enabled limits rate) first (length (now (out .entry))) ⌝ }
+{
+    let n = points.count;
+    if enabled {
+        if n == 0 {
+            fill(0.0, out);
+        } else if n == 1 {
+            let p = points.places[0];
+            fill(limits.apply_constraints(p.value), out);
+        } else {
+            write_segments(points, limits, rate, first as u32, out);
+        }
+    } else {
+        fill(0.0, out);
+    }
+}
+
+// A run of a valid envelope at a finite rate, with the refusals that are left.
+fn run_into(
+    points: Points,
+    enabled: bool,
+    limits: Limits,
+    rate: f64,
+    first: u64,
+    count: u64,
+    out: &mut [f32],
+    place: usize,
+) -> Answer
+    requires { ⌜ validPoints points ≡ true ⌝ }
+    ensures { λ r. ⌜ said r ≡ runInto (sampleAt points enabled limits rate) first count place (now (out .entry)) .said ⌝ }
+    ensures { λ _. ⌜ now (out .exit) ≡ runInto (sampleAt points enabled limits rate) first count place (now (out .entry)) .buffer ⌝ }
+{
+    if first > 4294967295 {
+        Answer::Refused(Refusal::TooManySamples)
+    } else if count > 4294967295 - first {
+        Answer::Refused(Refusal::TooManySamples)
+    } else if count == 0 {
+        Answer::Accepted
+    } else if place > out.len() {
+        Answer::Refused(Refusal::NoRoom)
+    } else {
+        let n = count as usize;
+        if n > out.len() - place {
+            Answer::Refused(Refusal::NoRoom)
+        } else {
+            let end = place + n;
+            write_samples(points, enabled, limits, rate, first, &mut out[place..end]);
+            Answer::Accepted
+        }
+    }
+}
+
+// Writes count samples, from the first on, into the buffer's places from the stated one on.
+pub fn render(
+    points: Points,
+    enabled: bool,
+    limits: Limits,
+    rate: f64,
+    first: u64,
+    count: u64,
+    out: &mut [f32],
+    place: usize,
+) -> Answer
+    ensures { λ r. ⌜ said r ≡ render points enabled limits rate first count place (now (out .entry)) .said ⌝ }
+    ensures { λ _. ⌜ now (out .exit) ≡ render points enabled limits rate first count place (now (out .entry)) .buffer ⌝ }
+{
+    if crate::is_valid(points, limits) {
+        if numbers::order::is_finite(rate) {
+            run_into(points, enabled, limits, rate, first, count, out, place)
+        } else {
+            Answer::Refused(Refusal::NotFinite)
+        }
+    } else {
+        Answer::Refused(Refusal::NotValid)
+    }
+}
+
+// 000's to_buffer.
+pub fn to_buffer(
+    points: Points,
+    enabled: bool,
+    limits: Limits,
+    rate: f64,
+    duration: f64,
+    out: &mut [f32],
+    place: usize,
+) -> Answer
+    ensures { λ r. ⌜ said r ≡ toBuffer points enabled limits rate duration place (now (out .entry)) .said ⌝ }
+    ensures { λ _. ⌜ now (out .exit) ≡ toBuffer points enabled limits rate duration place (now (out .entry)) .buffer ⌝ }
+{
+    if crate::is_valid(points, limits) {
+        if numbers::order::is_finite(rate) & numbers::order::is_finite(duration) {
+            let count = numbers::convert::f64_to_u64(duration * rate);
+            run_into(points, enabled, limits, rate, 0, count, out, place)
+        } else {
+            Answer::Refused(Refusal::NotFinite)
+        }
+    } else {
+        Answer::Refused(Refusal::NotValid)
+    }
 }

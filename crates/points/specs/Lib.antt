@@ -2,5 +2,9 @@
 pub mod Refusal
 pub mod Point
 pub mod Points
+-- Laws that the crates above cite too.
 pub mod Laws
 pub mod ValidLaws
+pub mod FloatLaws
+pub mod Search
+pub mod Middles

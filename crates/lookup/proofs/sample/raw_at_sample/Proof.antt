@@ -5,9 +5,10 @@ use mathlib.Core.Option.{some}
 use native.Mathlib.Omega.{arith}
 use Rattle.points.specs.Point.{anyPoint}
 use Rattle.points.specs.Refusal.{gives}
+use Rattle.points.specs.ValidLaws.{valid-count}
 use Rattle.lookup.specs.Lookup.{sampleKey}
-use Rattle.lookup.specs.Search.{Searching, search-start, search-up, search-down, search-end}
-use Rattle.lookup.specs.LookupLaws.{sample-none, sample-one, sample-first, sample-last, sample-at-point, sample-between, sample-before, sample-past, valid-count}
+use Rattle.points.specs.Search.{Searching, search-start, search-up, search-down, search-end}
+use Rattle.lookup.specs.LookupLaws.{sample-none, sample-one, sample-first, sample-last, sample-at-point, sample-between, sample-before, sample-past}
 use Rattle.lookup.proofs.Good.{inside}
 use Rattle.lookup.proofs.sample.raw_at_sample.Statement.{statement}
 use Rattle.lookup.proofs.sample.raw_at_sample.Tie as tie

@@ -7,8 +7,9 @@ use Rattle.numbers.specs.Order.{orderKey}
 use Rattle.points.specs.Point.{anyPoint}
 use Rattle.points.specs.Points.{timeKey}
 use Rattle.points.specs.Refusal.{gives}
-use Rattle.lookup.specs.Search.{Searching, search-start, search-up, search-down, search-end}
-use Rattle.lookup.specs.LookupLaws.{raw-none, raw-one, raw-first, raw-last, raw-at-point, raw-between, raw-before, raw-past, valid-count, valid-rising}
+use Rattle.points.specs.ValidLaws.{valid-count, valid-rising}
+use Rattle.points.specs.Search.{Searching, search-start, search-up, search-down, search-end}
+use Rattle.lookup.specs.LookupLaws.{raw-none, raw-one, raw-first, raw-last, raw-at-point, raw-between, raw-before, raw-past}
 use Rattle.lookup.proofs.Good.{inside}
 use Rattle.lookup.proofs.time.raw_at.Statement.{statement}
 use Rattle.lookup.proofs.time.raw_at.Tie as tie

@@ -2,7 +2,7 @@ use mathlib.Core.Path.{sym}
 use lib.IntN.{negsuc}
 use lib.Ieee.{binary32, binary64, sub, ofBits}
 use Rattle.points.specs.Laws.{and-both}
-use Rattle.points.proofs.Floats.{abs-below}
+use Rattle.points.specs.FloatLaws.{abs-below}
 use Rattle.points.proofs.AutomationPoint.same.Statement.{statement}
 use Rattle.points.proofs.AutomationPoint.same.Tie as tie
 use Rattle.points.proofs.AutomationPoint.same.Reads as reads

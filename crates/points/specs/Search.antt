@@ -11,9 +11,13 @@ use lib.Dec.{ltb}
 use lib.ListN.{length, getD, take}
 use lib.Seq.{getD-take, length-take-le}
 use borrow.Author.Tests.{ltb-true, ltb-false, lt-ltb, le-ltb}
 use Rattle.points.specs.Points.{risingBy}
 use Rattle.points.specs.Laws.{and-left, and-right}
-use Rattle.lookup.specs.Lookup.{placeBy}
+
+-- how many elements at the start have a key below k: where a search by that key ends
+unfoldable pub placeBy : {A : Type 0} → (A → ℕ) → ℕ → List A → ℕ
+placeBy key k [] = 0
+placeBy key k (x ∷ l) = cond (ltb (key x) k) (suc (placeBy key k l)) 0
 
 pub record Searching {A : Type 0} (key : A → ℕ) (d : A) (k : ℕ) (l : List A) (n low high : ℕ) : Type 0 where
   pub ordered : low ≤ high

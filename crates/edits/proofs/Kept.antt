@@ -1,0 +1,218 @@
+-- Laws of the edits that change which points there are: what one more element does to what a loop keeps. Assumes nothing.
+use Prim.Native.Nat.{ℕ, zero, suc, _+_, _-_, _≤_, _<_, zero-le, suc-le-suc}
+use mathlib.Core.Path.{_≡_, refl, sym, ap, _∙_}
+use mathlib.Core.Bool.{Bool, true, false, cond, not, _&&_, false≢true}
+use mathlib.Core.List.{List, [], _∷_, _++_, map, append-nil, reverse, reverse-cons}
+use native.Mathlib.Numerals.{add-one}
+use native.Mathlib.Nat.{le-of-suc-le-suc, not-suc-le-zero}
+use native.Mathlib.Omega.{arith}
+use lib.Dec.{eqb}
+use lib.Ieee.{Float}
+use lib.ListN.{length, take, getD, length-append}
+use lib.Seq.{take-suc}
+use borrow.Author.Tests.{eqb-true, not-true}
+use Rattle.points.specs.Points.{every, timeKey, listOf, validPoints}
+use Rattle.points.specs.Laws.{and-left, and-right}
+use Rattle.points.specs.Middles.{middles, keep-cons, keep-one}
+use Rattle.points.specs.ValidLaws.{listOf-holding, holding-listOf}
+use Rattle.points.specs.declared.AutomationPoint.{AutomationPoint}
+use Rattle.points.specs.declared.Points.{Points}
+use Rattle.edits.specs.Finish.{mappedIn}
+use Rattle.edits.specs.Shape.{keepIf, removeFirst, firstsAfter, firsts, differs, innerKept, simplified}
+use Rattle.edits.proofs.Ends.{mapped-holding}
+
+-- a search that goes on while none has passed: the first is found
+pub none-here : (a b : Bool) → (a && b) ≡ true → false ≡ (a && not b)
+none-here true true h = refl
+none-here true false h = h
+none-here false b h = refl
+
+-- or it goes on, or has ended already
+pub none-past : (a b : Bool) → (a && b) ≡ false → a ≡ (a && not b)
+none-past true true h = h
+none-past true false h = refl
+none-past false b h = refl
+
+module _ {A : Type 0} where
+  -- ---- those that pass a test
+
+  keep-append : (q : A → Bool) (xs ys : List A) → keepIf q (xs ++ ys) ≡ keepIf q xs ++ keepIf q ys
+  unfolding keepIf
+  keep-append q [] ys = refl
+  keep-append q (x ∷ xs) ys = keep-cons (q x) x (keepIf q (xs ++ ys)) (keepIf q xs) (keepIf q ys) (keep-append q xs ys)
+
+  keep-more : (q : A → Bool) (l : List A) (i : ℕ) (d : A) → i < length l → keepIf q (take (i + 1) l) ≡ keepIf q (take i l) ++ cond (q (getD l i d)) (getD l i d ∷ []) []
+  unfolding keepIf
+  keep-more q l i d h = rw (add-one, take-suc l i d h) (keep-append q (take i l) (getD l i d ∷ []))
+
+  pub keep-yes : (q : A → Bool) (l : List A) (i : ℕ) (d : A) → i < length l → q (getD l i d) ≡ true → keepIf q (take (i + 1) l) ≡ keepIf q (take i l) ++ (getD l i d ∷ [])
+  keep-yes q l i d h y = keep-more q l i d h ∙ ap (λ (b : Bool). keepIf q (take i l) ++ cond b (getD l i d ∷ []) []) y
+
+  pub keep-no : (q : A → Bool) (l : List A) (i : ℕ) (d : A) → i < length l → q (getD l i d) ≡ false → keepIf q (take (i + 1) l) ≡ keepIf q (take i l)
+  keep-no q l i d h y = keep-more q l i d h ∙ ap (λ (b : Bool). keepIf q (take i l) ++ cond b (getD l i d ∷ []) []) y ∙ append-nil (keepIf q (take i l))
+
+  pub keep-few : (q : A → Bool) (l : List A) → length (keepIf q l) ≤ length l
+  unfolding keepIf
+  keep-few q [] = zero-le
+  keep-few q (x ∷ l) = keep-one (q x) x (keepIf q l) (length l) (keep-few q l)
+
+  -- ---- all but the first that passes a test
+
+  -- none passes it
+  abbrev pub noneOf : (A → Bool) → List A → Bool
+  noneOf q l = every (λ x. not (q x)) l
+
+  remove-none : (q : A → Bool) (xs ys : List A) → noneOf q xs ≡ true → removeFirst q (xs ++ ys) ≡ xs ++ removeFirst q ys
+  unfolding removeFirst every
+  remove-none q [] ys h = refl
+  remove-none q (x ∷ xs) ys h =
+      rw (not-true (q x) (and-left (not (q x)) (noneOf q xs) h))
+      (ap (λ (l : List A). x ∷ l) (remove-none q xs ys (and-right (not (q x)) (noneOf q xs) h)))
+
+  some-cons : (b n : Bool) (x : A) (xs ys k ks : List A) → (not b && n) ≡ false → (n ≡ false → k ≡ ks ++ ys) → cond b (xs ++ ys) (x ∷ k) ≡ cond b xs (x ∷ ks) ++ ys
+  some-cons true n x xs ys k ks h e = refl
+  some-cons false n x xs ys k ks h e = ap (λ (l : List A). x ∷ l) (e h)
+
+  remove-some : (q : A → Bool) (xs ys : List A) → noneOf q xs ≡ false → removeFirst q (xs ++ ys) ≡ removeFirst q xs ++ ys
+  unfolding removeFirst every
+  remove-some q [] ys h = absurd (false≢true (sym h))
+  remove-some q (x ∷ xs) ys h = some-cons (q x) (noneOf q xs) x xs ys (removeFirst q (xs ++ ys)) (removeFirst q xs) h (remove-some q xs ys)
+
+  remove-one : (q : A → Bool) (x : A) → removeFirst q (x ∷ []) ≡ cond (q x) [] (x ∷ [])
+  unfolding removeFirst
+  remove-one q x = refl
+
+  remove-nil : (q : A → Bool) → removeFirst q [] ≡ []
+  unfolding removeFirst
+  remove-nil q = refl
+
+  -- the first: it goes
+  pub remove-here : (q : A → Bool) (l : List A) (i : ℕ) (d : A) → i < length l → (noneOf q (take i l) && q (getD l i d)) ≡ true → removeFirst q (take (i + 1) l) ≡ removeFirst q (take i l)
+  remove-here q l i d h y =
+      let n = and-left (noneOf q (take i l)) (q (getD l i d)) y in
+      let p = and-right (noneOf q (take i l)) (q (getD l i d)) y in
+      let whole : removeFirst q (take i l) ≡ take i l =
+      ap (removeFirst q) (sym (append-nil (take i l))) ∙ remove-none q (take i l) [] n ∙ ap (λ (k : List A). take i l ++ k) (remove-nil q) ∙ append-nil (take i l) in
+      rw (add-one, take-suc l i d h)
+      (remove-none q (take i l) (getD l i d ∷ []) n ∙ ap (λ (k : List A). take i l ++ k) (remove-one q (getD l i d) ∙ ap (λ (b : Bool). cond b [] (getD l i d ∷ [])) p)
+      ∙ append-nil (take i l) ∙ sym whole)
+
+  -- any other stays
+  past : (q : A → Bool) (xs : List A) (x : A) (n b : Bool) → noneOf q xs ≡ n → q x ≡ b → (n && b) ≡ false → removeFirst q (xs ++ (x ∷ [])) ≡ removeFirst q xs ++ (x ∷ [])
+  past q xs x false b e f y = remove-some q xs (x ∷ []) e
+  past q xs x true b e f y =
+      remove-none q xs (x ∷ []) e ∙ ap (λ (k : List A). xs ++ k) (remove-one q x ∙ ap (λ (t : Bool). cond t [] (x ∷ [])) (f ∙ y))
+      ∙ ap (λ (k : List A). k ++ (x ∷ [])) (sym (ap (removeFirst q) (sym (append-nil xs)) ∙ remove-none q xs [] e ∙ ap (λ (k : List A). xs ++ k) (remove-nil q) ∙ append-nil xs))
+
+  pub remove-past : (q : A → Bool) (l : List A) (i : ℕ) (d : A) → i < length l → (noneOf q (take i l) && q (getD l i d)) ≡ false
+      → removeFirst q (take (i + 1) l) ≡ removeFirst q (take i l) ++ (getD l i d ∷ [])
+  remove-past q l i d h y = rw (add-one, take-suc l i d h) (past q (take i l) (getD l i d) (noneOf q (take i l)) (q (getD l i d)) refl refl y)
+
+  remove-cons : (b : Bool) (x : A) (l k : List A) → length k ≤ length l → length (cond b l (x ∷ k)) ≤ suc (length l)
+  remove-cons true x l k h = omega arith
+  remove-cons false x l k h = suc-le-suc h
+
+  pub remove-few : (q : A → Bool) (l : List A) → length (removeFirst q l) ≤ length l
+  unfolding removeFirst
+  remove-few q [] = zero-le
+  remove-few q (x ∷ l) = remove-cons (q x) x l (removeFirst q l) (remove-few q l)
+
+-- ---- neighbours at the same time: the first stays
+
+-- which point was kept last matters by its time alone
+after-same : (p q : AutomationPoint) (l : List AutomationPoint) → timeKey p ≡ timeKey q → firstsAfter p l ≡ firstsAfter q l
+unfolding firstsAfter
+after-same p q [] e = refl
+after-same p q (r ∷ l) e = λ i. cond (eqb (e i) (timeKey r)) (after-same p q l e i) (r ∷ firstsAfter r l)
+
+after-cons : (b : Bool) (x y : AutomationPoint) (t k c : List AutomationPoint) → eqb (timeKey x) (timeKey y) ≡ b → firstsAfter y t ≡ firstsAfter y k ++ c
+    → cond b (firstsAfter x t) (y ∷ firstsAfter y t) ≡ cond b (firstsAfter x k) (y ∷ firstsAfter y k) ++ c
+after-cons true x y t k c e h =
+    let s = eqb-true (timeKey x) (timeKey y) e in
+    after-same x y t s ∙ h ∙ ap (λ (l : List AutomationPoint). l ++ c) (sym (after-same x y k s))
+after-cons false x y t k c e h = ap (λ (l : List AutomationPoint). y ∷ l) h
+
+after-more : (x : AutomationPoint) (l : List AutomationPoint) (i : ℕ) (d : AutomationPoint) → i < length l
+    → firstsAfter x (take (suc i) l) ≡ firstsAfter x (take i l) ++ cond (eqb (timeKey (getD (x ∷ l) i d)) (timeKey (getD l i d))) [] (getD l i d ∷ [])
+unfolding firstsAfter
+after-more x [] i d h = absurd (not-suc-le-zero h)
+after-more x (y ∷ l) zero d h = refl
+after-more x (y ∷ l) (suc i) d h = after-cons (eqb (timeKey x) (timeKey y)) x y (take (suc i) l) (take i l) _ refl (after-more y l i d (le-of-suc-le-suc h))
+
+firsts-suc : (l : List AutomationPoint) (i : ℕ) (d : AutomationPoint) → suc i < length l
+    → firsts (take (suc (suc i)) l) ≡ firsts (take (suc i) l) ++ cond (eqb (timeKey (getD l i d)) (timeKey (getD l (suc i) d))) [] (getD l (suc i) d ∷ [])
+unfolding firsts
+firsts-suc [] i d h = absurd (not-suc-le-zero h)
+firsts-suc (x ∷ l) i d h = ap (λ (k : List AutomationPoint). x ∷ k) (after-more x l i d (le-of-suc-le-suc h))
+
+firsts-next : (l : List AutomationPoint) (i : ℕ) (d : AutomationPoint) → 0 < i → i < length l
+    → firsts (take (i + 1) l) ≡ firsts (take i l) ++ cond (eqb (timeKey (getD l (i - 1) d)) (timeKey (getD l i d))) [] (getD l i d ∷ [])
+firsts-next l zero d p h = absurd (not-suc-le-zero p)
+firsts-next l (suc k) d p h = let e : suc k - 1 ≡ k = omega arith in rw (add-one, e) (firsts-suc l k d h)
+
+pub firsts-yes : (l : List AutomationPoint) (i : ℕ) (d : AutomationPoint) → 0 < i → i < length l → eqb (timeKey (getD l (i - 1) d)) (timeKey (getD l i d)) ≡ false
+    → firsts (take (i + 1) l) ≡ firsts (take i l) ++ (getD l i d ∷ [])
+firsts-yes l i d p h y = firsts-next l i d p h ∙ ap (λ (b : Bool). firsts (take i l) ++ cond b [] (getD l i d ∷ [])) y
+
+pub firsts-no : (l : List AutomationPoint) (i : ℕ) (d : AutomationPoint) → 0 < i → i < length l → eqb (timeKey (getD l (i - 1) d)) (timeKey (getD l i d)) ≡ true
+    → firsts (take (i + 1) l) ≡ firsts (take i l)
+firsts-no l i d p h y = firsts-next l i d p h ∙ ap (λ (b : Bool). firsts (take i l) ++ cond b [] (getD l i d ∷ [])) y ∙ append-nil (firsts (take i l))
+
+pub firsts-one : (l : List AutomationPoint) → firsts (take 1 l) ≡ take 1 l
+unfolding firsts
+firsts-one [] = refl
+firsts-one (x ∷ l) = refl
+
+after-few : (x : AutomationPoint) (l : List AutomationPoint) → length (firstsAfter x l) ≤ length l
+unfolding firstsAfter
+after-few x [] = zero-le
+after-few x (y ∷ l) = few-cons (eqb (timeKey x) (timeKey y)) y (firstsAfter x l) (firstsAfter y l) (length l) (after-few x l) (after-few y l)
+  where
+    few-cons : (b : Bool) (y : AutomationPoint) (k m : List AutomationPoint) (n : ℕ) → length k ≤ n → length m ≤ n → length (cond b k (y ∷ m)) ≤ suc n
+    few-cons true y k m n g h = omega arith
+    few-cons false y k m n g h = suc-le-suc h
+
+pub firsts-few : (l : List AutomationPoint) → length (firsts l) ≤ length l
+unfolding firsts
+firsts-few [] = zero-le
+firsts-few (x ∷ l) = suc-le-suc (after-few x l)
+
+-- ---- the points that differ from what their neighbours would give
+
+-- the inner ones, and the last
+inner-is : (t : Float) (p q : AutomationPoint) (l : List AutomationPoint) (d : AutomationPoint)
+    → innerKept t (p ∷ (q ∷ l)) ≡ middles (differs t) (p ∷ (q ∷ l)) ++ (getD (q ∷ l) (length l) d ∷ [])
+unfolding innerKept middles
+inner-is t p q [] d = refl
+inner-is t p q (r ∷ l) d = keep-cons (differs t p q r) q _ _ _ (inner-is t q r l d)
+
+pub simplified-is : (t : Float) (l : List AutomationPoint) (d : AutomationPoint) → 2 ≤ length l
+    → simplified t l ≡ (take 1 l ++ middles (differs t) l) ++ (getD l (length l - 1) d ∷ [])
+simplified-is t [] d h = absurd (not-suc-le-zero h)
+simplified-is t (p ∷ []) d h = absurd (not-suc-le-zero (le-of-suc-le-suc h))
+simplified-is t (p ∷ (q ∷ l)) d h = let e : suc (suc (length l)) - 1 ≡ suc (length l) = omega arith in rw e (ap (λ (k : List AutomationPoint). p ∷ k) (inner-is t p q l d))
+
+pub simplified-few : (t : Float) (l : List AutomationPoint) → length l < 2 → simplified t l ≡ take 1 l
+unfolding innerKept
+simplified-few t [] h = refl
+simplified-few t (p ∷ []) h = refl
+simplified-few t (p ∷ (q ∷ l)) h = absurd (not-suc-le-zero (le-of-suc-le-suc (le-of-suc-le-suc h)))
+
+inner-bound : (t : Float) (p : AutomationPoint) (l : List AutomationPoint) → length (innerKept t (p ∷ l)) ≤ length l
+unfolding innerKept
+inner-bound t p [] = zero-le
+inner-bound t p (q ∷ []) = suc-le-suc zero-le
+inner-bound t p (q ∷ (r ∷ l)) = keep-one (differs t p q r) q (innerKept t (q ∷ (r ∷ l))) (length (r ∷ l)) (inner-bound t q (r ∷ l))
+
+pub simplified-bound : (t : Float) (l : List AutomationPoint) → length (simplified t l) ≤ length l
+simplified-bound t [] = zero-le
+simplified-bound t (p ∷ l) = suc-le-suc (inner-bound t p l)
+
+-- ---- the points changed in their places, as a list
+
+pub mapped-list : (f : AutomationPoint → AutomationPoint) (ps : Points) → validPoints ps ≡ true → length (ps .places) ≡ 256 → listOf (mappedIn f ps) ≡ map f (listOf ps)
+mapped-list f ps v len = ap (λ (x : Points). listOf (mappedIn f x)) (sym (holding-listOf ps v len)) ∙ ap listOf (mapped-holding f (listOf ps)) ∙ listOf-holding (map f (listOf ps))
+
+pub reverse-long : {A : Type 0} (l : List A) → length (reverse l) ≡ length l
+reverse-long [] = refl
+reverse-long (x ∷ l) = ap length (reverse-cons x l) ∙ length-append (reverse l) (x ∷ []) ∙ add-one (length (reverse l)) ∙ ap suc (reverse-long l)

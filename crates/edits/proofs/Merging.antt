@@ -1,0 +1,169 @@
+-- Laws of the edits that put points in: their refusals, and what a merge's offset does. Assumes nothing.
+use mathlib.Core.Path.{_≡_, refl, sym, ap, _∙_}
+use mathlib.Core.Bool.{Bool, true, false, cond, _&&_, false≢true, and-false}
+use mathlib.Core.List.{List, [], _∷_, map}
+use lib.Dec.{T, ltb, eqb, leb}
+use lib.Ieee.{Float, nan, inf, fin, binary64, fits}
+use lib.Ieee.Fits.{nan-fits, inf-fits, add-fits}
+use lib.ListN.{length}
+use borrow.Author.Tests.{eqb-true}
+use Rattle.numbers.specs.Bounds.{finite}
+use Rattle.numbers.specs.OrderLaws.{key-same}
+use Rattle.curve.specs.Curve.{finiteControls}
+use Rattle.points.specs.Point.{finitePoint}
+use Rattle.points.specs.Points.{every, rising, timeKey, listOf, holding, validPoints}
+use Rattle.points.specs.Laws.{and-left, and-right, and-true}
+use Rattle.points.specs.ValidLaws.{holding-listOf, valid-count, valid-rising}
+use Rattle.points.specs.declared.AutomationPoint.{AutomationPoint}
+use Rattle.points.specs.declared.Points.{Points}
+use Rattle.points.specs.declared.refusal.Refusal.the-variants.{NotValid, NotFinite, TooManyPoints}
+use Rattle.points.specs.declared.refusal.Answer.the-variants.{Accepted}
+use Rattle.edits.specs.Settle.{refused, settle, editPoints}
+use Rattle.edits.specs.Each.{changed}
+use Rattle.edits.specs.Insert.{insertPoint, insertAll, merged, mergedPoints}
+use Rattle.edits.specs.Inserted.{Sorted}
+use Rattle.edits.specs.declared.each.Change.the-variants.{Shift}
+
+-- ---- the refusals, one by one
+
+pub not-valid : (ps : Points) (ok : Bool) (l : List AutomationPoint) → validPoints ps ≡ false → refused ps NotValid ≡ editPoints ps ok l
+unfolding editPoints
+not-valid ps ok l v = rw v
+
+pub not-finite : (ps : Points) (ok : Bool) (l : List AutomationPoint) → validPoints ps ≡ true → ok ≡ false → refused ps NotFinite ≡ editPoints ps ok l
+unfolding editPoints
+not-finite ps ok l v o = rw (v, o)
+
+pub settled : (ps : Points) (ok : Bool) (l : List AutomationPoint) → validPoints ps ≡ true → ok ≡ true → settle ps l ≡ editPoints ps ok l
+unfolding editPoints
+settled ps ok l v o = rw (v, o)
+
+pub room : (ps : Points) (l : List AutomationPoint) → every finitePoint l ≡ true → rising l ≡ true → leb (length l) 256 ≡ true → record { answer = Accepted; points = holding l } ≡ settle ps l
+unfolding settle
+room ps l f r h = rw (f, r, h)
+
+pub no-room : (ps : Points) (l : List AutomationPoint) → every finitePoint l ≡ true → rising l ≡ true → leb (length l) 256 ≡ false → refused ps TooManyPoints ≡ settle ps l
+unfolding settle
+no-room ps l f r h = rw (f, r, h)
+
+pub bad-result : (ps : Points) (l : List AutomationPoint) → every finitePoint l ≡ false → refused ps NotFinite ≡ settle ps l
+unfolding settle
+bad-result ps l f = rw f
+
+pub valid-sorted : (ps : Points) → validPoints ps ≡ true → length (ps .places) ≡ 256 → Sorted ps
+valid-sorted ps v len = record { few = valid-count ps v; holds = holding-listOf ps v len; rises = valid-rising ps v }
+
+-- ---- a merge
+
+module _ (offset : Float) where
+  abbrev shift : AutomationPoint → AutomationPoint
+  shift q = changed (Shift offset) q
+
+  pub merged-is : (l other : List AutomationPoint) → insertAll l (map shift other) ≡ merged l other offset
+  merged-is l [] = refl
+  merged-is l (q ∷ other) = merged-is (insertPoint (shift q) l) other
+
+-- a time that isn't finite, whatever else the point holds
+abbrev fine : AutomationPoint → Bool
+fine q = finite (q .time)
+
+odd-fits : (x : Float) → finite x ≡ false → T (fits binary64 x)
+unfolding finite
+odd-fits nan h = nan-fits binary64
+odd-fits (inf s) h = inf-fits binary64 s
+odd-fits (fin s m e) h = absurd (false≢true (sym h))
+
+and-no : (a : Bool) {b : Bool} → b ≡ false → (a && b) ≡ false
+and-no a h = ap (λ (b : Bool). a && b) h ∙ and-false a
+
+-- it stays in the list: the point that replaces it has its very time
+module _ (q : AutomationPoint) (f : T (fits binary64 (q .time))) where
+  same-bad : (x : AutomationPoint) → timeKey x ≡ timeKey q → fine x ≡ false → fine q ≡ false
+  same-bad x e h = ap finite (sym (key-same (x .time) (q .time) (odd-fits (x .time) h) f e)) ∙ h
+
+  stays-cons : (x : AutomationPoint) (l m : List AutomationPoint) (b c t : Bool) → eqb (timeKey x) (timeKey q) ≡ c → fine x ≡ t → (t && every fine l) ≡ false
+      → (every fine l ≡ false → every fine m ≡ false) → every fine (cond b (x ∷ m) (cond c (q ∷ l) (q ∷ (x ∷ l)))) ≡ false
+  unfolding every
+  stays-cons x l m true c true e g h ih = and-no (fine x) (ih h)
+  stays-cons x l m true c false e g h ih = ap (λ (t : Bool). t && every fine m) g
+  stays-cons x l m false true true e g h ih = and-no (fine q) h
+  stays-cons x l m false true false e g h ih = ap (λ (t : Bool). t && every fine l) (same-bad x (eqb-true (timeKey x) (timeKey q) e) g)
+  stays-cons x l m false false t e g h ih = and-no (fine q) (ap (λ (t : Bool). t && every fine l) g ∙ h)
+
+  bad-stays : (l : List AutomationPoint) → every fine l ≡ false → every fine (insertPoint q l) ≡ false
+  unfolding insertPoint every
+  bad-stays [] h = absurd (false≢true (sym h))
+  bad-stays (x ∷ l) h = stays-cons x l (insertPoint q l) (ltb (timeKey x) (timeKey q)) (eqb (timeKey x) (timeKey q)) (fine x) refl refl h (bad-stays l)
+
+new-cons : (q x : AutomationPoint) (l m : List AutomationPoint) (b c : Bool) → fine q ≡ false → every fine m ≡ false → every fine (cond b (x ∷ m) (cond c (q ∷ l) (q ∷ (x ∷ l)))) ≡ false
+unfolding every
+new-cons q x l m true c g h = and-no (fine x) h
+new-cons q x l m false true g h = ap (λ (t : Bool). t && every fine l) g
+new-cons q x l m false false g h = ap (λ (t : Bool). t && every fine (x ∷ l)) g
+
+bad-new : (q : AutomationPoint) (l : List AutomationPoint) → fine q ≡ false → every fine (insertPoint q l) ≡ false
+unfolding insertPoint every
+bad-new q [] g = ap (λ (t : Bool). t && true) g
+bad-new q (x ∷ l) g = new-cons q x l (insertPoint q l) (ltb (timeKey x) (timeKey q)) (eqb (timeKey x) (timeKey q)) g (bad-new q l g)
+
+module _ (offset : Float) where
+  bad-all : (l other : List AutomationPoint) → every fine l ≡ false → every fine (insertAll l (map (shift offset) other)) ≡ false
+  bad-all l [] h = h
+  bad-all l (q ∷ other) h = bad-all (insertPoint (shift offset q) l) other (bad-stays (shift offset q) (add-fits binary64 (q .time) offset) l h)
+
+  some-cons : (q : AutomationPoint) (l other : List AutomationPoint) (t : Bool) → fine (shift offset q) ≡ t → (t && every fine (map (shift offset) other)) ≡ false
+      → ((m : List AutomationPoint) → every fine (map (shift offset) other) ≡ false → every fine (insertAll m (map (shift offset) other)) ≡ false)
+      → every fine (insertAll l (map (shift offset) (q ∷ other))) ≡ false
+  some-cons q l other true g h ih = ih (insertPoint (shift offset q) l) h
+  some-cons q l other false g h ih = bad-all (insertPoint (shift offset q) l) other (bad-new (shift offset q) l g)
+
+  bad-some : (l other : List AutomationPoint) → every fine (map (shift offset) other) ≡ false → every fine (insertAll l (map (shift offset) other)) ≡ false
+  unfolding every
+  bad-some l [] h = absurd (false≢true (sym h))
+  bad-some l (q ∷ other) h = some-cons q l other (fine (shift offset q)) refl h (λ m. bad-some m other)
+
+  -- values and controls stay, so that only a time can be lost
+  fine-only : (a b c : Bool) → b ≡ true → c ≡ true → ((a && b) && c) ≡ a
+  fine-only a b c h g = (λ i. (a && h i) && g i) ∙ and-true (a && true) ∙ and-true a
+
+  shift-fine : (other : List AutomationPoint) → every finitePoint other ≡ true → every finitePoint (map (shift offset) other) ≡ every fine (map (shift offset) other)
+  unfolding every
+  shift-fine [] h = refl
+  shift-fine (q ∷ other) h =
+      let here = and-left (finitePoint q) (every finitePoint other) h in
+      let rest = and-right (finitePoint q) (every finitePoint other) h in
+      λ i. fine-only (fine (shift offset q)) (finite (q .value)) (finiteControls (q .curve))
+      (and-right (finite (q .time)) (finite (q .value)) (and-left (finite (q .time) && finite (q .value)) (finiteControls (q .curve)) here))
+      (and-right (finite (q .time) && finite (q .value)) (finiteControls (q .curve)) here) i && shift-fine other rest i
+
+points-fine : (l : List AutomationPoint) → every finitePoint l ≡ true → every fine l ≡ true
+unfolding every
+points-fine [] h = refl
+points-fine (q ∷ l) h =
+    let here = and-left (finitePoint q) (every finitePoint l) h in
+    λ i. and-left (finite (q .time)) (finite (q .value)) (and-left (finite (q .time) && finite (q .value)) (finiteControls (q .curve)) here) i && points-fine l (and-right (finitePoint q) (every finitePoint l) h) i
+
+-- so the result has a number that isn't finite where a shifted time isn't
+pub merge-bad : (offset : Float) (l other : List AutomationPoint) → every finitePoint other ≡ true → every finitePoint (map (shift offset) other) ≡ false
+    → every finitePoint (insertAll l (map (shift offset) other)) ≡ false
+merge-bad offset l other o h = go (every finitePoint (insertAll l (map (shift offset) other))) refl
+  where
+    go : (t : Bool) → every finitePoint (insertAll l (map (shift offset) other)) ≡ t → t ≡ false
+    go true e = absurd (false≢true (sym (bad-some offset l other (sym (shift-fine offset other o) ∙ h)) ∙ points-fine (insertAll l (map (shift offset) other)) e))
+    go false e = refl
+
+pub merge-invalid : (ps other : Points) (offset : Float) → validPoints ps ≡ false → refused ps NotValid ≡ mergedPoints ps other offset
+unfolding mergedPoints
+merge-invalid ps other offset v = go (validPoints other)
+  where
+    go : (b : Bool) → refused ps NotValid ≡ cond b (editPoints ps (finite offset) (merged (listOf ps) (listOf other) offset)) (refused ps NotValid)
+    go true = not-valid ps (finite offset) (merged (listOf ps) (listOf other) offset) v
+    go false = refl
+
+pub merge-other : (ps other : Points) (offset : Float) → validPoints other ≡ false → refused ps NotValid ≡ mergedPoints ps other offset
+unfolding mergedPoints
+merge-other ps other offset v = rw v
+
+pub merge-valid : (ps other : Points) (offset : Float) → validPoints other ≡ true → editPoints ps (finite offset) (merged (listOf ps) (listOf other) offset) ≡ mergedPoints ps other offset
+unfolding mergedPoints
+merge-valid ps other offset v = rw v

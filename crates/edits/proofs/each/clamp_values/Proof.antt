@@ -1,0 +1,53 @@
+use mathlib.Core.Path.{sym, ap, _∙_}
+use mathlib.Core.Bool.{Bool}
+use mathlib.Core.List.{map}
+use mathlib.Core.Logic.{⊎-elim}
+use Rattle.points.specs.Points.{listOf}
+use Rattle.points.specs.Laws.{and-both}
+use Rattle.edits.specs.Settle.{editPoints}
+use Rattle.edits.specs.Each.{changed, clampedEdit}
+use Rattle.edits.specs.declared.each.Change.the-variants.{Clamp}
+use Rattle.edits.proofs.Clamped.{in-order, not-finite, invalid}
+use borrow.Author.Needs.{needs}
+use Rattle.edits.proofs.each.clamp_values.Statement.{statement}
+use Rattle.edits.proofs.each.clamp_values.Tie as tie
+
+is-finitef-requires : tie.Need-is-finitef-requires
+is-finitef-requires c κs = search needs
+
+is-finitef-requires-2 : tie.Need-is-finitef-requires-2
+is-finitef-requires-2 c κs = search needs
+
+is-valid-requires : tie.Need-is-valid-requires
+is-valid-requires c κs = search needs
+
+refuse-requires : tie.Need-refuse-requires
+refuse-requires c κs = search needs
+
+returns : tie.Need-returns
+unfolding clampedEdit
+returns c = rw (sym (c .before .before .is-valid .ensures) ∙ c .before .if3 .taken, and-both (sym (c .before .before .before .before .before .before .is-finitef .ensures)) (sym (c .before .before .before .before .before .is-finitef2 .ensures)) ∙ c .before .before .before .if2 .taken, c .before .before .before .before .if1 .taken) (c .refuse .ensures)
+
+edit-each-requires : tie.Need-edit-each-requires
+edit-each-requires c κs = search needs
+
+returns-2 : tie.Need-returns-2
+returns-2 c =
+    let ps = c .before .before .before .before .args .points in
+    let low = c .before .before .before .before .args .min in
+    let high = c .before .before .before .before .args .max in
+    let ok = and-both (c .before .before .before .is-finitef .ensures) (c .before .before .is-finitef2 .ensures) in
+    c .edit-each .ensures ∙ ap (λ (b : Bool). editPoints ps b (map (changed (Clamp low high)) (listOf ps))) ok
+    ∙ ⊎-elim (λ w. invalid ps low high (sym (w .2 .ensures) ∙ w .3 .left)) (λ u. ⊎-elim (λ w. not-finite ps low high (sym ok ∙ w .1 .left)) (λ w. in-order ps low high (w .left)) u) (c .before .if1 .came)
+
+pub clamp-values-spec : {M : Type 1} → statement M
+clamp-values-spec =
+    tie.close
+    (tie.spec
+    is-finitef-requires
+    is-finitef-requires-2
+    is-valid-requires
+    refuse-requires
+    returns
+    edit-each-requires
+    returns-2)

@@ -1,0 +1,18 @@
+use Rattle.edits.specs.Each.{clampedTo}
+use Rattle.edits.proofs.each.clampf.Statement.{statement}
+use Rattle.edits.proofs.each.clampf.Tie as tie
+
+returns : tie.Need-returns
+unfolding clampedTo
+returns c = rw (c .if1 .taken)
+
+returns-2 : tie.Need-returns-2
+unfolding clampedTo
+returns-2 c = rw (c .before .if1 .left, c .if2 .taken)
+
+returns-3 : tie.Need-returns-3
+unfolding clampedTo
+returns-3 c = rw (c .before .if1 .left, c .if2 .left)
+
+pub clampf-spec : {M : Type 1} → statement M
+clampf-spec = tie.close (tie.spec returns returns-2 returns-3)

@@ -1,0 +1,14 @@
+use Rattle.edits.specs.Each.{compressed}
+use Rattle.edits.proofs.each.compressed.Statement.{statement}
+use Rattle.edits.proofs.each.compressed.Tie as tie
+
+returns : tie.Need-returns
+unfolding compressed
+returns c = rw (c .if1 .taken)
+
+returns-2 : tie.Need-returns-2
+unfolding compressed
+returns-2 c = rw (c .if1 .left)
+
+pub compressed-spec : {M : Type 1} → statement M
+compressed-spec = tie.close (tie.spec returns returns-2)

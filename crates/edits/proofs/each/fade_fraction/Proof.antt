@@ -1,0 +1,19 @@
+use mathlib.Core.Path.{ap, _∙_}
+use Rattle.numbers.specs.Narrow.{narrow}
+use Rattle.edits.specs.Each.{fadeFraction}
+use borrow.Author.Needs.{needs}
+use Rattle.edits.proofs.each.fade_fraction.Statement.{statement}
+use Rattle.edits.proofs.each.fade_fraction.Tie as tie
+
+clamp-requires : tie.Need-clamp-requires
+clamp-requires c κs = search needs
+
+f64-to-f32-requires : tie.Need-f64-to-f32-requires
+f64-to-f32-requires c κs = search needs
+
+returns : tie.Need-returns
+unfolding fadeFraction
+returns c = c .f64-to-f32 .ensures ∙ ap narrow (c .before .clamp .ensures)
+
+pub fade-fraction-spec : {M : Type 1} → statement M
+fade-fraction-spec = tie.close (tie.spec clamp-requires f64-to-f32-requires returns)

@@ -1,0 +1,21 @@
+use Rattle.edits.specs.Each.{fadedIn}
+use borrow.Author.Needs.{needs}
+use Rattle.edits.proofs.each.faded_in.Statement.{statement}
+use Rattle.edits.proofs.each.faded_in.Tie as tie
+
+fade-fraction-requires : tie.Need-fade-fraction-requires
+fade-fraction-requires c κs = search needs
+
+interpolate-requires : tie.Need-interpolate-requires
+interpolate-requires c κs = search needs
+
+returns : tie.Need-returns
+unfolding fadedIn
+returns c = rw (c .before .before .before .if1 .taken, c .before .interpolate .ensures, c .before .before .fade-fraction .ensures)
+
+returns-2 : tie.Need-returns-2
+unfolding fadedIn
+returns-2 c = rw (c .if1 .left)
+
+pub faded-in-spec : {M : Type 1} → statement M
+faded-in-spec = tie.close (tie.spec fade-fraction-requires interpolate-requires returns returns-2)

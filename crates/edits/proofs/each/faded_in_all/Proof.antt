@@ -1,0 +1,23 @@
+use mathlib.Core.Path.{ap, _∙_}
+use lib.Ieee.{Float}
+use Rattle.edits.specs.Finish.{mappedIn}
+use Rattle.edits.specs.Each.{changed}
+use Rattle.edits.specs.declared.each.Change.the-variants.{FadeIn}
+use borrow.Author.Needs.{needs}
+use Rattle.edits.proofs.each.faded_in_all.Statement.{statement}
+use Rattle.edits.proofs.each.faded_in_all.Tie as tie
+
+returns : tie.Need-returns
+returns c = rw (c .if1 .taken)
+
+first-time-requires : tie.Need-first-time-requires
+first-time-requires c κs = search needs
+
+map-points-requires : tie.Need-map-points-requires
+map-points-requires c κs = search needs
+
+returns-2 : tie.Need-returns-2
+returns-2 c = rw (c .before .before .if1 .left) (c .map-points .ensures ∙ ap (λ (t : Float). mappedIn (changed (FadeIn t (c .before .before .before .args .duration) (c .before .before .before .args .curve))) (c .before .before .before .args .points)) (c .before .first-time .ensures))
+
+pub faded-in-all-spec : {M : Type 1} → statement M
+faded-in-all-spec = tie.close (tie.spec returns first-time-requires map-points-requires returns-2)

@@ -1,0 +1,23 @@
+use mathlib.Core.Path.{ap, _∙_}
+use lib.Ieee.{Float, binary64, sub}
+use Rattle.edits.specs.Finish.{mappedIn}
+use Rattle.edits.specs.Each.{changed}
+use Rattle.edits.specs.declared.each.Change.the-variants.{FadeOut}
+use borrow.Author.Needs.{needs}
+use Rattle.edits.proofs.each.faded_out_all.Statement.{statement}
+use Rattle.edits.proofs.each.faded_out_all.Tie as tie
+
+returns : tie.Need-returns
+returns c = rw (c .if1 .taken)
+
+last-time-requires : tie.Need-last-time-requires
+last-time-requires c κs = search needs
+
+map-points-requires : tie.Need-map-points-requires
+map-points-requires c κs = search needs
+
+returns-2 : tie.Need-returns-2
+returns-2 c = rw (c .before .before .if1 .left) (c .map-points .ensures ∙ ap (λ (t : Float). mappedIn (changed (FadeOut (sub binary64 t (c .before .before .before .args .duration)) (c .before .before .before .args .duration) (c .before .before .before .args .curve))) (c .before .before .before .args .points)) (c .before .last-time .ensures))
+
+pub faded-out-all-spec : {M : Type 1} → statement M
+faded-out-all-spec = tie.close (tie.spec returns last-time-requires map-points-requires returns-2)

@@ -1,0 +1,19 @@
+use borrow.Author.Needs.{needs}
+use Rattle.edits.proofs.each.invert_values.Statement.{statement}
+use Rattle.edits.proofs.each.invert_values.Tie as tie
+
+is-finitef-requires : tie.Need-is-finitef-requires
+is-finitef-requires c κs = search needs
+
+is-finitef-requires-2 : tie.Need-is-finitef-requires-2
+is-finitef-requires-2 c κs = search needs
+
+edit-each-requires : tie.Need-edit-each-requires
+edit-each-requires c κs = search needs
+
+returns : tie.Need-returns
+returns c = cc
+
+pub invert-values-spec : {M : Type 1} → statement M
+invert-values-spec =
+    tie.close (tie.spec is-finitef-requires is-finitef-requires-2 edit-each-requires returns)

@@ -1,0 +1,15 @@
+use borrow.Author.Needs.{needs}
+use Rattle.edits.proofs.each.offset.Statement.{statement}
+use Rattle.edits.proofs.each.offset.Tie as tie
+
+is-finitef-requires : tie.Need-is-finitef-requires
+is-finitef-requires c κs = search needs
+
+edit-each-requires : tie.Need-edit-each-requires
+edit-each-requires c κs = search needs
+
+returns : tie.Need-returns
+returns c = cc
+
+pub offset-spec : {M : Type 1} → statement M
+offset-spec = tie.close (tie.spec is-finitef-requires edit-each-requires returns)

@@ -1,0 +1,15 @@
+use borrow.Author.Needs.{needs}
+use Rattle.edits.proofs.each.scale.Statement.{statement}
+use Rattle.edits.proofs.each.scale.Tie as tie
+
+is-finitef-requires : tie.Need-is-finitef-requires
+is-finitef-requires c κs = search needs
+
+edit-each-requires : tie.Need-edit-each-requires
+edit-each-requires c κs = search needs
+
+returns : tie.Need-returns
+returns c = cc
+
+pub scale-spec : {M : Type 1} → statement M
+scale-spec = tie.close (tie.spec is-finitef-requires edit-each-requires returns)

@@ -1,0 +1,15 @@
+use borrow.Author.Needs.{needs}
+use Rattle.edits.proofs.each.shift_points.Statement.{statement}
+use Rattle.edits.proofs.each.shift_points.Tie as tie
+
+is-finite-requires : tie.Need-is-finite-requires
+is-finite-requires c κs = search needs
+
+edit-each-requires : tie.Need-edit-each-requires
+edit-each-requires c κs = search needs
+
+returns : tie.Need-returns
+returns c = cc
+
+pub shift-points-spec : {M : Type 1} → statement M
+shift-points-spec = tie.close (tie.spec is-finite-requires edit-each-requires returns)

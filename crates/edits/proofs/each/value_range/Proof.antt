@@ -1,0 +1,73 @@
+use Prim.Native.Nat.{ℕ, _≤_, _-_}
+use mathlib.Core.Path.{_≡_, refl, ap, _∙_}
+use native.Mathlib.Omega.{arith}
+use lib.Ieee.{binary32, ofBits, div, neg}
+use lib.ListN.{take}
+use Rattle.numbers.specs.Bounds.{minNum, maxNum}
+use Rattle.points.specs.Point.{anyPoint}
+use Rattle.points.specs.Laws.{take-min}
+use Rattle.points.proofs.Good.{places}
+use Rattle.edits.specs.Each.{lowestValue, highestValue}
+use Rattle.edits.proofs.Lists.{fold-more}
+use Rattle.edits.proofs.each.value_range.Statement.{statement}
+use Rattle.edits.proofs.each.value_range.Tie as tie
+
+abbrev Inv-loop : tie.InvT-loop
+Inv-loop points n low₀ high₀ i₀ low high i = (i ≤ n) × (low ≡ lowestValue (take i (points .places))) × (high ≡ highestValue (take i (points .places)))
+
+abbrev μ-loop : tie.MeasureT-loop
+μ-loop points n low₀ high₀ i₀ low high i = n - i
+
+used-requires : tie.Need-used-requires Inv-loop μ-loop
+used-requires c κs = tt
+
+loop-holds : tie.Need-loop-holds Inv-loop μ-loop
+unfolding ofBits div neg
+loop-holds c = (omega arith, refl, refl)
+
+mul-p : tie.Need-mul-p Inv-loop μ-loop
+mul-p c = omega arith
+
+element-copy-out-p : tie.Need-element-copy-out-p Inv-loop μ-loop
+element-copy-out-p c = omega arith
+
+min-requires : tie.Need-min-requires Inv-loop μ-loop
+min-requires c κs = tt
+
+max-requires : tie.Need-max-requires Inv-loop μ-loop
+max-requires c κs = tt
+
+add-i : tie.Need-add-i Inv-loop μ-loop
+add-i c = omega arith
+
+loop-less : tie.Need-loop-less Inv-loop μ-loop
+loop-less c = omega arith
+
+loop-again : tie.Need-loop-again Inv-loop μ-loop
+loop-again c =
+    let len = places (c .before .before .before .before .before .before .args .t1) _ (c .before .before .before .before .before .before .good .0) in
+    let l = c .before .before .before .before .before .before .args .t1 .places in
+    (omega arith, cc (fold-more (λ v p. minNum v (p .value)) (ofBits binary32 0x7F80_0000) l (c .before .before .before .before .loop .i) anyPoint (omega arith)), cc (fold-more (λ v p. maxNum v (p .value)) (ofBits binary32 0xFF80_0000) l (c .before .before .before .before .loop .i) anyPoint (omega arith)))
+
+returns : tie.Need-returns Inv-loop μ-loop
+returns c =
+    let at : c .before .loop .i ≡ c .before .before .used .result = omega arith in
+    let l = ap (λ (k : ℕ). take k (c .before .before .before .args .t1 .places)) (at ∙ c .before .before .used .ensures) ∙ take-min (c .before .before .before .args .t1 .count) (c .before .before .before .args .t1 .places) 256 (places (c .before .before .before .args .t1) _ (c .before .before .before .good .0)) in
+    (c .before .loop .inv .1 ∙ ap lowestValue l, c .before .loop .inv .2 ∙ ap highestValue l)
+
+pub value-range-spec : {M : Type 1} → statement M
+value-range-spec =
+    tie.close
+    (tie.spec
+    Inv-loop
+    μ-loop
+    used-requires
+    loop-holds
+    mul-p
+    element-copy-out-p
+    min-requires
+    max-requires
+    add-i
+    loop-less
+    loop-again
+    returns)

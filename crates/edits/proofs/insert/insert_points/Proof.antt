@@ -1,0 +1,40 @@
+use mathlib.Core.Path.{_≡_, sym, ap, _∙_}
+use mathlib.Core.Bool.{true}
+use Rattle.points.specs.declared.Points.{Points}
+use Rattle.points.specs.declared.refusal.Answer.the-variants.{Accepted}
+use Rattle.points.specs.Point.{finitePoint}
+use Rattle.points.specs.Points.{listOf, every, rising}
+use Rattle.points.specs.ValidLaws.{valid-finite, valid-rising}
+use Rattle.points.proofs.Good.{places}
+use Rattle.edits.specs.Insert.{insertAll}
+use Rattle.edits.specs.declared.EditedPoints.{EditedPoints}
+use Rattle.edits.proofs.Inserting.{every-all, rising-all}
+use Rattle.edits.proofs.Merging.{room, no-room, valid-sorted}
+use borrow.Author.Needs.{needs}
+use Rattle.edits.proofs.insert.insert_points.Statement.{statement}
+use Rattle.edits.proofs.insert.insert_points.Tie as tie
+
+insert-all-requires : tie.Need-insert-all-requires
+insert-all-requires c κs = valid-sorted (c .args .points) (c .pre .0) (places (c .args .points) _ (c .good .0))
+
+refuse-requires : tie.Need-refuse-requires
+refuse-requires c κs = search needs
+
+returns : tie.Need-returns
+returns c =
+    let ps = c .before .before .before .args .points in
+    let l = insertAll (listOf ps) (listOf (c .before .before .before .args .new)) in
+    let f : every finitePoint l ≡ true = every-all finitePoint (listOf ps) (listOf (c .before .before .before .args .new)) (valid-finite ps (c .before .before .before .pre .0)) (c .before .before .before .pre .1) in
+    let r : rising l ≡ true = rising-all (listOf ps) (listOf (c .before .before .before .args .new)) (valid-rising ps (c .before .before .before .pre .0)) in
+    ap {B = EditedPoints} (λ (x : Points). record { answer = Accepted; points = x }) (c .before .before .insert-all .ensures .made (c .before .if1 .taken)) ∙ room ps l f r (sym (c .before .before .insert-all .ensures .fits) ∙ c .before .if1 .taken)
+
+returns-2 : tie.Need-returns-2
+returns-2 c =
+    let ps = c .before .before .before .args .points in
+    let l = insertAll (listOf ps) (listOf (c .before .before .before .args .new)) in
+    let f : every finitePoint l ≡ true = every-all finitePoint (listOf ps) (listOf (c .before .before .before .args .new)) (valid-finite ps (c .before .before .before .pre .0)) (c .before .before .before .pre .1) in
+    let r : rising l ≡ true = rising-all (listOf ps) (listOf (c .before .before .before .args .new)) (valid-rising ps (c .before .before .before .pre .0)) in
+    c .refuse .ensures ∙ no-room ps l f r (sym (c .before .before .insert-all .ensures .fits) ∙ c .before .if1 .left)
+
+pub insert-points-spec : {M : Type 1} → statement M
+insert-points-spec = tie.close (tie.spec insert-all-requires refuse-requires returns returns-2)

@@ -1,0 +1,19 @@
+use mathlib.Core.Path.{sym}
+use Rattle.points.specs.FloatLaws.{abs-above}
+use Rattle.edits.specs.Shape.{differs}
+use borrow.Author.Needs.{needs}
+use Rattle.edits.proofs.shape.differs.Statement.{statement}
+use Rattle.edits.proofs.shape.differs.Tie as tie
+
+f64-to-f32-requires : tie.Need-f64-to-f32-requires
+f64-to-f32-requires c κs = search needs
+
+interpolate-requires : tie.Need-interpolate-requires
+interpolate-requires c κs = search needs
+
+returns : tie.Need-returns
+unfolding differs
+returns c = rw (c .before .interpolate .ensures, c .before .before .f64-to-f32 .ensures) (sym (abs-above (c .before .before .before .before .before .before .before .args .tolerance) _))
+
+pub differs-spec : {M : Type 1} → statement M
+differs-spec = tie.close (tie.spec f64-to-f32-requires interpolate-requires returns)

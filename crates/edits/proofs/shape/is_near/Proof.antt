@@ -1,0 +1,12 @@
+use mathlib.Core.Path.{sym}
+use lib.Ieee.{ofBits}
+use Rattle.points.specs.FloatLaws.{abs-below}
+use Rattle.edits.proofs.shape.is_near.Statement.{statement}
+use Rattle.edits.proofs.shape.is_near.Tie as tie
+
+returns : tie.Need-returns
+unfolding ofBits
+returns c = sym (abs-below _ _ _)
+
+pub is-near-spec : {M : Type 1} → statement M
+is-near-spec = tie.close (tie.spec returns)

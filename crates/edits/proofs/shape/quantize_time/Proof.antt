@@ -1,0 +1,62 @@
+use mathlib.Core.Path.{sym, ap, _∙_}
+use mathlib.Core.Bool.{Bool, cond}
+use mathlib.Core.List.{List, map}
+use native.Mathlib.Omega.{arith}
+use lib.ListN.{length-map}
+use Rattle.numbers.specs.Bounds.{finite}
+use Rattle.points.specs.declared.AutomationPoint.{AutomationPoint}
+use Rattle.points.specs.Points.{listOf, holding}
+use Rattle.points.proofs.Good.{places}
+use Rattle.edits.specs.Settle.{editPoints}
+use Rattle.edits.specs.Each.{changed}
+use Rattle.edits.specs.Shape.{firsts}
+use Rattle.edits.specs.declared.each.Change.the-variants.{Quantize}
+use Rattle.edits.proofs.Ends.{ends-valid, ends-same, listOf-few}
+use Rattle.edits.proofs.Kept.{firsts-few, mapped-list}
+use borrow.Author.Needs.{needs}
+use Rattle.edits.proofs.shape.quantize_time.Statement.{statement}
+use Rattle.edits.proofs.shape.quantize_time.Tie as tie
+
+is-finite-requires : tie.Need-is-finite-requires
+is-finite-requires c κs = search needs
+
+finish-requires : tie.Need-finish-requires
+finish-requires c κs = search needs
+
+map-points-requires : tie.Need-map-points-requires
+map-points-requires c κs = search needs
+
+without-repeats-requires : tie.Need-without-repeats-requires
+without-repeats-requires c κs = search needs
+
+finish-requires-2 : tie.Need-finish-requires-2
+finish-requires-2 c κs = search needs
+
+returns : tie.Need-returns
+returns c =
+    let ps = c .before .before .before .args .points in
+    let l = listOf ps in
+    let q = firsts (map (changed (Quantize (c .before .before .before .args .grid))) l) in
+    ends-same ps (c .finish .ensures) (c .before .before .is-finite .ensures) (places ps _ (c .before .before .before .good .0)) ∙ ap (λ (b : Bool). editPoints ps (finite (c .before .before .before .args .grid)) (cond b l q)) (sym (c .before .if1 .taken))
+
+returns-2 : tie.Need-returns-2
+returns-2 c =
+    let ps = c .before .before .before .before .before .args .points in
+    let l = listOf ps in
+    let f = changed (Quantize (c .before .before .before .before .before .args .grid)) in
+    let len = places ps _ (c .before .before .before .before .before .good .0) in
+    ends-valid ps (c .before .without-repeats .result) (firsts (map f l)) (c .finish2 .ensures) (c .before .before .before .before .is-finite .ensures)
+    (λ v. (omega (arith, firsts-few (map f l), length-map l f, listOf-few ps len), c .before .without-repeats .ensures ∙ ap (λ (k : List AutomationPoint). holding (firsts k)) (ap listOf (c .before .before .map-points .ensures) ∙ mapped-list f ps v len)))
+    ∙ ap (λ (b : Bool). editPoints ps (finite (c .before .before .before .before .before .args .grid)) (cond b l (firsts (map f l)))) (sym (c .before .before .before .if1 .left))
+
+pub quantize-time-spec : {M : Type 1} → statement M
+quantize-time-spec =
+    tie.close
+    (tie.spec
+    is-finite-requires
+    finish-requires
+    map-points-requires
+    without-repeats-requires
+    finish-requires-2
+    returns
+    returns-2)

@@ -1,0 +1,29 @@
+use native.Mathlib.Omega.{arith}
+use Rattle.points.specs.Points.{listOf}
+use Rattle.points.proofs.Good.{places}
+use Rattle.edits.specs.Shape.{removeFirst, near}
+use Rattle.edits.proofs.Ends.{ends, listOf-few}
+use Rattle.edits.proofs.Kept.{remove-few}
+use borrow.Author.Needs.{needs}
+use Rattle.edits.proofs.shape.remove_point_at.Statement.{statement}
+use Rattle.edits.proofs.shape.remove_point_at.Tie as tie
+
+is-finite-requires : tie.Need-is-finite-requires
+is-finite-requires c κs = search needs
+
+without-first-near-requires : tie.Need-without-first-near-requires
+without-first-near-requires c κs = search needs
+
+finish-requires : tie.Need-finish-requires
+finish-requires c κs = search needs
+
+returns : tie.Need-returns
+returns c =
+    let ps = c .before .before .before .args .points in
+    let q = near (c .before .before .before .args .time) in
+    ends ps (c .before .without-first-near .result) (removeFirst q (listOf ps)) (c .finish .ensures) (c .before .before .is-finite .ensures)
+    (omega (arith, remove-few q (listOf ps), listOf-few ps (places ps _ (c .before .before .before .good .0)))) (c .before .without-first-near .ensures)
+
+pub remove-point-at-spec : {M : Type 1} → statement M
+remove-point-at-spec =
+    tie.close (tie.spec is-finite-requires without-first-near-requires finish-requires returns)

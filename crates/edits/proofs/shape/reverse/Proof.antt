@@ -1,0 +1,45 @@
+use mathlib.Core.Path.{_≡_, refl, ap, _∙_}
+use mathlib.Core.List.{List, map}
+use mathlib.Core.List as lists
+use native.Mathlib.Omega.{arith}
+use lib.Ieee.{Float}
+use lib.ListN.{length-map}
+use Rattle.points.specs.declared.AutomationPoint.{AutomationPoint}
+use Rattle.points.specs.Points.{listOf, holding}
+use Rattle.points.proofs.Good.{places}
+use Rattle.edits.specs.Finish.{mappedIn}
+use Rattle.edits.specs.Each.{changed, lastTime}
+use Rattle.edits.specs.Shape.{reversed}
+use Rattle.edits.specs.declared.each.Change.the-variants.{Reflect}
+use Rattle.edits.proofs.Ends.{ends-valid, listOf-few}
+use Rattle.edits.proofs.Kept.{mapped-list, reverse-long}
+use borrow.Author.Needs.{needs}
+use Rattle.edits.proofs.shape.reverse.Statement.{statement}
+use Rattle.edits.proofs.shape.reverse.Tie as tie
+
+last-time-requires : tie.Need-last-time-requires
+last-time-requires c κs = search needs
+
+map-points-requires : tie.Need-map-points-requires
+map-points-requires c κs = search needs
+
+turned-requires : tie.Need-turned-requires
+turned-requires c κs = search needs
+
+finish-requires : tie.Need-finish-requires
+finish-requires c κs = search needs
+
+returns : tie.Need-returns
+returns c =
+    let ps = c .before .before .before .before .args .points in
+    let l = listOf ps in
+    let f = changed (Reflect (lastTime l)) in
+    let len = places ps _ (c .before .before .before .before .good .0) in
+    let m : c .before .before .map-points .result ≡ mappedIn f ps = c .before .before .map-points .ensures ∙ ap (λ (t : Float). mappedIn (changed (Reflect t)) ps) (c .before .before .before .last-time .ensures) in
+    ends-valid ps (c .before .turned .result) (reversed l) (c .finish .ensures) refl
+    (λ v. (omega (arith, reverse-long (map f l), length-map l f, listOf-few ps len), c .before .turned .ensures ∙ ap (λ (k : List AutomationPoint). holding (lists.reverse k)) (ap listOf m ∙ mapped-list f ps v len)))
+
+pub reverse-spec : {M : Type 1} → statement M
+reverse-spec =
+    tie.close
+    (tie.spec last-time-requires map-points-requires turned-requires finish-requires returns)

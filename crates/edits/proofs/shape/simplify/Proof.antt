@@ -1,0 +1,29 @@
+use native.Mathlib.Omega.{arith}
+use Rattle.points.specs.Points.{listOf}
+use Rattle.points.proofs.Good.{places}
+use Rattle.edits.specs.Shape.{simplified}
+use Rattle.edits.proofs.Ends.{ends, listOf-few}
+use Rattle.edits.proofs.Kept.{simplified-bound}
+use borrow.Author.Needs.{needs}
+use Rattle.edits.proofs.shape.simplify.Statement.{statement}
+use Rattle.edits.proofs.shape.simplify.Tie as tie
+
+is-finitef-requires : tie.Need-is-finitef-requires
+is-finitef-requires c κs = search needs
+
+kept-differing-requires : tie.Need-kept-differing-requires
+kept-differing-requires c κs = search needs
+
+finish-requires : tie.Need-finish-requires
+finish-requires c κs = search needs
+
+returns : tie.Need-returns
+returns c =
+    let ps = c .before .before .before .args .points in
+    let t = c .before .before .before .args .tolerance in
+    ends ps (c .before .kept-differing .result) (simplified t (listOf ps)) (c .finish .ensures) (c .before .before .is-finitef .ensures)
+    (omega (arith, simplified-bound t (listOf ps), listOf-few ps (places ps _ (c .before .before .before .good .0)))) (c .before .kept-differing .ensures)
+
+pub simplify-spec : {M : Type 1} → statement M
+simplify-spec =
+    tie.close (tie.spec is-finitef-requires kept-differing-requires finish-requires returns)

@@ -1,0 +1,34 @@
+use native.Mathlib.Omega.{arith}
+use Rattle.points.specs.Points.{listOf}
+use Rattle.points.specs.Laws.{and-both}
+use Rattle.points.proofs.Good.{places}
+use Rattle.edits.specs.Shape.{keepIf, inside}
+use Rattle.edits.proofs.Ends.{ends, listOf-few}
+use Rattle.edits.proofs.Kept.{keep-few}
+use borrow.Author.Needs.{needs}
+use Rattle.edits.proofs.shape.trim.Statement.{statement}
+use Rattle.edits.proofs.shape.trim.Tie as tie
+
+is-finite-requires : tie.Need-is-finite-requires
+is-finite-requires c κs = search needs
+
+is-finite-requires-2 : tie.Need-is-finite-requires-2
+is-finite-requires-2 c κs = search needs
+
+kept-inside-requires : tie.Need-kept-inside-requires
+kept-inside-requires c κs = search needs
+
+finish-requires : tie.Need-finish-requires
+finish-requires c κs = search needs
+
+returns : tie.Need-returns
+returns c =
+    let ps = c .before .before .before .before .args .points in
+    let q = inside (c .before .before .before .before .args .start-time) (c .before .before .before .before .args .end-time) in
+    ends ps (c .before .kept-inside .result) (keepIf q (listOf ps)) (c .finish .ensures) (and-both (c .before .before .before .is-finite .ensures) (c .before .before .is-finite2 .ensures))
+    (omega (arith, keep-few q (listOf ps), listOf-few ps (places ps _ (c .before .before .before .before .good .0)))) (c .before .kept-inside .ensures)
+
+pub trim-spec : {M : Type 1} → statement M
+trim-spec =
+    tie.close
+    (tie.spec is-finite-requires is-finite-requires-2 kept-inside-requires finish-requires returns)

@@ -1,0 +1,133 @@
+use Prim.Native.Nat.{_≤_, _-_, max}
+use mathlib.Core.Path.{_≡_, sym, ap, _∙_}
+use mathlib.Core.List.{List, [], _∷_, _++_}
+use native.Mathlib.Omega.{arith}
+use lib.ListN.{length, take, getD, length-take}
+use lib.Seq.{getD-take, take-all}
+use Rattle.points.specs.declared.AutomationPoint.{AutomationPoint}
+use Rattle.points.specs.declared.Points.{Points}
+use Rattle.points.specs.Point.{anyPoint}
+use Rattle.points.specs.Points.{listOf, holding, timeKey}
+use Rattle.points.proofs.Good.{places}
+use borrow.Author.Tests.{eq-eqb, ne-eqb}
+use Rattle.edits.specs.Shape.{firsts}
+use Rattle.edits.proofs.Ends.{pushed}
+use Rattle.edits.proofs.Kept.{firsts-yes, firsts-no, firsts-one}
+use Rattle.edits.proofs.shape.without_repeats.Statement.{statement}
+use Rattle.edits.proofs.shape.without_repeats.Tie as tie
+
+abbrev Inv-loop : tie.InvT-loop
+Inv-loop points n out₀ i₀ out i = (1 ≤ i) × (i ≤ max 1 n) × (out .count ≤ i) × (out ≡ holding (firsts (take i (listOf points))))
+
+abbrev μ-loop : tie.MeasureT-loop
+μ-loop points n out₀ i₀ out i = n - i
+
+used-requires : tie.Need-used-requires Inv-loop μ-loop
+used-requires c κs = tt
+
+first-only-requires : tie.Need-first-only-requires Inv-loop μ-loop
+first-only-requires c κs = tt
+
+loop-holds : tie.Need-loop-holds Inv-loop μ-loop
+loop-holds c =
+    let l = listOf (c .before .before .args .t1) in
+    (omega arith, omega arith, omega (arith, ap (λ (x : Points). x .count) (c .first-only .ensures), length-take 1 l), c .first-only .ensures ∙ ap holding (sym (firsts-one l)))
+
+sub-p : tie.Need-sub-p Inv-loop μ-loop
+sub-p c = omega arith
+
+mul-p : tie.Need-mul-p Inv-loop μ-loop
+mul-p c = omega arith
+
+element-copy-out-p : tie.Need-element-copy-out-p Inv-loop μ-loop
+element-copy-out-p c = omega arith
+
+mul-q : tie.Need-mul-q Inv-loop μ-loop
+mul-q c = omega arith
+
+element-copy-out-q : tie.Need-element-copy-out-q Inv-loop μ-loop
+element-copy-out-q c = omega arith
+
+add-i : tie.Need-add-i Inv-loop μ-loop
+add-i c = omega arith
+
+order-key-requires : tie.Need-order-key-requires Inv-loop μ-loop
+order-key-requires c κs = tt
+
+order-key-requires-2 : tie.Need-order-key-requires-2 Inv-loop μ-loop
+order-key-requires-2 c κs = tt
+
+mul-q-2 : tie.Need-mul-q-2 Inv-loop μ-loop
+mul-q-2 c = omega arith
+
+element-set-from-q : tie.Need-element-set-from-q Inv-loop μ-loop
+element-set-from-q c = omega arith
+
+add-out : tie.Need-add-out Inv-loop μ-loop
+add-out c = omega arith
+
+loop-less : tie.Need-loop-less Inv-loop μ-loop
+loop-less c = omega arith
+
+loop-again : tie.Need-loop-again Inv-loop μ-loop
+loop-again c =
+    let ps = c .before .before .before .before .before .before .before .before .before .args .t1 in
+    let h = c .before .before .before .before .before .before .loop in
+    let i = h .i in
+    let l = listOf ps in
+    let len = places ps _ (c .before .before .before .before .before .before .before .before .before .good .0) in
+    let n : length l ≡ c .before .before .before .before .before .before .before .before .used .result = omega (arith, length-take (ps .count) (ps .places), c .before .before .before .before .before .before .before .before .used .ensures) in
+    let p : getD (ps .places) (i - 1) anyPoint ≡ getD l (i - 1) anyPoint = sym (getD-take (ps .count) (ps .places) (i - 1) anyPoint (omega (arith, c .before .before .before .before .before .before .before .before .used .ensures))) in
+    let q : getD (ps .places) i anyPoint ≡ getD l i anyPoint = sym (getD-take (ps .count) (ps .places) i anyPoint (omega (arith, c .before .before .before .before .before .before .before .before .used .ensures))) in
+    let m : h .out .count ≡ length (firsts (take i l)) = ap (λ (x : Points). x .count) (h .inv .3) in
+    let y = firsts-yes l i anyPoint (omega arith) (omega arith) (ne-eqb _ _ (λ e. c .if1 .taken (c .before .before .order-key .ensures ∙ ap timeKey p ∙ e ∙ sym (c .before .order-key2 .ensures ∙ ap timeKey q)))) in
+    (omega arith, omega arith, omega arith, pushed (h .out) (firsts (take i l)) (getD (ps .places) i anyPoint) (omega arith) (h .inv .3) ∙ ap holding (ap (λ (x : AutomationPoint). firsts (take i l) ++ (x ∷ [])) q ∙ sym y))
+
+loop-less-2 : tie.Need-loop-less-2 Inv-loop μ-loop
+loop-less-2 c = omega arith
+
+loop-again-2 : tie.Need-loop-again-2 Inv-loop μ-loop
+loop-again-2 c =
+    let ps = c .before .before .before .before .before .before .before .before .before .args .t1 in
+    let h = c .before .before .before .before .before .before .loop in
+    let i = h .i in
+    let l = listOf ps in
+    let len = places ps _ (c .before .before .before .before .before .before .before .before .before .good .0) in
+    let n : length l ≡ c .before .before .before .before .before .before .before .before .used .result = omega (arith, length-take (ps .count) (ps .places), c .before .before .before .before .before .before .before .before .used .ensures) in
+    let p : getD (ps .places) (i - 1) anyPoint ≡ getD l (i - 1) anyPoint = sym (getD-take (ps .count) (ps .places) (i - 1) anyPoint (omega (arith, c .before .before .before .before .before .before .before .before .used .ensures))) in
+    let q : getD (ps .places) i anyPoint ≡ getD l i anyPoint = sym (getD-take (ps .count) (ps .places) i anyPoint (omega (arith, c .before .before .before .before .before .before .before .before .used .ensures))) in
+    let y = firsts-no l i anyPoint (omega arith) (omega arith) (eq-eqb _ _ (sym (c .before .before .order-key .ensures ∙ ap timeKey p) ∙ c .if1 .left ∙ c .before .order-key2 .ensures ∙ ap timeKey q)) in
+    (omega arith, omega arith, omega arith, h .inv .3 ∙ ap holding (sym y))
+
+returns : tie.Need-returns Inv-loop μ-loop
+returns c =
+    let ps = c .before .before .before .before .args .t1 in
+    let len = places ps _ (c .before .before .before .before .good .0) in
+    let n : length (listOf ps) ≡ c .before .before .before .used .result = omega (arith, length-take (ps .count) (ps .places), c .before .before .before .used .ensures) in
+    c .before .loop .inv .3 ∙ ap (λ (l : List AutomationPoint). holding (firsts l)) (take-all (c .before .loop .i) (listOf ps) (omega arith))
+
+pub without-repeats-spec : {M : Type 1} → statement M
+without-repeats-spec =
+    tie.close
+    (tie.spec
+    Inv-loop
+    μ-loop
+    used-requires
+    first-only-requires
+    loop-holds
+    sub-p
+    mul-p
+    element-copy-out-p
+    mul-q
+    element-copy-out-q
+    add-i
+    order-key-requires
+    order-key-requires-2
+    mul-q-2
+    element-set-from-q
+    add-out
+    loop-less
+    loop-again
+    loop-less-2
+    loop-again-2
+    returns)

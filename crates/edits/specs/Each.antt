@@ -1,0 +1,126 @@
+-- The edits that change each point by itself, as 000 has them, operation by operation.
+use mathlib.Core.Bool.{cond, _&&_}
+use mathlib.Core.List.{List, [], _∷_, map, foldl}
+use lib.Ieee.{Float, binary32, binary64, add, sub, mul, div, lt, le, ofBits}
+use Rattle.numbers.specs.Narrow.{narrow}
+use Rattle.numbers.specs.Whole.{roundAway}
+use Rattle.numbers.specs.Bounds.{maxNum, minNum, finite}
+use Rattle.curve.specs.Curve.{interpolated}
+use Rattle.curve.specs.declared.CurveType.{CurveType}
+use Rattle.points.specs.Points.{listOf, validPoints}
+use Rattle.points.specs.declared.AutomationPoint.{AutomationPoint}
+use Rattle.points.specs.declared.Points.{Points}
+use Rattle.points.specs.declared.refusal.Refusal.the-variants.{NotValid, NotFinite, BoundsCross}
+use Rattle.edits.specs.Settle.{refused, settle}
+use Rattle.edits.specs.declared.EditedPoints.{EditedPoints}
+use Rattle.edits.specs.declared.each.Change.{Change}
+use Rattle.edits.specs.declared.each.Change.the-variants.{Shift, ScaleTime, Reflect, Quantize, Invert, Normalize, Scale, Offset, Clamp, FadeIn, FadeOut, Gate, Compress}
+
+-- 0.0 and 1.0, of either format
+abbrev pub zero64 : Float
+zero64 = ofBits binary64 0
+
+abbrev pub one64 : Float
+one64 = ofBits binary64 0x3FF0_0000_0000_0000
+
+abbrev pub zero32 : Float
+zero32 = ofBits binary32 0
+
+abbrev pub one32 : Float
+one32 = ofBits binary32 0x3F80_0000
+
+abbrev pub withTime : AutomationPoint → Float → AutomationPoint
+withTime p t = record { time = t; «sample_position» = p .«sample_position»; value = p .value; curve = p .curve }
+
+abbrev pub withValue : AutomationPoint → Float → AutomationPoint
+withValue p v = record { time = p .time; «sample_position» = p .«sample_position»; value = v; curve = p .curve }
+
+-- Rust's `clamp`: a NaN stays, and so does -0.0
+unfoldable pub clampedTo : Float → Float → Float → Float
+clampedTo low high x = cond (lt x low) low (cond (lt high x) high x)
+
+-- the fraction of a fade at a time: clamped in f64, then narrowed
+unfoldable pub fadeFraction : Float → Float → Float → Float
+unfolding clampedTo
+fadeFraction start duration time = narrow (clampedTo zero64 one64 (div binary64 (sub binary64 time start) duration))
+
+-- apply_fade_in: points up to start + duration are multiplied by the curve from 0 to 1
+unfoldable pub fadedIn : Float → Float → CurveType → AutomationPoint → Float
+fadedIn start duration c p =
+    cond (le (p .time) (add binary64 start duration))
+    (mul binary32 (p .value) (interpolated c zero32 one32 (fadeFraction start duration (p .time))))
+    (p .value)
+
+-- apply_fade_out: points from start on are multiplied by the curve from 1 to 0
+unfoldable pub fadedOut : Float → Float → CurveType → AutomationPoint → Float
+fadedOut start duration c p =
+    cond (le start (p .time))
+    (mul binary32 (p .value) (interpolated c one32 zero32 (fadeFraction start duration (p .time))))
+    (p .value)
+
+-- apply_gate: "if point.value < threshold"
+unfoldable pub gated : Float → Float → Float
+gated threshold v = cond (lt v threshold) zero32 v
+
+-- apply_compression: "if point.value > threshold"
+unfoldable pub compressed : Float → Float → Float → Float
+compressed threshold ratio v = cond (lt threshold v) (add binary32 threshold (div binary32 (sub binary32 v threshold) ratio)) v
+
+-- what a change makes of a point, a line of 000 each
+abbrev pub changed : Change → AutomationPoint → AutomationPoint
+changed (Shift offset) p = withTime p (add binary64 (p .time) offset)
+changed (ScaleTime factor) p = withTime p (mul binary64 (p .time) factor)
+changed (Reflect maxTime) p = withTime p (sub binary64 maxTime (p .time))
+changed (Quantize grid) p = withTime p (mul binary64 (roundAway binary64 (div binary64 (p .time) grid)) grid)
+changed (Invert min max) p = withValue p (sub binary32 max (sub binary32 (p .value) min))
+changed (Normalize low range newMin newRange) p = withValue p (add binary32 newMin (mul binary32 (div binary32 (sub binary32 (p .value) low) range) newRange))
+changed (Scale factor) p = withValue p (mul binary32 (p .value) factor)
+changed (Offset amount) p = withValue p (add binary32 (p .value) amount)
+changed (Clamp min max) p = withValue p (clampedTo min max (p .value))
+changed (FadeIn start duration c) p = withValue p (fadedIn start duration c p)
+changed (FadeOut start duration c) p = withValue p (fadedOut start duration c p)
+changed (Gate threshold) p = withValue p (gated threshold (p .value))
+changed (Compress threshold ratio) p = withValue p (compressed threshold ratio (p .value))
+
+-- normalize: the least and the greatest value, from the infinities
+abbrev pub lowestValue : List AutomationPoint → Float
+lowestValue l = foldl (λ v p. minNum v (p .value)) (ofBits binary32 0x7F80_0000) l
+
+abbrev pub highestValue : List AutomationPoint → Float
+highestValue l = foldl (λ v p. maxNum v (p .value)) (ofBits binary32 0xFF80_0000) l
+
+-- "Where 000 returns early (grid, factor or duration at most 0) the edit is accepted and changes nothing"
+abbrev pub scaledTime : Float → List AutomationPoint → List AutomationPoint
+scaledTime factor l = cond (lt zero64 factor) (map (changed (ScaleTime factor)) l) l
+
+abbrev pub normalized : Float → Float → List AutomationPoint → List AutomationPoint
+normalized newMin newMax l =
+    let low = lowestValue l in
+    let range = sub binary32 (highestValue l) low in
+    cond (lt zero32 range) (map (changed (Normalize low range newMin (sub binary32 newMax newMin))) l) l
+
+-- the first time and the last: the fades and `reverse` take them where there is a point
+abbrev pub firstTime : List AutomationPoint → Float
+firstTime [] = zero64
+firstTime (p ∷ l) = p .time
+
+abbrev pub lastTime : List AutomationPoint → Float
+lastTime [] = zero64
+lastTime (p ∷ []) = p .time
+lastTime (p ∷ (q ∷ l)) = lastTime (q ∷ l)
+
+abbrev pub fadedInAll : Float → CurveType → List AutomationPoint → List AutomationPoint
+fadedInAll duration c l = cond (le duration zero64) l (map (changed (FadeIn (firstTime l) duration c)) l)
+
+abbrev pub fadedOutAll : Float → CurveType → List AutomationPoint → List AutomationPoint
+fadedOutAll duration c l = cond (le duration zero64) l (map (changed (FadeOut (sub binary64 (lastTime l) duration) duration c)) l)
+
+-- clamp_values: 1, argument 3, then 4 where its first bound is above its second, then the result's refusals; no other edit gives 4
+unfoldable pub clampedEdit : Points → Float → Float → EditedPoints
+unfolding settle
+clampedEdit ps min max =
+    cond (validPoints ps)
+    (cond (finite min && finite max)
+    (cond (lt max min) (refused ps BoundsCross) (settle ps (map (changed (Clamp min max)) (listOf ps))))
+    (refused ps NotFinite))
+    (refused ps NotValid)

@@ -1,0 +1,53 @@
+-- The edits that put points in, as 000 has them.
+use mathlib.Core.Bool.{cond}
+use mathlib.Core.List.{List, [], _∷_, foldl}
+use lib.Dec.{ltb, eqb}
+use lib.Ieee.{Float, binary64, add}
+use Rattle.numbers.specs.Bounds.{finite}
+use Rattle.curve.specs.declared.CurveType.{CurveType}
+use Rattle.curve.specs.declared.CurveType.the-variants.{Linear}
+use Rattle.points.specs.Points.{timeKey, listOf, validPoints}
+use Rattle.points.specs.declared.AutomationPoint.{AutomationPoint}
+use Rattle.points.specs.declared.Points.{Points}
+use Rattle.points.specs.declared.refusal.Refusal.the-variants.{NotValid}
+use Rattle.points.specs.declared.SamplePosition.the-variants as position
+use Rattle.edits.specs.declared.each.Change.the-variants.{Shift}
+use Rattle.edits.specs.declared.EditedPoints.{EditedPoints}
+use Rattle.edits.specs.Settle.{refused, editPoints}
+use Rattle.edits.specs.Each.{zero64, zero32, one32, changed}
+
+-- "`add_point` replaces only at bit-equal time; otherwise it inserts"
+unfoldable pub insertPoint : AutomationPoint → List AutomationPoint → List AutomationPoint
+insertPoint p [] = p ∷ []
+insertPoint p (q ∷ l) =
+    cond (ltb (timeKey q) (timeKey p)) (q ∷ insertPoint p l)
+    (cond (eqb (timeKey q) (timeKey p)) (p ∷ l) (p ∷ (q ∷ l)))
+
+-- each in turn
+abbrev pub insertAll : List AutomationPoint → List AutomationPoint → List AutomationPoint
+insertAll l new = foldl (λ made p. insertPoint p made) l new
+
+-- merge: the other's points, each at its time plus the offset, in order; positions stay
+abbrev pub merged : List AutomationPoint → List AutomationPoint → Float → List AutomationPoint
+merged l other offset = foldl (λ made p. insertPoint (changed (Shift offset) p) made) l other
+
+-- merge's refusals: 1 where either isn't valid, then those of an edit that makes this list
+unfoldable pub mergedPoints : Points → Points → Float → EditedPoints
+mergedPoints ps other offset = cond (validPoints other) (editPoints ps (finite offset) (merged (listOf ps) (listOf other) offset)) (refused ps NotValid)
+
+-- 000's `AutomationPoint::with_curve`
+abbrev pub pointWith : Float → Float → CurveType → AutomationPoint
+pointWith time value c = record { time = time; «sample_position» = position.None; value = value; curve = c }
+
+-- fade_in, fade_out and ramp: from one value at 0 to another at the duration
+abbrev pub rampList : Float → Float → Float → CurveType → List AutomationPoint
+rampList duration start end c = insertAll [] (pointWith zero64 start Linear ∷ (pointWith duration end c ∷ []))
+
+-- pulse: attack, sustain, release
+abbrev pub pulseList : Float → Float → Float → CurveType → List AutomationPoint
+pulseList fadeIn sustain fadeOut c =
+    insertAll [] (
+    pointWith zero64 zero32 Linear ∷ (
+    pointWith fadeIn one32 c ∷ (
+    pointWith (add binary64 fadeIn sustain) one32 Linear ∷ (
+    pointWith (add binary64 (add binary64 fadeIn sustain) fadeOut) zero32 c ∷ []))))

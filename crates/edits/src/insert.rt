@@ -1,0 +1,238 @@
+// The edits that put points in.
+ghost use mathlib.Core.Path.{_≡_};
+ghost use mathlib.Core.Bool.{true, _&&_};
+ghost use mathlib.Core.List.{[], _∷_};
+ghost use Rattle.numbers.specs.Bounds.{finite};
+ghost use Rattle.curve.specs.Curve.{finiteControls};
+ghost use Rattle.points.specs.Point.{finitePoint};
+ghost use Rattle.points.specs.Points.{every, listOf, holding, validPoints};
+ghost use Rattle.edits.specs.Settle.{settle, editPoints};
+ghost use Rattle.edits.specs.Each.{zero32, one32};
+ghost use Rattle.edits.specs.Insert.{insertPoint, insertAll, mergedPoints, pointWith, rampList, pulseList};
+ghost use Rattle.edits.specs.Inserted.{Sorted, Inserts};
+use crate::EditedPoints;
+use crate::each::Change;
+use crate::each::map_points;
+use crate::finish::finish;
+use crate::finish::refuse;
+use curve::CurveType;
+use points::AutomationPoint;
+use points::Points;
+use points::SamplePosition;
+use points::refusal::Answer;
+use points::refusal::Refusal;
+
+struct Inserted {
+    // whether all points found a place
+    fits: bool,
+    points: Points,
+}
+
+// Each of the new points in turn, at its place by time: instead of the one at the very same time, or before the later ones.
+fn insert_all(mut points: Points, new: Points) -> Inserted
+    requires { ⌜ Sorted points ⌝ }
+    ensures { λ r. ⌜ Inserts (listOf points) (listOf new) r ⌝ }
+{
+    let m = new.used();
+    let mut i: usize = 0;
+    while i < m {
+        let p = new.places[i];
+        i += 1;
+        let key = numbers::order::order_key(p.time);
+        let n = points.count;
+        let mut lo: usize = 0;
+        let mut hi: usize = n;
+        while lo < hi {
+            let mid = lo + (hi - lo) / 2;
+            let q = points.places[mid];
+            if numbers::order::order_key(q.time) < key {
+                lo = mid + 1;
+            } else {
+                hi = mid;
+            }
+        }
+        if lo == n {
+            if n == 256 {
+                return Inserted {
+                    fits: false,
+                    points,
+                };
+            }
+            points.places[n] = p;
+            points.count = n + 1;
+        } else {
+            let q = points.places[lo];
+            if numbers::order::order_key(q.time) == key {
+                points.places[lo] = p;
+            } else {
+                if n == 256 {
+                    return Inserted {
+                        fits: false,
+                        points,
+                    };
+                }
+                let mut j: usize = n;
+                while lo < j {
+                    let q = points.places[j - 1];
+                    points.places[j] = q;
+                    j -= 1;
+                }
+                points.places[lo] = p;
+                points.count = n + 1;
+            }
+        }
+    }
+    Inserted { fits: true, points }
+}
+
+// Finite points go into valid ones, if there is room.
+fn insert_points(points: Points, new: Points) -> EditedPoints
+    requires { ⌜ (validPoints points ≡ true) × (every finitePoint (listOf new) ≡ true) ⌝ }
+    ensures { λ r. ⌜ r ≡ settle points (insertAll (listOf points) (listOf new)) ⌝ }
+{
+    let made = insert_all(points, new);
+    if made.fits {
+        let points = made.points;
+        EditedPoints {
+            answer: Answer::Accepted,
+            points,
+        }
+    } else {
+        refuse(points, Refusal::TooManyPoints)
+    }
+}
+
+fn one(p: AutomationPoint) -> Points
+    ensures { λ r. ⌜ r ≡ holding (p ∷ []) ⌝ }
+{
+    let mut out = points::list::none();
+    out.places[0] = p;
+    out.count = 1;
+    out
+}
+
+// Replaces at bit-equal time, else inserts.
+pub fn add_point(points: Points, p: AutomationPoint) -> EditedPoints
+    ensures { λ r. ⌜ r ≡ editPoints points (finitePoint p) (insertPoint p (listOf points)) ⌝ }
+{
+    if !points.is_valid() {
+        refuse(points, Refusal::NotValid)
+    } else if !p.is_finite() {
+        refuse(points, Refusal::NotFinite)
+    } else {
+        insert_points(points, one(p))
+    }
+}
+
+// The other's points, each at its time plus the offset; positions stay.
+pub fn merge(points: Points, other: Points, offset: f64) -> EditedPoints
+    ensures { λ r. ⌜ r ≡ mergedPoints points other offset ⌝ }
+{
+    if !points.is_valid() {
+        refuse(points, Refusal::NotValid)
+    } else if !other.is_valid() {
+        refuse(points, Refusal::NotValid)
+    } else if !numbers::order::is_finite(offset) {
+        refuse(points, Refusal::NotFinite)
+    } else {
+        let shifted = map_points(other, Change::Shift(offset));
+        if !shifted.all_finite() {
+            refuse(points, Refusal::NotFinite)
+        } else {
+            insert_points(points, shifted)
+        }
+    }
+}
+
+// 000's with_curve.
+fn point_with(time: f64, value: f32, curve: CurveType) -> AutomationPoint
+    ensures { λ r. ⌜ r ≡ pointWith time value curve ⌝ }
+{
+    AutomationPoint {
+        time,
+        sample_position: SamplePosition::None,
+        value,
+        curve,
+    }
+}
+
+fn two(a: AutomationPoint, b: AutomationPoint) -> Points
+    ensures { λ r. ⌜ r ≡ holding (a ∷ (b ∷ [])) ⌝ }
+{
+    let mut out = points::list::none();
+    out.places[0] = a;
+    out.places[1] = b;
+    out.count = 2;
+    out
+}
+
+fn four(a: AutomationPoint, b: AutomationPoint, c: AutomationPoint, d: AutomationPoint) -> Points
+    ensures { λ r. ⌜ r ≡ holding (a ∷ (b ∷ (c ∷ (d ∷ [])))) ⌝ }
+{
+    let mut out = points::list::none();
+    out.places[0] = a;
+    out.places[1] = b;
+    out.places[2] = c;
+    out.places[3] = d;
+    out.count = 4;
+    out
+}
+
+// Each in turn into an envelope that has none.
+fn in_order(new: Points) -> Points
+    ensures { λ r. ⌜ r ≡ holding (insertAll [] (listOf new)) ⌝ }
+{
+    let made = insert_all(points::list::none(), new);
+    made.points
+}
+
+pub fn ramp(
+    points: Points,
+    duration: f64,
+    start: f32,
+    end_value: f32,
+    curve: CurveType,
+) -> EditedPoints
+    ensures { λ r. ⌜ r ≡ editPoints points (finite duration && finite start && finite «end_value» && finiteControls curve) (rampList duration start «end_value» curve) ⌝ }
+{
+    let ok = numbers::order::is_finite(duration)
+        & numbers::order::is_finitef(start)
+        & numbers::order::is_finitef(end_value)
+        & curve.is_finite();
+    let first = point_with(0.0, start, CurveType::Linear);
+    let last = point_with(duration, end_value, curve);
+    finish(points, ok, in_order(two(first, last)))
+}
+
+pub fn fade_in(points: Points, duration: f64, curve: CurveType) -> EditedPoints
+    ensures { λ r. ⌜ r ≡ editPoints points (finite duration && finiteControls curve) (rampList duration zero32 one32 curve) ⌝ }
+{
+    ramp(points, duration, 0.0, 1.0, curve)
+}
+
+pub fn fade_out(points: Points, duration: f64, curve: CurveType) -> EditedPoints
+    ensures { λ r. ⌜ r ≡ editPoints points (finite duration && finiteControls curve) (rampList duration one32 zero32 curve) ⌝ }
+{
+    ramp(points, duration, 1.0, 0.0, curve)
+}
+
+// Attack, sustain, release.
+pub fn pulse(
+    points: Points,
+    fade_in: f64,
+    sustain: f64,
+    fade_out: f64,
+    curve: CurveType,
+) -> EditedPoints
+    ensures { λ r. ⌜ r ≡ editPoints points (finite «fade_in» && finite sustain && finite «fade_out» && finiteControls curve) (pulseList «fade_in» sustain «fade_out» curve) ⌝ }
+{
+    let ok = numbers::order::is_finite(fade_in)
+        & numbers::order::is_finite(sustain)
+        & numbers::order::is_finite(fade_out)
+        & curve.is_finite();
+    let a = point_with(0.0, 0.0, CurveType::Linear);
+    let b = point_with(fade_in, 1.0, curve);
+    let c = point_with(fade_in + sustain, 1.0, CurveType::Linear);
+    let d = point_with(fade_in + sustain + fade_out, 0.0, curve);
+    finish(points, ok, in_order(four(a, b, c, d)))
+}
