@@ -1,9 +1,12 @@
-// The Player: lookup by time and by sample.
+// The Player: lookup by time and by sample, and rendering into a lent buffer.
 ghost use mathlib.Core.Path.{_≡_};
+ghost use Rattle.points.specs.Refusal.{said};
+ghost use Rattle.lookup.specs.Render.{render, toBuffer};
 ghost use Rattle.lookup.specs.Lookup.{getValueAt, getValueAtSample, told};
 ghost use Rattle.envelope.specs.Envelope.{limitsOf};
 use crate::AutomationEnvelope;
 use lookup::Lookup;
+use points::refusal::Answer;
 
 impl AutomationEnvelope {
     pub fn get_value_at(self, time: f64) -> Lookup
@@ -18,5 +21,40 @@ impl AutomationEnvelope {
     {
         let points = self.points;
         lookup::sample::get_value_at_sample(points, self.enabled, self.limits(), sample)
+    }
+
+    // `count` samples from `first` on, written into `out` from `place` on.
+    pub fn render(self, rate: f64, first: u64, count: u64, out: &mut [f32], place: usize) -> Answer
+        ensures { λ r. ⌜ said r ≡ render (self .points) (self .enabled) (limitsOf self) rate first count place (now (out .entry)) .said ⌝ }
+        ensures { λ _. ⌜ now (out .exit) ≡ render (self .points) (self .enabled) (limitsOf self) rate first count place (now (out .entry)) .buffer ⌝ }
+    {
+        let points = self.points;
+        lookup::render::render(
+            points,
+            self.enabled,
+            self.limits(),
+            rate,
+            first,
+            count,
+            out,
+            place,
+        )
+    }
+
+    // The samples from 0 on, as many as the duration times the rate.
+    pub fn to_buffer(self, rate: f64, duration: f64, out: &mut [f32], place: usize) -> Answer
+        ensures { λ r. ⌜ said r ≡ toBuffer (self .points) (self .enabled) (limitsOf self) rate duration place (now (out .entry)) .said ⌝ }
+        ensures { λ _. ⌜ now (out .exit) ≡ toBuffer (self .points) (self .enabled) (limitsOf self) rate duration place (now (out .entry)) .buffer ⌝ }
+    {
+        let points = self.points;
+        lookup::render::to_buffer(
+            points,
+            self.enabled,
+            self.limits(),
+            rate,
+            duration,
+            out,
+            place,
+        )
     }
 }

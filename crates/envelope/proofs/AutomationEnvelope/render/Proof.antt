@@ -1,0 +1,32 @@
+use mathlib.Core.Path.{_≡_, ap, _∙_}
+use lib.Ieee.{Float}
+use mathlib.Core.List.{List}
+use Rattle.points.specs.Refusal.{Said}
+use Rattle.lookup.specs.Render.{render}
+use Rattle.lookup.specs.declared.Limits.{Limits}
+use borrow.Author.Needs.{needs}
+use Rattle.envelope.proofs.AutomationEnvelope.render.Statement.{statement}
+use Rattle.envelope.proofs.AutomationEnvelope.render.Tie as tie
+use Rattle.envelope.proofs.AutomationEnvelope.render.Reads as reads
+use Rattle.envelope.proofs.AutomationEnvelope.render.Lts as lts
+use Rattle.envelope.proofs.AutomationEnvelope.limits.Reads as limits-reads
+use Rattle.lookup.proofs.render.render.Reads as render-reads
+
+-- src/player.rt:35:13
+limits-requires : tie.Need-limits-requires
+limits-requires c κs = search needs
+
+-- src/player.rt:32:9
+render-requires : tie.Need-render-requires
+render-requires c κs = search needs
+
+-- src/player.rt:27:5
+same-length : tie.Need-same-length
+same-length c = search needs
+
+-- src/player.rt:27:5
+returns : tie.Need-returns
+returns c = (c .before .before .render .ensures .0 ∙ ap (λ (l : Limits). render (c .before .before .before .before .before .before .before .args .self .points) (c .before .before .before .before .before .before .before .args .self .enabled) l (c .before .before .before .before .before .before .before .args .rate) (c .before .before .before .before .before .before .before .args .first) (c .before .before .before .before .before .before .before .args .count) (c .before .before .before .before .before .before .before .args .place) (c .before .before .before .before .before .before .before .args .out .now) .said) (c .before .before .before .before .limits .ensures), c .before .before .render .ensures .1 ∙ ap (λ (l : Limits). render (c .before .before .before .before .before .before .before .args .self .points) (c .before .before .before .before .before .before .before .args .self .enabled) l (c .before .before .before .before .before .before .before .args .rate) (c .before .before .before .before .before .before .before .args .first) (c .before .before .before .before .before .before .before .args .count) (c .before .before .before .before .before .before .before .args .place) (c .before .before .before .before .before .before .before .args .out .now) .buffer) (c .before .before .before .before .limits .ensures))
+
+pub render-spec : {M : Type 1} → statement M
+render-spec = tie.close (tie.spec limits-requires render-requires same-length returns)

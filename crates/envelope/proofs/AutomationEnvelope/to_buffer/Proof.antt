@@ -1,0 +1,32 @@
+use mathlib.Core.Path.{_≡_, ap, _∙_}
+use lib.Ieee.{Float}
+use mathlib.Core.List.{List}
+use Rattle.points.specs.Refusal.{Said}
+use Rattle.lookup.specs.Render.{toBuffer}
+use Rattle.lookup.specs.declared.Limits.{Limits}
+use borrow.Author.Needs.{needs}
+use Rattle.envelope.proofs.AutomationEnvelope.to_buffer.Statement.{statement}
+use Rattle.envelope.proofs.AutomationEnvelope.to_buffer.Tie as tie
+use Rattle.envelope.proofs.AutomationEnvelope.to_buffer.Reads as reads
+use Rattle.envelope.proofs.AutomationEnvelope.to_buffer.Lts as lts
+use Rattle.envelope.proofs.AutomationEnvelope.limits.Reads as limits-reads
+use Rattle.lookup.proofs.render.to_buffer.Reads as to-buffer-reads
+
+-- src/player.rt:53:13
+limits-requires : tie.Need-limits-requires
+limits-requires c κs = search needs
+
+-- src/player.rt:50:9
+to-buffer-requires : tie.Need-to-buffer-requires
+to-buffer-requires c κs = search needs
+
+-- src/player.rt:45:5
+same-length : tie.Need-same-length
+same-length c = search needs
+
+-- src/player.rt:45:5
+returns : tie.Need-returns
+returns c = (c .before .before .to-buffer .ensures .0 ∙ ap (λ (l : Limits). toBuffer (c .before .before .before .before .before .before .before .args .self .points) (c .before .before .before .before .before .before .before .args .self .enabled) l (c .before .before .before .before .before .before .before .args .rate) (c .before .before .before .before .before .before .before .args .duration) (c .before .before .before .before .before .before .before .args .place) (c .before .before .before .before .before .before .before .args .out .now) .said) (c .before .before .before .before .limits .ensures), c .before .before .to-buffer .ensures .1 ∙ ap (λ (l : Limits). toBuffer (c .before .before .before .before .before .before .before .args .self .points) (c .before .before .before .before .before .before .before .args .self .enabled) l (c .before .before .before .before .before .before .before .args .rate) (c .before .before .before .before .before .before .before .args .duration) (c .before .before .before .before .before .before .before .args .place) (c .before .before .before .before .before .before .before .args .out .now) .buffer) (c .before .before .before .before .limits .ensures))
+
+pub to-buffer-spec : {M : Type 1} → statement M
+to-buffer-spec = tie.close (tie.spec limits-requires to-buffer-requires same-length returns)

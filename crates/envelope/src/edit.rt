@@ -1,0 +1,289 @@
+// 01's edits as data, and what each makes of an envelope.
+ghost use mathlib.Core.Path.{_≡_};
+ghost use Rattle.envelope.specs.Edit.{toldEdit, pointsEdited, replacedPoints, edited, replaced, setting, editOf, withPoints, withSettings, refusedEdit};
+use crate::AutomationEnvelope;
+use crate::Edited;
+use curve::CurveType;
+use edits::EditedPoints;
+use lookup::Limit;
+use lookup::Limits;
+use points::AutomationPoint;
+use points::Points;
+use points::refusal::Answer;
+use points::refusal::Refusal;
+
+// The edits of the points.
+pub enum PointsEdit {
+    AddPoint(AutomationPoint),
+    RemovePointAt(f64),
+    ShiftPoints(f64),
+    ScaleTime(f64),
+    Trim(f64, f64),
+    Reverse,
+    InvertValues(f32, f32),
+    QuantizeTime(f64),
+    Simplify(f32),
+    Normalize(f32, f32),
+    Scale(f32),
+    Offset(f32),
+    ClampValues(f32, f32),
+    ApplyFadeIn(f64, CurveType),
+    ApplyFadeOut(f64, CurveType),
+    ApplyFades(f64, f64, CurveType),
+    ApplyGate(f32),
+    ApplyCompression(f32, f32),
+}
+
+// 000's constructors, given the target the envelope has.
+pub enum Replacement {
+    FadeIn(f64, CurveType),
+    FadeOut(f64, CurveType),
+    Pulse(f64, f64, f64, CurveType),
+    Ramp(f64, f32, f32, CurveType),
+}
+
+pub enum Edit {
+    OfPoints(PointsEdit),
+    Replace(Replacement),
+    SetEnabled(bool),
+    SetMin(Limit),
+    SetMax(Limit),
+    SetStep(Limit),
+}
+
+impl PointsEdit {
+    fn apply(self, points: Points) -> EditedPoints
+        ensures { λ r. ⌜ r ≡ pointsEdited self points ⌝ }
+    {
+        match self {
+            PointsEdit::AddPoint(p) => edits::insert::add_point(points, p),
+            PointsEdit::RemovePointAt(time) => edits::shape::remove_point_at(points, time),
+            PointsEdit::ShiftPoints(offset) => edits::each::shift_points(points, offset),
+            PointsEdit::ScaleTime(factor) => edits::each::scale_time(points, factor),
+            PointsEdit::Trim(start, end) => edits::shape::trim(points, start, end),
+            PointsEdit::Reverse => edits::shape::reverse(points),
+            PointsEdit::InvertValues(min, max) => edits::each::invert_values(points, min, max),
+            PointsEdit::QuantizeTime(grid) => edits::shape::quantize_time(points, grid),
+            PointsEdit::Simplify(tolerance) => edits::shape::simplify(points, tolerance),
+            PointsEdit::Normalize(min, max) => edits::each::normalize(points, min, max),
+            PointsEdit::Scale(factor) => edits::each::scale(points, factor),
+            PointsEdit::Offset(amount) => edits::each::offset(points, amount),
+            PointsEdit::ClampValues(min, max) => edits::each::clamp_values(points, min, max),
+            PointsEdit::ApplyFadeIn(duration, c) => edits::each::apply_fade_in(points, duration, c),
+            PointsEdit::ApplyFadeOut(duration, c) => edits::each::apply_fade_out(
+                points,
+                duration,
+                c,
+            ),
+            PointsEdit::ApplyFades(fade_in, fade_out, c) => edits::each::apply_fades(
+                points,
+                fade_in,
+                fade_out,
+                c,
+            ),
+            PointsEdit::ApplyGate(threshold) => edits::each::apply_gate(points, threshold),
+            PointsEdit::ApplyCompression(threshold, ratio) => edits::each::apply_compression(
+                points,
+                threshold,
+                ratio,
+            ),
+        }
+    }
+}
+
+impl Replacement {
+    fn apply(self, points: Points) -> EditedPoints
+        ensures { λ r. ⌜ r ≡ replacedPoints self points ⌝ }
+    {
+        match self {
+            Replacement::FadeIn(duration, c) => edits::insert::fade_in(points, duration, c),
+            Replacement::FadeOut(duration, c) => edits::insert::fade_out(points, duration, c),
+            Replacement::Pulse(fade_in, sustain, fade_out, c) => edits::insert::pulse(
+                points,
+                fade_in,
+                sustain,
+                fade_out,
+                c,
+            ),
+            Replacement::Ramp(duration, start, end, c) => edits::insert::ramp(
+                points,
+                duration,
+                start,
+                end,
+                c,
+            ),
+        }
+    }
+}
+
+impl AutomationEnvelope {
+    fn with_points(self, points: Points) -> AutomationEnvelope
+        ensures { λ r. ⌜ r ≡ withPoints self points ⌝ }
+    {
+        let min_value = self.min_value;
+        let max_value = self.max_value;
+        let step_size = self.step_size;
+        AutomationEnvelope {
+            target: self.target,
+            points,
+            enabled: self.enabled,
+            min_value,
+            max_value,
+            step_size,
+        }
+    }
+
+    pub(crate) fn refuse(self, refusal: Refusal) -> Edited
+        ensures { λ r. ⌜ r ≡ refusedEdit self refusal ⌝ }
+    {
+        Edited {
+            answer: Answer::Refused(refusal),
+            envelope: self,
+        }
+    }
+
+    // What an edit of the points makes of the envelope.
+    pub(crate) fn settle(self, r: EditedPoints) -> Edited
+        ensures { λ t. ⌜ toldEdit t ≡ edited self r ⌝ }
+    {
+        let limits = self.limits();
+        if limits.is_finite() {
+            let answer = r.answer;
+            let points = r.points;
+            Edited {
+                answer,
+                envelope: self.with_points(points),
+            }
+        } else {
+            self.refuse(Refusal::NotValid)
+        }
+    }
+
+    // What a replacement makes of it: the settings are new too.
+    fn replace(self, r: EditedPoints) -> Edited
+        ensures { λ t. ⌜ toldEdit t ≡ replaced self r ⌝ }
+    {
+        let limits = self.limits();
+        if limits.is_finite() {
+            let answer = r.answer;
+            let points = r.points;
+            match answer {
+                Answer::Accepted => {
+                    let fresh = AutomationEnvelope::new(self.target);
+                    Edited {
+                        answer: Answer::Accepted,
+                        envelope: fresh.with_points(points),
+                    }
+                }
+                Answer::Refused(refusal) => self.refuse(refusal),
+            }
+        } else {
+            self.refuse(Refusal::NotValid)
+        }
+    }
+
+    // What a setting makes of it; `ok` says that its argument is finite.
+    fn set(self, ok: bool, changed: AutomationEnvelope) -> Edited
+        ensures { λ t. ⌜ toldEdit t ≡ setting self ok changed ⌝ }
+    {
+        if self.is_valid() {
+            if ok {
+                Edited {
+                    answer: Answer::Accepted,
+                    envelope: changed,
+                }
+            } else {
+                self.refuse(Refusal::NotFinite)
+            }
+        } else {
+            self.refuse(Refusal::NotValid)
+        }
+    }
+}
+
+impl AutomationEnvelope {
+    // The same target and points with other settings.
+    fn with_settings(self, enabled: bool, limits: Limits) -> AutomationEnvelope
+        ensures { λ r. ⌜ r ≡ withSettings self enabled limits ⌝ }
+    {
+        let points = self.points;
+        let min_value = limits.min_value;
+        let max_value = limits.max_value;
+        let step_size = limits.step_size;
+        AutomationEnvelope {
+            target: self.target,
+            points,
+            enabled,
+            min_value,
+            max_value,
+            step_size,
+        }
+    }
+
+    // Any of 01's edits.
+    pub fn edit(mut self, e: Edit) -> Edited
+        ensures { λ r. ⌜ toldEdit r ≡ editOf e self ⌝ }
+    {
+        let points = self.points;
+        let enabled = self.enabled;
+        let min_value = self.min_value;
+        let max_value = self.max_value;
+        let step_size = self.step_size;
+        match e {
+            Edit::OfPoints(edit) => self.settle(edit.apply(points)),
+            Edit::Replace(replacement) => self.replace(replacement.apply(points)),
+            Edit::SetEnabled(on) => {
+                self.set(
+                    true,
+                    self.with_settings(
+                        on,
+                        Limits {
+                            min_value,
+                            max_value,
+                            step_size,
+                        },
+                    ),
+                )
+            }
+            Edit::SetMin(l) => {
+                self.set(
+                    l.is_finite(),
+                    self.with_settings(
+                        enabled,
+                        Limits {
+                            min_value: l,
+                            max_value,
+                            step_size,
+                        },
+                    ),
+                )
+            }
+            Edit::SetMax(l) => {
+                self.set(
+                    l.is_finite(),
+                    self.with_settings(
+                        enabled,
+                        Limits {
+                            min_value,
+                            max_value: l,
+                            step_size,
+                        },
+                    ),
+                )
+            }
+            Edit::SetStep(l) => {
+                self.set(
+                    l.is_finite(),
+                    self.with_settings(
+                        enabled,
+                        Limits {
+                            min_value,
+                            max_value,
+                            step_size: l,
+                        },
+                    ),
+                )
+            }
+        }
+    }
+}
