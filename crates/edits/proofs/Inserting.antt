@@ -2,13 +2,13 @@
 use Prim.Native.Nat.{ℕ, zero, suc, _+_, _-_, _≤_, _<_, zero-le, suc-le-suc}
 use mathlib.Core.Path.{_≡_, refl, sym, ap, _∙_}
 use mathlib.Core.Bool.{Bool, true, false, cond, _&&_}
-use mathlib.Core.List.{List, [], _∷_, _++_, foldl-append}
-use native.Mathlib.Nat.{le-of-suc-le-suc, not-suc-le-zero}
+use mathlib.Core.List.{List, [], _∷_, _++_, foldl-append, append-nil, append-assoc}
+use native.Mathlib.Nat.{le-of-suc-le-suc, not-suc-le-zero, lt-trans}
 use native.Mathlib.Omega.{arith}
 use lib.Dec.{ltb, eqb}
 use lib.ListN.{length, take, drop, getD, set, replicate, length-set, length-append, length-replicate, length-take, take-append-drop}
 use lib.Seq.{getD-take, set-append-left, length-take-le, take-append-seam, take-length, drop-length}
-use borrow.Author.Tests.{ltb-false, lt-ltb, eqb-true, eqb-false, eq-eqb, ne-eqb}
+use borrow.Author.Tests.{ltb-true, ltb-false, lt-ltb, eqb-true, eqb-false, eq-eqb, ne-eqb}
 use Rattle.points.specs.Point.{unused, anyPoint}
 use Rattle.points.specs.Points.{every, rising, risingBy, timeKey, listOf, holding}
 use Rattle.points.specs.Laws.{and-left, and-right}
@@ -198,14 +198,54 @@ pub rising-all : (l new : List AutomationPoint) → rising l ≡ true → rising
 rising-all l [] r = r
 rising-all l (p ∷ new) r = rising-all (insertPoint p l) new (rising-insert p l r)
 
+-- ---- points whose times rise go behind each other
+
+rising-prefix : (xs ys : List AutomationPoint) → rising (xs ++ ys) ≡ true → rising xs ≡ true
+unfolding risingBy
+rising-prefix [] ys r = refl
+rising-prefix (x ∷ []) ys r = refl
+rising-prefix (x ∷ (y ∷ xs)) ys r =
+    let first = ltb (timeKey x) (timeKey y) in
+    and-yes (and-left first (rising (y ∷ (xs ++ ys))) r) (rising-prefix (y ∷ xs) ys (and-right first (rising (y ∷ (xs ++ ys))) r))
+
+rising-last : (x : AutomationPoint) (xs : List AutomationPoint) (p : AutomationPoint) → rising (x ∷ (xs ++ (p ∷ []))) ≡ true → timeKey x < timeKey p
+unfolding risingBy
+rising-last x [] p r = ltb-true (timeKey x) (timeKey p) (and-left (ltb (timeKey x) (timeKey p)) true r)
+rising-last x (y ∷ xs) p r =
+    let first = ltb (timeKey x) (timeKey y) in
+    lt-trans (ltb-true (timeKey x) (timeKey y) (and-left first (rising (y ∷ (xs ++ (p ∷ [])))) r)) (rising-last y xs p (and-right first (rising (y ∷ (xs ++ (p ∷ [])))) r))
+
+rising-tail : (x : AutomationPoint) (l : List AutomationPoint) → rising (x ∷ l) ≡ true → rising l ≡ true
+unfolding risingBy
+rising-tail x [] r = refl
+rising-tail x (y ∷ l) r = and-right (ltb (timeKey x) (timeKey y)) (rising (y ∷ l)) r
+
+insert-last : (xs : List AutomationPoint) (p : AutomationPoint) → rising (xs ++ (p ∷ [])) ≡ true → insertPoint p xs ≡ xs ++ (p ∷ [])
+unfolding insertPoint
+insert-last [] p r = refl
+insert-last (x ∷ xs) p r =
+    rw (lt-ltb (timeKey x) (timeKey p) (rising-last x xs p r)) (ap (λ (l : List AutomationPoint). x ∷ l) (insert-last xs p (rising-tail x (xs ++ (p ∷ [])) r)))
+
+all-last : (xs ys : List AutomationPoint) → rising (xs ++ ys) ≡ true → insertAll xs ys ≡ xs ++ ys
+all-last xs [] r = sym (append-nil xs)
+all-last xs (p ∷ ys) r =
+    let s : rising ((xs ++ (p ∷ [])) ++ ys) ≡ true = ap rising (append-assoc xs (p ∷ []) ys) ∙ r in
+    ap (λ (l : List AutomationPoint). insertAll l ys) (insert-last xs p (rising-prefix (xs ++ (p ∷ [])) ys s)) ∙ all-last (xs ++ (p ∷ [])) ys s ∙ append-assoc xs (p ∷ []) ys
+
+pub rising-inserts : (l : List AutomationPoint) → rising l ≡ true → insertAll [] l ≡ l
+rising-inserts l r = all-last [] l r
+
 -- ---- points in their places
+
+pub holding-own : (ps : Points) (l : List AutomationPoint) → ps ≡ holding l → holding (listOf ps) ≡ ps
+holding-own ps l e = ap holding (ap listOf e ∙ listOf-holding l) ∙ sym e
 
 pub sorted-holding : (ps : Points) (l : List AutomationPoint) → ps ≡ holding l → length l ≤ 256 → rising l ≡ true → Sorted ps
 sorted-holding ps l e h r =
     let same : listOf ps ≡ l = ap listOf e ∙ listOf-holding l in
     record {
       few = omega (arith, ap (λ (x : Points). x .count) e);
-      holds = ap holding same ∙ sym e;
+      holds = holding-own ps l e;
       rises = ap rising same ∙ r;
     }
 

@@ -1,15 +1,19 @@
 -- Laws of the edits that put points in: their refusals, and what a merge's offset does. Assumes nothing.
+use Prim.Native.Nat.{_≤_, _<_}
 use mathlib.Core.Path.{_≡_, refl, sym, ap, _∙_}
 use mathlib.Core.Bool.{Bool, true, false, cond, _&&_, false≢true, and-false}
 use mathlib.Core.List.{List, [], _∷_, map}
+use native.Mathlib.Omega.{arith}
 use lib.Dec.{T, ltb, eqb, leb}
-use lib.Ieee.{Float, nan, inf, fin, binary64, fits}
+use lib.Ieee.{Float, nan, inf, fin, binary64, add, fits, ofBits}
 use lib.Ieee.Fits.{nan-fits, inf-fits, add-fits}
 use lib.ListN.{length}
-use borrow.Author.Tests.{eqb-true}
+use borrow.Author.Tests.{eqb-true, eq-eqb, ne-eqb, lt-ltb, le-ltb, le-leb}
 use Rattle.numbers.specs.Bounds.{finite}
 use Rattle.numbers.specs.OrderLaws.{key-same}
-use Rattle.curve.specs.Curve.{finiteControls}
+use Rattle.curve.specs.Curve.{finiteControls, controls}
+use Rattle.curve.specs.declared.CurveType.{CurveType}
+use Rattle.curve.specs.declared.CurveType.the-variants.{Linear}
 use Rattle.points.specs.Point.{finitePoint}
 use Rattle.points.specs.Points.{every, rising, timeKey, listOf, holding, validPoints}
 use Rattle.points.specs.Laws.{and-left, and-right, and-true}
@@ -19,10 +23,11 @@ use Rattle.points.specs.declared.Points.{Points}
 use Rattle.points.specs.declared.refusal.Refusal.the-variants.{NotValid, NotFinite, TooManyPoints}
 use Rattle.points.specs.declared.refusal.Answer.the-variants.{Accepted}
 use Rattle.edits.specs.Settle.{refused, settle, editPoints}
-use Rattle.edits.specs.Each.{changed}
-use Rattle.edits.specs.Insert.{insertPoint, insertAll, merged, mergedPoints}
+use Rattle.edits.specs.Each.{zero64, zero32, one32, changed}
+use Rattle.edits.specs.Insert.{insertPoint, insertAll, merged, mergedPoints, pointWith, rampList, pulseList}
 use Rattle.edits.specs.Inserted.{Sorted}
 use Rattle.edits.specs.declared.each.Change.the-variants.{Shift}
+use Rattle.edits.proofs.Inserting.{every-all}
 
 -- ---- the refusals, one by one
 
@@ -50,6 +55,17 @@ pub bad-result : (ps : Points) (l : List AutomationPoint) → every finitePoint 
 unfolding settle
 bad-result ps l f = rw f
 
+-- new points that hold l, where the arguments are finite and every number of l is
+pub made-new : (ps new : Points) (ok : Bool) (l : List AutomationPoint) → validPoints ps ≡ true → (ok && every finitePoint l) ≡ true → rising l ≡ true → length l ≤ 256 → new ≡ holding l
+    → record { answer = Accepted; points = new } ≡ editPoints ps ok l
+made-new ps new ok l v f r h n =
+    ap (λ (x : Points). record { answer = Accepted; points = x }) n ∙ room ps l (and-right ok (every finitePoint l) f) r (le-leb (length l) 256 h) ∙ settled ps ok l v (and-left ok (every finitePoint l) f)
+
+-- either 3, of an argument or of the result
+pub any-three : (ps : Points) (ok : Bool) (l : List AutomationPoint) → validPoints ps ≡ true → (ok && every finitePoint l) ≡ false → refused ps NotFinite ≡ editPoints ps ok l
+any-three ps true l v f = bad-result ps l f ∙ settled ps true l v refl
+any-three ps false l v f = not-finite ps false l v refl
+
 pub valid-sorted : (ps : Points) → validPoints ps ≡ true → length (ps .places) ≡ 256 → Sorted ps
 valid-sorted ps v len = record { few = valid-count ps v; holds = holding-listOf ps v len; rises = valid-rising ps v }
 
@@ -75,6 +91,10 @@ odd-fits (fin s m e) h = absurd (false≢true (sym h))
 
 and-no : (a : Bool) {b : Bool} → b ≡ false → (a && b) ≡ false
 and-no a h = ap (λ (b : Bool). a && b) h ∙ and-false a
+
+-- where the value and the controls are finite, the time decides
+fine-only : (a b c : Bool) → b ≡ true → c ≡ true → ((a && b) && c) ≡ a
+fine-only a b c h g = (λ i. (a && h i) && g i) ∙ and-true (a && true) ∙ and-true a
 
 -- it stays in the list: the point that replaces it has its very time
 module _ (q : AutomationPoint) (f : T (fits binary64 (q .time))) where
@@ -122,10 +142,7 @@ module _ (offset : Float) where
   bad-some l [] h = absurd (false≢true (sym h))
   bad-some l (q ∷ other) h = some-cons q l other (fine (shift offset q)) refl h (λ m. bad-some m other)
 
-  -- values and controls stay, so that only a time can be lost
-  fine-only : (a b c : Bool) → b ≡ true → c ≡ true → ((a && b) && c) ≡ a
-  fine-only a b c h g = (λ i. (a && h i) && g i) ∙ and-true (a && true) ∙ and-true a
-
+  -- values and controls stay
   shift-fine : (other : List AutomationPoint) → every finitePoint other ≡ true → every finitePoint (map (shift offset) other) ≡ every fine (map (shift offset) other)
   unfolding every
   shift-fine [] h = refl
@@ -143,14 +160,17 @@ points-fine (q ∷ l) h =
     let here = and-left (finitePoint q) (every finitePoint l) h in
     λ i. and-left (finite (q .time)) (finite (q .value)) (and-left (finite (q .time) && finite (q .value)) (finiteControls (q .curve)) here) i && points-fine l (and-right (finitePoint q) (every finitePoint l) h) i
 
+unfine : (l : List AutomationPoint) → every fine l ≡ false → every finitePoint l ≡ false
+unfine l h = go (every finitePoint l) refl
+  where
+    go : (t : Bool) → every finitePoint l ≡ t → every finitePoint l ≡ false
+    go true e = absurd (false≢true (sym h ∙ points-fine l e))
+    go false e = e
+
 -- so the result has a number that isn't finite where a shifted time isn't
 pub merge-bad : (offset : Float) (l other : List AutomationPoint) → every finitePoint other ≡ true → every finitePoint (map (shift offset) other) ≡ false
     → every finitePoint (insertAll l (map (shift offset) other)) ≡ false
-merge-bad offset l other o h = go (every finitePoint (insertAll l (map (shift offset) other))) refl
-  where
-    go : (t : Bool) → every finitePoint (insertAll l (map (shift offset) other)) ≡ t → t ≡ false
-    go true e = absurd (false≢true (sym (bad-some offset l other (sym (shift-fine offset other o) ∙ h)) ∙ points-fine (insertAll l (map (shift offset) other)) e))
-    go false e = refl
+merge-bad offset l other o h = unfine (insertAll l (map (shift offset) other)) (bad-some offset l other (sym (shift-fine offset other o) ∙ h))
 
 pub merge-invalid : (ps other : Points) (offset : Float) → validPoints ps ≡ false → refused ps NotValid ≡ mergedPoints ps other offset
 unfolding mergedPoints
@@ -167,3 +187,79 @@ merge-other ps other offset v = rw v
 pub merge-valid : (ps other : Points) (offset : Float) → validPoints other ≡ true → editPoints ps (finite offset) (merged (listOf ps) (listOf other) offset) ≡ mergedPoints ps other offset
 unfolding mergedPoints
 merge-valid ps other offset v = rw v
+
+-- ---- a ramp and a pulse
+
+implied : (a b : Bool) → (a ≡ true → b ≡ true) → a ≡ (a && b)
+implied true b h = sym (h refl)
+implied false b h = refl
+
+both : {a b : Bool} → a ≡ true → b ≡ true → (a && b) ≡ true
+both p q = λ i. p i && q i
+
+-- two points, in each order
+pub pair-up : (a b : AutomationPoint) → timeKey a < timeKey b → (a ∷ (b ∷ [])) ≡ insertAll [] (a ∷ (b ∷ []))
+unfolding insertPoint
+pair-up a b h = rw (lt-ltb (timeKey a) (timeKey b) h)
+
+pub pair-same : (a b : AutomationPoint) → timeKey a ≡ timeKey b → (b ∷ []) ≡ insertAll [] (a ∷ (b ∷ []))
+unfolding insertPoint
+pair-same a b h = rw (le-ltb (timeKey a) (timeKey b) (omega arith), eq-eqb (timeKey a) (timeKey b) h)
+
+pub pair-down : (a b : AutomationPoint) → timeKey b ≤ timeKey a → (timeKey a ≡ timeKey b → ⊥) → (b ∷ (a ∷ [])) ≡ insertAll [] (a ∷ (b ∷ []))
+unfolding insertPoint
+pair-down a b h e = rw (le-ltb (timeKey a) (timeKey b) h, ne-eqb (timeKey a) (timeKey b) e)
+
+-- the first two points: one at 0, and one at a time
+two-fine : (time start end : Float) (c : CurveType) → finite time ≡ true → finite start ≡ true → finite end ≡ true → finiteControls c ≡ true
+    → every finitePoint (pointWith zero64 start Linear ∷ (pointWith time end c ∷ [])) ≡ true
+unfolding every finite finiteControls controls ofBits
+two-fine time start end c t s e g = both (both s refl) (both (both (both t e) g) refl)
+
+pub ramp-fine : (duration start end : Float) (c : CurveType)
+    → (finite duration && finite start && finite end && finiteControls c) ≡ ((finite duration && finite start && finite end && finiteControls c) && every finitePoint (rampList duration start end c))
+unfolding every
+ramp-fine duration start end c =
+    let d = finite duration in
+    let s = finite start in
+    let e = finite end in
+    let g = finiteControls c in
+    implied (d && s && e && g) (every finitePoint (rampList duration start end c))
+    (λ h. every-all finitePoint [] (pointWith zero64 start Linear ∷ (pointWith duration end c ∷ [])) refl
+    (two-fine duration start end c (and-left d s (and-left (d && s) e (and-left (d && s && e) g h))) (and-right d s (and-left (d && s) e (and-left (d && s && e) g h))) (and-right (d && s) e (and-left (d && s && e) g h)) (and-right (d && s && e) g h)))
+
+-- a point whose value and controls are finite isn't finite: then its time isn't
+lost : (p : AutomationPoint) → finite (p .value) ≡ true → finiteControls (p .curve) ≡ true → finitePoint p ≡ false → fine p ≡ false
+lost p v c h = sym (fine-only (fine p) (finite (p .value)) (finiteControls (p .curve)) v c) ∙ h
+
+-- a pulse's two sums: each is finite, or the list isn't
+abbrev third : Float → Float → AutomationPoint
+third fadeIn sustain = pointWith (add binary64 fadeIn sustain) one32 Linear
+
+abbrev fourth : Float → Float → Float → CurveType → AutomationPoint
+fourth fadeIn sustain fadeOut c = pointWith (add binary64 (add binary64 fadeIn sustain) fadeOut) zero32 c
+
+module _ (fadeIn sustain fadeOut : Float) (c : CurveType) where
+  sums : (x y : Bool) → finite fadeIn ≡ true → finiteControls c ≡ true → finitePoint (third fadeIn sustain) ≡ x → finitePoint (fourth fadeIn sustain fadeOut c) ≡ y
+      → every finitePoint (pulseList fadeIn sustain fadeOut c) ≡ (x && y)
+  unfolding every finite finiteControls controls ofBits
+  sums true true f g p q =
+      every-all finitePoint [] (pointWith zero64 zero32 Linear ∷ (pointWith fadeIn one32 c ∷ (third fadeIn sustain ∷ (fourth fadeIn sustain fadeOut c ∷ [])))) refl
+      (both (refl {a = true}) (both (both (both f refl) g) (both p (both q refl))))
+  sums true false f g p q = unfine (pulseList fadeIn sustain fadeOut c) (bad-new (fourth fadeIn sustain fadeOut c) _ (lost (fourth fadeIn sustain fadeOut c) refl g q))
+  sums false y f g p q =
+      unfine (pulseList fadeIn sustain fadeOut c)
+      (bad-stays (fourth fadeIn sustain fadeOut c) (add-fits binary64 (add binary64 fadeIn sustain) fadeOut) _ (bad-new (third fadeIn sustain) _ (lost (third fadeIn sustain) refl refl p)))
+
+  abbrev given : Bool
+  given = finite fadeIn && finite sustain && finite fadeOut && finiteControls c
+
+  pub pulse-fine : ((given && finitePoint (third fadeIn sustain)) && finitePoint (fourth fadeIn sustain fadeOut c)) ≡ (given && every finitePoint (pulseList fadeIn sustain fadeOut c))
+  pulse-fine = go given refl
+    where
+      go : (b : Bool) → given ≡ b → ((b && finitePoint (third fadeIn sustain)) && finitePoint (fourth fadeIn sustain fadeOut c)) ≡ (b && every finitePoint (pulseList fadeIn sustain fadeOut c))
+      go true h =
+          sym (sums (finitePoint (third fadeIn sustain)) (finitePoint (fourth fadeIn sustain fadeOut c))
+          (and-left (finite fadeIn) (finite sustain) (and-left (finite fadeIn && finite sustain) (finite fadeOut) (and-left (finite fadeIn && finite sustain && finite fadeOut) (finiteControls c) h)))
+          (and-right (finite fadeIn && finite sustain && finite fadeOut) (finiteControls c) h) refl refl)
+      go false h = refl

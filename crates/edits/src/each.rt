@@ -75,16 +75,16 @@ fn clampf(low: f32, high: f32, x: f32) -> f32
 }
 
 // Rust's f64::clamp.
-fn clamp(low: f64, high: f64, x: f64) -> f64
-    ensures { λ r. ⌜ r ≡ clampedTo low high x ⌝ }
+fn clamp(low: f64, high: f64, t: f64) -> f64
+    ensures { λ r. ⌜ r ≡ clampedTo low high t ⌝ }
 {
-    if x < low {
+    if t < low {
         return low;
     }
-    if x > high {
+    if t > high {
         return high;
     }
-    x
+    t
 }
 
 fn fade_fraction(start: f64, duration: f64, time: f64) -> f32

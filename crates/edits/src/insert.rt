@@ -13,7 +13,6 @@ ghost use Rattle.edits.specs.Inserted.{Sorted, Inserts};
 use crate::EditedPoints;
 use crate::each::Change;
 use crate::each::map_points;
-use crate::finish::finish;
 use crate::finish::refuse;
 use curve::CurveType;
 use points::AutomationPoint;
@@ -23,7 +22,7 @@ use points::refusal::Answer;
 use points::refusal::Refusal;
 
 struct Inserted {
-    // whether all points found a place
+    // whether there was a place for each
     fits: bool,
     points: Points,
 }
@@ -156,12 +155,25 @@ fn point_with(time: f64, value: f32, curve: CurveType) -> AutomationPoint
     }
 }
 
-fn two(a: AutomationPoint, b: AutomationPoint) -> Points
-    ensures { λ r. ⌜ r ≡ holding (a ∷ (b ∷ [])) ⌝ }
+// Two points in the order of their times, or the second alone where they have the same.
+fn pair(a: AutomationPoint, b: AutomationPoint) -> Points
+    ensures { λ r. ⌜ r ≡ holding (insertAll [] (a ∷ (b ∷ []))) ⌝ }
 {
     let mut out = points::list::none();
-    out.places[0] = a;
-    out.places[1] = b;
+    let x = numbers::order::order_key(a.time);
+    let y = numbers::order::order_key(b.time);
+    if x < y {
+        out.places[0] = a;
+        out.places[1] = b;
+        out.count = 2;
+        return out;
+    }
+    out.places[0] = b;
+    if x == y {
+        out.count = 1;
+        return out;
+    }
+    out.places[1] = a;
     out.count = 2;
     out
 }
@@ -178,10 +190,14 @@ fn four(a: AutomationPoint, b: AutomationPoint, c: AutomationPoint, d: Automatio
     out
 }
 
-// Each in turn into an envelope that has none.
+// Each in turn into none: as they are where their times rise.
 fn in_order(new: Points) -> Points
+    requires { ⌜ holding (listOf new) ≡ new ⌝ }
     ensures { λ r. ⌜ r ≡ holding (insertAll [] (listOf new)) ⌝ }
 {
+    if new.times_rise() {
+        return new;
+    }
     let made = insert_all(points::list::none(), new);
     made.points
 }
@@ -201,7 +217,16 @@ pub fn ramp(
         & curve.is_finite();
     let first = point_with(0.0, start, CurveType::Linear);
     let last = point_with(duration, end_value, curve);
-    finish(points, ok, in_order(two(first, last)))
+    if !points.is_valid() {
+        refuse(points, Refusal::NotValid)
+    } else if !ok {
+        refuse(points, Refusal::NotFinite)
+    } else {
+        EditedPoints {
+            answer: Answer::Accepted,
+            points: pair(first, last),
+        }
+    }
 }
 
 pub fn fade_in(points: Points, duration: f64, curve: CurveType) -> EditedPoints
@@ -234,5 +259,15 @@ pub fn pulse(
     let b = point_with(fade_in, 1.0, curve);
     let c = point_with(fade_in + sustain, 1.0, CurveType::Linear);
     let d = point_with(fade_in + sustain + fade_out, 0.0, curve);
-    finish(points, ok, in_order(four(a, b, c, d)))
+    let all = ok & c.is_finite() & d.is_finite();
+    if !points.is_valid() {
+        refuse(points, Refusal::NotValid)
+    } else if !all {
+        refuse(points, Refusal::NotFinite)
+    } else {
+        EditedPoints {
+            answer: Answer::Accepted,
+            points: in_order(four(a, b, c, d)),
+        }
+    }
 }

@@ -92,9 +92,9 @@ fn turned(points: Points) -> Points
     let mut i: usize = n;
     while 0 < i {
         i -= 1;
-        let p = points.places[i];
+        let point = points.places[i];
         let m = out.count;
-        out.places[m] = p;
+        out.places[m] = point;
         out.count = m + 1;
     }
     out

@@ -1,6 +1,6 @@
 -- Times that a program holds are `f64`s. Assumes nothing.
 use Prim.Native.Nat.{ℕ, zero, suc}
-use mathlib.Core.Path.{_≡_, sym, subst}
+use mathlib.Core.Path.{sym, subst}
 use mathlib.Core.List.{List, [], _∷_, map}
 use lib.Dec.{T}
 use lib.ListN.{getD}

@@ -4,3 +4,6 @@ pub mod Keys
 pub mod TimeOrder
 pub mod Segments
 pub mod Writing
+pub mod PlaceKeys
+pub mod Ranges
+pub mod Middles

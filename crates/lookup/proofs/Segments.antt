@@ -8,9 +8,9 @@ use mathlib.Core.Logic.{_⊎_, ⊎-elim}
 use native.Mathlib.Nat.{not-suc-le-zero, le-of-suc-le-suc, eq-or-lt-of-le}
 use native.Mathlib.Omega.{arith}
 use lib.Dec.{T, eqb}
-use lib.ListN.{length, take, drop, getD}
+use lib.ListN.{length, take, drop, getD, set, length-set}
 use lib.IntN.{pos}
-use lib.Seq.{getD-take, length-take-le}
+use lib.Seq.{getD-take, length-take-le, drop-set-lt}
 use lib.Ieee.{Float, nan, inf, fin, binary32, binary64, lt, le, fits, isNan, ofInt, ofBits}
 use lib.Ieee.Fits.{div-fits}
 use borrow.Author.Tests.{eqb-true, eqb-false, not-false}
@@ -194,3 +194,15 @@ module _ (ps : List AutomationPoint) (n : ℕ) (f : n ≤ length ps) (w : 2 ≤ 
           let z : k + 0 ≡ k = omega arith in
           ap (λ (x : ℕ). rawAt (take n ps) (timeOf rate x)) z ∙ raw-around (timeOf rate k) (at k) i a b e ∙ ap (λ (x : ℕ). some (rawOf seg (timeOf rate x))) (sym z)
       one p (suc j) h = raw-held (timeOf rate (k + suc j)) (at (k + suc j)) i (orderKey (timeOf rate k)) (p .0) (p .1) (s .within (suc j) h (omega arith))
+
+-- where a stretch ends: the writer's loop, which began with the first sample written, has i of them
+pub stretch-end : (seg : Segment) (limits : Limits) (rate : Float) (first i : ℕ) (o out : List Float) (x : Float) → 1 ≤ i → i ≤ length (set o 0 x)
+    → ((j : ℕ) → j < i → 0 < j → inside seg (timeOf rate (first + j)) ≡ true) → out ≡ run (λ n. segmentAt limits seg (timeOf rate n)) first i ++ drop i (set o 0 x)
+    → Stretch seg limits rate first o out i
+stretch-end seg limits rate first i o out x p q h e =
+    record {
+      some = p;
+      most = omega (arith, length-set o 0 x);
+      within = h;
+      buffer = e ∙ ap (λ (l : List Float). run (λ n. segmentAt limits seg (timeOf rate n)) first i ++ l) (drop-set-lt i o 0 x p);
+    }

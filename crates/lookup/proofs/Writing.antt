@@ -4,7 +4,6 @@ use mathlib.Core.Path.{_≡_, sym, ap, ap₂, subst, _∙_}
 use mathlib.Core.Bool.{Bool, true, false, _&&_}
 use mathlib.Core.List.{List, _++_, map}
 use native.Mathlib.Omega.{arith}
-use lib.Dec.{T}
 use lib.ListN.{length, take, drop, replicate, length-take, length-map}
 use lib.Seq.{length-take-le}
 use lib.IntN.{pos}
@@ -40,35 +39,35 @@ module _ (ps : Points) (vs : List Val) (g : Is (row the-type) ps vs) (v : validP
       let long : length (take (ps .count) keys) ≡ ps .count = ap length e ∙ length-map (listOf ps) timeKey ∙ length-take-le (ps .count) (ps .places) (among ps vs g v) in
       (valid-count ps v, omega (arith, length-take (ps .count) keys), ap (risingBy itself) e ∙ rising-keys timeKey (listOf ps) ∙ valid-rising ps v)
 
-  module _ (rate : Float) (k : ℕ) where
-    -- where the search over the keys ends
-    pub found : (keys : List ℕ) → take (ps .count) keys ≡ map timeKey (listOf ps) → (key j : ℕ) → key ≡ orderKey (timeOf rate k) → j ≡ placeBy itself key (take (ps .count) keys)
-        → placeBy timeKey (orderKey (timeOf rate k)) (listOf ps) ≡ j
-    found keys e key j c d =
-        sym (d ∙ ap (placeBy itself key) e ∙ place-keys timeKey key (listOf ps) ∙ ap (λ (x : ℕ). placeBy timeKey x (listOf ps)) c)
+  -- at a time between the first and the last, the search over the keys ends between them, and the stretch that is written has the envelope's samples
+  module _ (keys : List ℕ) (e : take (ps .count) keys ≡ map timeKey (listOf ps)) (rate : Float) (k : ℕ)
+      (t : (lt (pointAt (ps .places) 0 .time) (timeOf rate k) && lt (timeOf rate k) (pointAt (ps .places) (ps .count - 1) .time)) ≡ true)
+      (key j : ℕ) (c : key ≡ orderKey (timeOf rate k)) (d : j ≡ placeBy itself key (take (ps .count) keys)) where
+    found : placeBy timeKey (orderKey (timeOf rate k)) (listOf ps) ≡ j
+    found = sym (d ∙ ap (placeBy itself key) e ∙ place-keys timeKey key (listOf ps) ∙ ap (λ (x : ℕ). placeBy timeKey x (listOf ps)) c)
 
-    module _ (t : (lt (pointAt (ps .places) 0 .time) (timeOf rate k) && lt (timeOf rate k) (pointAt (ps .places) (ps .count - 1) .time)) ≡ true) where
-      pub found-inside : (j : ℕ) → placeBy timeKey (orderKey (timeOf rate k)) (listOf ps) ≡ j → (0 < j) × (j < ps .count)
-      found-inside j e =
-          place-inside (ps .places) (ps .count) (among ps vs g v) w (valid-finite ps v) (valid-rising ps v) (times-fit ps vs g) (timeOf rate k) (div-fits binary64 (ofInt binary64 (pos k)) rate) j
-          (and-left _ _ t) (and-right (lt (pointAt (ps .places) 0 .time) (timeOf rate k)) _ t) e
+    pub search-inside : (0 < j) × (j < ps .count)
+    search-inside =
+        place-inside (ps .places) (ps .count) (among ps vs g v) w (valid-finite ps v) (valid-rising ps v) (times-fit ps vs g) (timeOf rate k) (div-fits binary64 (ofInt binary64 (pos k)) rate) j
+        (and-left _ _ t) (and-right (lt (pointAt (ps .places) 0 .time) (timeOf rate k)) _ t) found
 
-      pub stretch-written : (limits : Limits) (seg : Segment) (key j m : ℕ) (old new : List Float) → key ≡ orderKey (timeOf rate k) → placeBy timeKey (orderKey (timeOf rate k)) (listOf ps) ≡ j
-          → seg ≡ segmentAround key (pointAt (ps .places) (j - 1)) (pointAt (ps .places) j) → Stretch seg limits rate k old new m
-          → new ≡ run (sampleAt ps true limits rate) k m ++ drop m old
-      stretch-written limits seg key j m old new c e q s =
-          stretch-samples (ps .places) (ps .count) (among ps vs g v) w (valid-finite ps v) (valid-rising ps v) (times-fit ps vs g) limits rate k j m old new
-          (and-left _ _ t) (and-right (lt (pointAt (ps .places) 0 .time) (timeOf rate k)) _ t) e
-          (subst (λ (x : Segment). Stretch x limits rate k old new m) (q ∙ ap (λ (x : ℕ). segmentAround x (pointAt (ps .places) (j - 1)) (pointAt (ps .places) j)) c) s)
+    pub stretch-written : (limits : Limits) (seg : Segment) (m : ℕ) (old new : List Float) → seg ≡ segmentAround key (pointAt (ps .places) (j - 1)) (pointAt (ps .places) j)
+        → Stretch seg limits rate k old new m → new ≡ run (sampleAt ps true limits rate) k m ++ drop m old
+    stretch-written limits seg m old new q s =
+        stretch-samples (ps .places) (ps .count) (among ps vs g v) w (valid-finite ps v) (valid-rising ps v) (times-fit ps vs g) limits rate k j m old new
+        (and-left _ _ t) (and-right (lt (pointAt (ps .places) 0 .time) (timeOf rate k)) _ t) found
+        (subst (λ (x : Segment). Stretch x limits rate k old new m) (q ∙ ap (λ (x : ℕ). segmentAround x (pointAt (ps .places) (j - 1)) (pointAt (ps .places) j)) c) s)
 
-    pub outside-sample : (limits : Limits) → (lt (pointAt (ps .places) 0 .time) (timeOf rate k) && lt (timeOf rate k) (pointAt (ps .places) (ps .count - 1) .time)) ≡ false
-        → (a b x : Float) → a ≡ constrained limits (pointAt (ps .places) 0 .value) → b ≡ constrained limits (pointAt (ps .places) (ps .count - 1) .value)
-        → x ≡ outsideAt (record { first = pointAt (ps .places) 0 .time; early = a; last = pointAt (ps .places) (ps .count - 1) .time; late = b }) (timeOf rate k)
-        → x ≡ sampleAt ps true limits rate k
-    outside-sample limits t a b x p q e =
-        e
-        ∙ ap₂ (λ (y z : Float). outsideAt (record { first = pointAt (ps .places) 0 .time; early = y; last = pointAt (ps .places) (ps .count - 1) .time; late = z }) (timeOf rate k)) p q
-        ∙ raw-outside (ps .places) (ps .count) (among ps vs g v) w (valid-finite ps v) (valid-rising ps v) (times-fit ps vs g) limits (timeOf rate k) t
+  -- at any other time the writer has the sample by the first point and the last
+  pub outside-sample : (rate : Float) (k : ℕ) (limits : Limits)
+      → (lt (pointAt (ps .places) 0 .time) (timeOf rate k) && lt (timeOf rate k) (pointAt (ps .places) (ps .count - 1) .time)) ≡ false
+      → (a b x : Float) → a ≡ constrained limits (pointAt (ps .places) 0 .value) → b ≡ constrained limits (pointAt (ps .places) (ps .count - 1) .value)
+      → x ≡ outsideAt (record { first = pointAt (ps .places) 0 .time; early = a; last = pointAt (ps .places) (ps .count - 1) .time; late = b }) (timeOf rate k)
+      → x ≡ sampleAt ps true limits rate k
+  outside-sample rate k limits t a b x p q e =
+      e
+      ∙ ap₂ (λ (y z : Float). outsideAt (record { first = pointAt (ps .places) 0 .time; early = y; last = pointAt (ps .places) (ps .count - 1) .time; late = z }) (timeOf rate k)) p q
+      ∙ raw-outside (ps .places) (ps .count) (among ps vs g v) w (valid-finite ps v) (valid-rising ps v) (times-fit ps vs g) limits (timeOf rate k) t
 
 -- ---- samples that are all the same, and those of an enabled envelope
 

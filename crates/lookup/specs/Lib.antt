@@ -2,8 +2,13 @@
 pub mod Limits
 pub mod Lookup
 pub mod Render
+pub mod Analysis
+pub mod Keys
+pub mod Ranges
 pub mod LookupLaws
 pub mod Runs
 pub mod RenderLaws
+pub mod Pieces
 pub mod Writer
 pub mod Examples
+pub mod RenderExamples

@@ -107,7 +107,7 @@ module _ (ps : List AutomationPoint) (n : ℕ) (time : Float) (f : n ≤ length 
 
   -- between the ends, by the place i that the search ends at
   module _ (w : 2 ≤ n) (a : le time (pointAt ps 0 .time) ≡ false) (b : le (pointAt ps (n - 1) .time) time ≡ false) (i : ℕ) (e : placeBy timeKey (orderKey time) (take n ps) ≡ i) where
-    raw-inner : rawAt (take n ps) time ≡ surrounded timeKey (orderKey time) (between time) (take n ps)
+    pub raw-inner : rawAt (take n ps) time ≡ surrounded timeKey (orderKey time) (between time) (take n ps)
     raw-inner = by-time (take n ps) time ∙ ends-two _ _ _ ps n f w ∙ rw (a, b)
 
     pub raw-at-point : i < n → timeKey (pointAt ps i) ≡ orderKey time → rawAt (take n ps) time ≡ some (between time (pointAt ps i) (pointAt ps i))
@@ -151,7 +151,7 @@ module _ (ps : List AutomationPoint) (n sample : ℕ) (f : n ≤ length ps) wher
 
     -- between the ends, by the place i that the search ends at
     module _ (b : sample < sampleKey (pointAt ps (n - 1))) (i : ℕ) (e : placeBy sampleKey sample (take n ps) ≡ i) where
-      sample-inner : rawAtSample (take n ps) sample ≡ surrounded sampleKey sample (betweenSamples sample) (take n ps)
+      pub sample-inner : rawAtSample (take n ps) sample ≡ surrounded sampleKey sample (betweenSamples sample) (take n ps)
       sample-inner = sample-rest ∙ rw (lt-leb (sampleKey (pointAt ps (n - 1))) sample b)
 
       pub sample-at-point : i < n → sampleKey (pointAt ps i) ≡ sample → rawAtSample (take n ps) sample ≡ some (betweenSamples sample (pointAt ps i) (pointAt ps i))

@@ -1,19 +1,22 @@
 -- 01, "Rendering": a run of samples, its pieces, `to_buffer`, and the walk of `iter_samples`.
-use Prim.Native.Nat.{ℕ, zero, suc, _+_, _-_, _*_}
-use mathlib.Core.Bool.{Bool, true, false, cond, _&&_}
+use Prim.Native.Nat.{ℕ, zero, suc, _+_, _-_}
+use mathlib.Core.Bool.{Bool, cond, _&&_}
 use mathlib.Core.List.{List, [], _∷_, _++_}
-use mathlib.Core.Option.{Option, none, some, Option·getD}
+use mathlib.Core.Option.{Option, none, Option·getD}
 use lib.ListN.{length, take, drop}
 use lib.Dec.{ltb, leb}
 use lib.IntN.{pos}
 use lib.Ieee.{Float, binary32, binary64, mul, div, ofInt, toUnsigned, ofBits}
 use Rattle.numbers.specs.Bounds.{finite}
-use Rattle.points.specs.Refusal.{Said, refuses, gives}
+use Rattle.points.specs.Refusal.{Said, refuses, gives, number}
 use Rattle.points.specs.declared.Points.{Points}
 use Rattle.lookup.specs.Limits.{valid}
-use Rattle.lookup.specs.Lookup.{valueAt}
+use Rattle.lookup.specs.Lookup.{valueAt, told}
 use Rattle.lookup.specs.declared.Limits.{Limits}
 use Rattle.lookup.specs.declared.render.SampleIterator.{SampleIterator}
+use Rattle.lookup.specs.declared.render.SampleStep.{SampleStep}
+use Rattle.lookup.specs.declared.render.Walk.{Walk}
+use Rattle.lookup.specs.declared.render.Walk.the-variants.{Over, Refused}
 
 -- "Sample i is the lookup at i / rate"
 abbrev pub valueOfSample : Points → Bool → Limits → Float → ℕ → Option Float
@@ -88,10 +91,19 @@ iterSamples points limits rate duration =
     (refuses 3))
     (refuses 1)
 
+-- a `Walk` in 01's terms
+abbrev pub walkTold : Walk → Said SampleIterator
+walkTold (Over w) = gives w
+walkTold (Refused r) = refuses (number r)
+
 -- what a call says, and the walk it leaves
 pub record Stepped : Type 0 where
   pub said : Said (Option Float)
   pub walk : SampleIterator
+
+-- a `SampleStep` in these terms
+abbrev pub stepTold : SampleStep → Stepped
+stepTold s = record { said = told (s .answer); walk = s .walk }
 
 -- "ends at a silent sample; that call still advances the place"; past the count there is none, and nothing advances
 unfoldable pub nextSample : Points → Bool → Limits → SampleIterator → Stepped

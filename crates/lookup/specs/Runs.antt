@@ -6,7 +6,7 @@ use native.Mathlib.Numerals.{add-one}
 use native.Mathlib.Nat.{add-suc, suc-add, add-zero, zero-add}
 use native.Mathlib.Omega.{arith}
 use lib.ListN.{length, take, drop, set, replicate, length-append, length-drop, drop-of-length-le}
-use lib.Seq.{take-all, length-take-le, drop-cons, drop-drop, drop-at, take-at, set-at, append-snoc}
+use lib.Seq.{drop-length, take-all, length-take-le, drop-cons, drop-drop, drop-at, take-at, set-at, append-snoc}
 use Rattle.lookup.specs.Render.{run}
 
 module _ {A : Type 0} (f : ℕ → A) where
@@ -55,6 +55,10 @@ module _ {A : Type 0} (f : ℕ → A) where
       ∙ ap (λ (l : List A). run f a i ++ (run f (a + i) m ++ l)) (drop-drop m i o)
       ∙ sym (append-assoc (run f a i) (run f (a + i) m) (drop (i + m) o))
       ∙ ap (λ (l : List A). l ++ drop (i + m) o) (sym (run-cut a i m))
+
+  -- where such a loop ends
+  pub run-end : (a i : ℕ) (o : List A) → i ≡ length o → run f a i ++ drop i o ≡ run f a (length o)
+  run-end a i o e = ap (λ (n : ℕ). run f a n ++ drop n o) e ∙ ap (λ (l : List A). run f a (length o) ++ l) (drop-length o) ∙ append-nil (run f a (length o))
 
   -- values that are the same one by one
   pub run-same : (g : ℕ → A) (a b n : ℕ) → ((i : ℕ) → i < n → f (a + i) ≡ g (b + i)) → run f a n ≡ run g b n

@@ -5,6 +5,8 @@ ghost use Rattle.lookup.specs.Lookup.{constrainedAnswer};
 use points::Points;
 use points::refusal::Refusal;
 
+pub mod analysis;
+mod place;
 pub mod render;
 pub mod sample;
 pub mod time;

@@ -7,9 +7,11 @@ ghost use lib.ListN.{length, take, replicate};
 ghost use Rattle.points.specs.Points.{listOf, validPoints, risingBy, timeKey};
 ghost use Rattle.points.specs.Refusal.{said};
 ghost use Rattle.points.specs.Search.{placeBy};
-ghost use Rattle.lookup.specs.Render.{sampleAt, run, runInto, render, toBuffer};
+ghost use Rattle.lookup.specs.Lookup.{told};
+ghost use Rattle.lookup.specs.Render.{sampleAt, run, runInto, render, toBuffer, iterSamples, walkTold, nextSample, stepTold};
 ghost use Rattle.lookup.specs.Writer.{itself, segmentOf, segmentAround, segmentAt, outsideAt, Stretch};
 use crate::Limits;
+use crate::Lookup;
 use curve::CurveType;
 use points::AutomationPoint;
 use points::Points;
@@ -21,6 +23,18 @@ pub struct SampleIterator {
     pub sample_rate: f64,
     pub current_sample: u64,
     pub total_samples: u64,
+}
+
+// What opening a walk says.
+pub enum Walk {
+    Over(SampleIterator),
+    Refused(Refusal),
+}
+
+// What a call on a walk says, and the walk it leaves.
+pub struct SampleStep {
+    pub answer: Lookup,
+    pub walk: SampleIterator,
 }
 
 // The way from one point to the next.
@@ -299,5 +313,68 @@ pub fn to_buffer(
         }
     } else {
         Answer::Refused(Refusal::NotValid)
+    }
+}
+
+// 000's iter_samples.
+pub fn iter_samples(points: Points, limits: Limits, rate: f64, duration: f64) -> Walk
+    ensures { λ r. ⌜ walkTold r ≡ iterSamples points limits rate duration ⌝ }
+{
+    if crate::is_valid(points, limits) {
+        if numbers::order::is_finite(rate) & numbers::order::is_finite(duration) {
+            let n = numbers::convert::f64_to_u64(duration * rate);
+            if n <= 4294967295 {
+                Walk::Over(SampleIterator {
+                    sample_rate: rate,
+                    current_sample: 0,
+                    total_samples: n,
+                })
+            } else {
+                Walk::Refused(Refusal::TooManySamples)
+            }
+        } else {
+            Walk::Refused(Refusal::NotFinite)
+        }
+    } else {
+        Walk::Refused(Refusal::NotValid)
+    }
+}
+
+impl SampleIterator {
+    fn stays(self, answer: Lookup) -> SampleStep
+        ensures { λ r. ⌜ stepTold r ≡ record { said = told answer; walk = self } ⌝ }
+    {
+        SampleStep { answer, walk: self }
+    }
+
+    // The sample at the place, which is passed even where it is silent; none past the last.
+    pub fn next(self, points: Points, enabled: bool, limits: Limits) -> SampleStep
+        ensures { λ r. ⌜ stepTold r ≡ nextSample points enabled limits self ⌝ }
+    {
+        if crate::is_valid(points, limits) {
+            if numbers::order::is_finite(self.sample_rate) {
+                if self.total_samples <= 4294967295 {
+                    if self.current_sample < self.total_samples {
+                        let time = self.current_sample as f64 / self.sample_rate;
+                        SampleStep {
+                            answer: crate::time::value_at(points, enabled, limits, time),
+                            walk: SampleIterator {
+                                sample_rate: self.sample_rate,
+                                current_sample: self.current_sample + 1,
+                                total_samples: self.total_samples,
+                            },
+                        }
+                    } else {
+                        self.stays(Lookup::Silent)
+                    }
+                } else {
+                    self.stays(Lookup::Refused(Refusal::TooManySamples))
+                }
+            } else {
+                self.stays(Lookup::Refused(Refusal::NotFinite))
+            }
+        } else {
+            self.stays(Lookup::Refused(Refusal::NotValid))
+        }
     }
 }

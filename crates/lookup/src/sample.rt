@@ -23,7 +23,7 @@ fn key_from(position: SamplePosition, other: u64) -> u64
 }
 
 // A point's key: its position, or its time at 48 kHz.
-fn sample_key(p: AutomationPoint) -> u64
+pub(crate) fn sample_key(p: AutomationPoint) -> u64
     ensures { λ r. ⌜ r ≡ sampleKey p ⌝ }
 {
     let position = p.sample_position;
@@ -31,7 +31,7 @@ fn sample_key(p: AutomationPoint) -> u64
 }
 
 // What the start test takes for the first point's key: 0 where it has no position.
-fn start_key(p: AutomationPoint) -> u64
+pub(crate) fn start_key(p: AutomationPoint) -> u64
     ensures { λ r. ⌜ r ≡ keyFrom (p .«sample_position») 0 ⌝ }
 {
     let position = p.sample_position;
@@ -59,7 +59,7 @@ fn sample_fraction(previous: u64, next: u64, sample: u64) -> f32
 }
 
 // The value at a sample on the way from p to q.
-fn between_samples(p: AutomationPoint, q: AutomationPoint, sample: u64) -> f32
+pub(crate) fn between_samples(p: AutomationPoint, q: AutomationPoint, sample: u64) -> f32
     ensures { λ r. ⌜ r ≡ betweenSamples sample p q ⌝ }
 {
     let c = p.curve;
@@ -75,12 +75,15 @@ pub(crate) fn keys_rise(points: Points) -> bool
     ensures { λ r. ⌜ r ≡ risingBy sampleKey (listOf points) ⌝ }
 {
     let n = points.used();
+    let first = points.places[0];
+    let mut last = sample_key(first);
     let mut ok = true;
     let mut i: usize = 1;
     while i < n {
-        let p = points.places[i - 1];
-        let q = points.places[i];
-        ok = ok & (sample_key(p) < sample_key(q));
+        let p = points.places[i];
+        let key = sample_key(p);
+        ok = ok & (last < key);
+        last = key;
         i += 1;
     }
     ok

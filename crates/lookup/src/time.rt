@@ -32,7 +32,7 @@ pub(crate) fn fraction(previous: f64, next: f64, time: f64) -> f32
 }
 
 // The value at a time on the way from p to q.
-fn between(p: AutomationPoint, q: AutomationPoint, time: f64) -> f32
+pub(crate) fn between(p: AutomationPoint, q: AutomationPoint, time: f64) -> f32
     ensures { λ r. ⌜ r ≡ between time p q ⌝ }
 {
     let c = p.curve;

@@ -55,27 +55,40 @@ impl Points {
         ok
     }
 
-    fn rest_unused(self) -> bool
-        requires { ⌜ self .count ≤ 256 ⌝ }
-        ensures { λ r. ⌜ r ≡ every isUnused (restOf self) ⌝ }
-    {
-        let mut ok = true;
-        let mut i: usize = self.count;
-        while i < 256 {
-            let p = self.places[i];
-            ok = ok & p.is_unused();
-            i += 1;
-        }
-        ok
-    }
-
+    // The three loops stand in one body: a method of its own for each would copy the places.
     pub fn is_valid(self) -> bool
         ensures { λ r. ⌜ r ≡ validPoints self ⌝ }
     {
-        if self.count > 256 {
+        let n = self.count;
+        if n > 256 {
             return false;
         }
-        self.all_finite() & self.times_rise() & self.rest_unused()
+        let mut finite = true;
+        let mut i: usize = 0;
+        while i < n {
+            let p = self.places[i];
+            finite = finite & p.is_finite();
+            i += 1;
+        }
+        let first = self.places[0];
+        let mut last = numbers::order::order_key(first.time);
+        let mut rise = true;
+        let mut j: usize = 1;
+        while j < n {
+            let p = self.places[j];
+            let key = numbers::order::order_key(p.time);
+            rise = rise & (last < key);
+            last = key;
+            j += 1;
+        }
+        let mut unused = true;
+        let mut k: usize = n;
+        while k < 256 {
+            let p = self.places[k];
+            unused = unused & p.is_unused();
+            k += 1;
+        }
+        finite & rise & unused
     }
 }
 

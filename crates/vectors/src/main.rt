@@ -4,8 +4,13 @@ ghost use mathlib.Core.Path.{_≡_};
 ghost use lib.ListN.{length};
 use libc::STDOUT_FILENO;
 
+mod answers;
+mod buffers;
 mod calls_curve;
 mod calls_numbers;
+mod calls_player;
+mod calls_render;
+mod records;
 mod replay;
 mod text;
 

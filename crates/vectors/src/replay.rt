@@ -6,6 +6,8 @@ ghost use lib.ListN.{length};
 ghost use Rattle.io.specs.Counts.{Counts};
 use crate::calls_curve;
 use crate::calls_numbers;
+use crate::calls_player;
+use crate::calls_render;
 use crate::text::Outcome;
 use crate::text::find;
 use libc::STDIN_FILENO;
@@ -58,11 +60,19 @@ fn counted(t: Tally, differs: bool) -> Tally {
 
 // What the first module gives that knows the call. `name` is the place after its name.
 fn outcome(s: &[u8], name: usize) -> Outcome {
-    let o = calls_numbers::run(s, name);
-    if let Outcome::Unknown = o {
-        return calls_curve::run(s, name);
-    }
-    o
+    let numbers = calls_numbers::run(s, name);
+    let Outcome::Unknown = numbers else {
+        return numbers;
+    };
+    let curve = calls_curve::run(s, name);
+    let Outcome::Unknown = curve else {
+        return curve;
+    };
+    let player = calls_player::run(s, name);
+    let Outcome::Unknown = player else {
+        return player;
+    };
+    calls_render::run(s, name)
 }
 
 // A call that no module knows counts as one that differs.

@@ -156,7 +156,7 @@ pub fn decimal_at(s: &[u8], at: usize) -> Word
 }
 
 // The number of a pattern; every NaN's pattern gives the one NaN.
-fn single_of(b: u32) -> f32
+pub fn single_of(b: u32) -> f32
     ensures { λ r. ⌜ r ≡ ofBits binary32 b ⌝ }
 {
     if 0x7F80_0000 < b % 0x8000_0000 {
@@ -196,7 +196,7 @@ pub fn double_at(s: &[u8], at: usize) -> Double {
 }
 
 // Whether two numbers are the same: a NaN is like any NaN, and 0.0 is not -0.0.
-fn same_single(x: f32, y: f32) -> bool
+pub fn same_single(x: f32, y: f32) -> bool
     ensures { λ r. ⌜ (r ≡ true → x ≡ y) × (x ≡ y → r ≡ true) ⌝ }
 {
     if x != x {
@@ -221,7 +221,7 @@ fn same_double(x: f64, y: f64) -> bool
 }
 
 // The place after a field that says y. A zero marked `~` says either zero.
-fn says_single(s: &[u8], at: usize, y: f32) -> Place {
+pub fn says_single(s: &[u8], at: usize, y: f32) -> Place {
     let Single::Is(x, next) = single_at(s, at) else {
         return Place::Nowhere;
     };
@@ -237,7 +237,7 @@ fn says_single(s: &[u8], at: usize, y: f32) -> Place {
     Place::Nowhere
 }
 
-fn says_double(s: &[u8], at: usize, y: f64) -> Place {
+pub fn says_double(s: &[u8], at: usize, y: f64) -> Place {
     let Double::Is(x, next) = double_at(s, at) else {
         return Place::Nowhere;
     };
@@ -247,7 +247,7 @@ fn says_double(s: &[u8], at: usize, y: f64) -> Place {
     Place::Nowhere
 }
 
-fn says_word(s: &[u8], at: usize, y: u64) -> Place {
+pub fn says_word(s: &[u8], at: usize, y: u64) -> Place {
     let Word::Is(x, next) = word_at(s, at) else {
         return Place::Nowhere;
     };
@@ -268,12 +268,16 @@ pub fn ended(s: &[u8], end: Place) -> Outcome {
     Outcome::Differs
 }
 
-// The line's answer is the f32 y.
-pub fn answers_single(s: &[u8], at: usize, y: f32) -> Outcome {
-    let Place::At(answer) = after(s, at, b" => ok") else {
+// The line's answer is the words w and the f32 y.
+pub fn answers_single_as(s: &[u8], at: usize, w: &[u8], y: f32) -> Outcome {
+    let Place::At(answer) = after(s, at, w) else {
         return Outcome::Differs;
     };
     ended(s, says_single(s, answer, y))
+}
+
+pub fn answers_single(s: &[u8], at: usize, y: f32) -> Outcome {
+    answers_single_as(s, at, b" => ok", y)
 }
 
 pub fn answers_double(s: &[u8], at: usize, y: f64) -> Outcome {

@@ -244,7 +244,7 @@ fn buffer(len: u64, place: u64, samples: impl Iterator<Item = Marked>) -> String
         }
         places[k] = marked(v, open);
     }
-    format!("buffer {len} {}", places.join(" "))
+    places.iter().fold(format!("buffer {len}"), |s, v| s + " " + v)
 }
 
 fn walk(e: &Envelope, rate: f64, duration: f64, calls: u64) -> String {

@@ -44,7 +44,7 @@ const DOUBLES: [f64; 8] = [
 
 const QUIET: f64 = f64::from_bits(0x7FF8_0000_0000_0000);
 
-fn sign(r: &mut Random) -> f64 {
+pub fn sign(r: &mut Random) -> f64 {
     r.one_of(&[1.0, -1.0])
 }
 
@@ -54,12 +54,12 @@ fn step(r: &mut Random, most: u64) -> i64 {
 }
 
 /// A number at most `most` patterns away from x, on the same side of zero.
-fn near(r: &mut Random, x: f32, most: u64) -> f32 {
+pub fn near(r: &mut Random, x: f32, most: u64) -> f32 {
     let pattern = x.abs().to_bits() as i64 + step(r, most);
     f32::from_bits(pattern.clamp(0, 0x7F80_0000) as u32).copysign(x)
 }
 
-fn near_double(r: &mut Random, x: f64, most: u64) -> f64 {
+pub fn near_double(r: &mut Random, x: f64, most: u64) -> f64 {
     let pattern = x.abs().to_bits() as i64 + step(r, most);
     f64::from_bits(pattern.clamp(0, 0x7FF0_0000_0000_0000) as u64).copysign(x)
 }
@@ -74,7 +74,7 @@ fn pattern_double(r: &mut Random) -> f64 {
 }
 
 /// A whole number of at most `bits` bits, all lengths being as likely.
-fn bits(r: &mut Random, bits: u64) -> u64 {
+pub fn bits(r: &mut Random, bits: u64) -> u64 {
     let shift = 64 - bits + r.below(bits);
     r.next() >> shift
 }

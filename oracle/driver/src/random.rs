@@ -1,7 +1,7 @@
 //! Random calls. The same seed gives the same calls, on any machine.
-use crate::domain::{key, MOST};
+use crate::domain::MOST;
 use crate::edges;
-use crate::records::{curve_of, AutomationPoint, CurveType, Envelope};
+use crate::records::{curve_of, AutomationPoint, CurveType};
 use crate::text::{signature, Arg, OPERATIONS};
 
 /// SplitMix64.
@@ -75,7 +75,7 @@ impl Random {
         }
     }
 
-    fn word(&mut self) -> u64 {
+    pub fn word(&mut self) -> u64 {
         match self.below(8) {
             0 => self.below(10),
             1..=3 => self.below(500_000),
@@ -86,7 +86,7 @@ impl Random {
         }
     }
 
-    fn optional(&mut self) -> Option<f32> {
+    pub fn optional(&mut self) -> Option<f32> {
         if self.once_in(2) {
             None
         } else {
@@ -99,87 +99,6 @@ impl Random {
         let code = self.below(21);
         let (a, b) = (self.single(), self.single());
         curve_of(if code < 6 { code } else { code + 1 }, a, b).unwrap()
-    }
-
-    fn envelope(&mut self) -> Envelope {
-        let mut e = Envelope::new(self.below(5) as u32);
-        e.enabled = !self.once_in(12);
-        if self.once_in(3) {
-            e.min_value = self.optional();
-            e.max_value = self.optional();
-            e.step_size = self.optional();
-        }
-        let count = match self.below(40) {
-            0 => 256,
-            1 => 255,
-            2 => 120 + self.below(60),
-            3..=5 => 0,
-            6..=8 => 1,
-            9..=14 => 2,
-            _ => 2 + self.below(7),
-        };
-        let (tame_times, tame_values) = (!self.once_in(3), !self.once_in(3));
-        while (e.points.len() as u64) < count {
-            let time = match (count > 100, tame_times) {
-                (true, _) if self.once_in(2) => self.below(2000) as f64 / 8.0,
-                (true, _) => self.unit() * 50.0,
-                (_, true) => (self.below(200) as f64 - 60.0) / 8.0,
-                _ => self.double(),
-            };
-            let tame = (self.unit() as f32 - 0.5) * 8.0;
-            let value = if tame_values { tame } else { self.single() };
-            let curve = self.curve();
-            e.add_point(AutomationPoint {
-                time,
-                sample_position: None,
-                value,
-                curve,
-            });
-        }
-        self.positions(&mut e);
-        e
-    }
-
-    /// Positions for no point, for all, for some; or times that are not negative.
-    fn positions(&mut self, e: &mut Envelope) {
-        let which = self.below(4);
-        let mut position = self.below(100);
-        for p in &mut e.points {
-            if which == 1 || (which == 2 && self.once_in(2)) {
-                position += 1 + self.below(5000);
-                p.sample_position = Some(if self.once_in(60) { self.word() } else { position });
-            }
-            if which == 3 {
-                p.time = p.time.abs() + 0.0;
-            }
-        }
-        sort(e);
-    }
-
-    /// A second envelope: for an equality often the first with one thing changed, else sometimes
-    /// with times of the first.
-    fn second(&mut self, op: &str, first: &Envelope) -> Envelope {
-        let mut e = self.envelope();
-        if op.starts_with("eq") && !self.once_in(4) {
-            e = first.clone();
-            if self.once_in(2) && !e.points.is_empty() {
-                let i = self.below(e.points.len() as u64) as usize;
-                match self.below(4) {
-                    0 => e.points[i].curve = self.curve(),
-                    1 => e.points[i].value += 1e-7,
-                    2 => e.points[i].sample_position = Some(4),
-                    _ => e.min_value = self.optional(),
-                }
-            }
-        } else if self.once_in(3) && !first.points.is_empty() {
-            for p in &mut e.points {
-                if self.once_in(2) {
-                    p.time = self.one_of(&first.points).time;
-                }
-            }
-            sort(&mut e);
-        }
-        e
     }
 
     /// A time, often at or near that of a point.
@@ -200,41 +119,47 @@ impl Random {
         }
     }
 
-    fn point(&mut self, near: Option<&AutomationPoint>, before: Option<&AutomationPoint>) -> AutomationPoint {
-        let time = near.map_or_else(|| self.double(), |p| p.time);
-        let sample_position = if self.once_in(3) { Some(self.word()) } else { None };
-        let (value, curve) = (self.single(), self.curve());
-        let mut p = AutomationPoint {
-            time,
-            sample_position,
-            value,
-            curve,
-        };
-        if let Some(q) = before {
-            if !self.once_in(3) {
-                p.time = q.time + self.one_of(&[0.0, 1e-16, f64::EPSILON, 3e-16]);
-                p.value = q.value + self.one_of(&[0.0, 1e-7, f32::EPSILON, 2e-7]);
-                if self.once_in(2) {
-                    p.curve = q.curve;
-                }
+    /// A count of an operation, after the arguments `before`.
+    fn count(&mut self, op: &str, before: &[Arg]) -> u64 {
+        use Arg::*;
+        match (op, before) {
+            ("peaks" | "valleys", _) => self.one_of(&[0, 1, 2, 300, 300, 300]),
+            ("sheet", _) => self.one_of(&[100, 150, 20000, 20000]),
+            ("render", [E(e), D(rate)]) => self.first_sample(e, *rate, MOST),
+            ("render", [_, _, _, N(count), N(place)]) => self.length(place + count),
+            ("to_buffer", [_, D(rate), D(duration), N(place)]) => {
+                let count = (duration * rate) as u64;
+                self.length(place + count.min(200))
             }
-        }
-        p
-    }
-
-    /// A count: `i` is the argument's place, `last` the last argument's.
-    fn count(&mut self, op: &str, i: usize, last: usize) -> u64 {
-        match op {
-            "peaks" | "valleys" => self.one_of(&[0, 1, 2, 300, 300, 300]),
-            "sheet" => self.one_of(&[100, 150, 20000, 20000]),
-            "walk" => self.below(12),
-            "render" if i == 2 => self.one_of(&[0, 1, 2, 7, 1000, MOST - 3, MOST]),
-            "render" | "to_buffer" if i == last => 12 + self.below(100),
             _ => self.below(14),
         }
     }
 
-    fn argument(&mut self, op: &str, kind: char, before: &[Arg], last: usize) -> Arg {
+    /// The length of a lent buffer: often just what is needed, or one place less.
+    fn length(&mut self, needed: u64) -> u64 {
+        match self.below(6) {
+            0 | 1 => needed,
+            2 => needed.saturating_sub(1),
+            3 => self.below(4),
+            _ => needed + self.below(20),
+        }
+    }
+
+    /// A number of an operation, after the arguments `before`.
+    fn number(&mut self, op: &str, near: Option<&AutomationPoint>, before: &[Arg]) -> f64 {
+        let x = match (op, before) {
+            ("render" | "to_buffer" | "walk", [_]) => self.rate(),
+            ("to_buffer" | "walk", [_, Arg::D(rate)]) => self.duration(*rate),
+            _ => self.time(near),
+        };
+        match self.below(40) {
+            0 => -x,
+            1 => self.one_of(&[f64::INFINITY, f64::NEG_INFINITY, f64::NAN]),
+            _ => x,
+        }
+    }
+
+    fn argument(&mut self, op: &str, kind: char, before: &[Arg]) -> Arg {
         let first = match before.first() {
             Some(Arg::E(e)) => Some(e),
             _ => None,
@@ -243,47 +168,32 @@ impl Random {
             Some(e) if !e.points.is_empty() && self.once_in(2) => Some(self.one_of(&e.points)),
             _ => None,
         };
-        match kind {
-            'D' | 'T' => {
-                let timed = matches!(op, "to_buffer" | "walk" | "render");
-                let x = if timed {
-                    (self.below(40) as f64 - 6.0) / 4.0
-                } else {
-                    self.time(near.as_ref())
-                };
-                Arg::D(match self.below(40) {
-                    0 if kind == 'T' => f64::NAN,
-                    1 if kind == 'T' => f64::INFINITY,
-                    2 => -x,
-                    3 => self.one_of(&[f64::INFINITY, f64::NAN]),
-                    _ => x,
-                })
-            }
-            'F' | 'G' => Arg::F(match near {
+        match (kind, first) {
+            ('T', Some(e)) => Arg::D(self.lookup_time(e)),
+            ('D' | 'T', _) => Arg::D(self.number(op, near.as_ref(), before)),
+            ('F' | 'G', _) => Arg::F(match near {
                 _ if self.once_in(30) => self.one_of(&[f32::INFINITY, f32::NEG_INFINITY, f32::NAN]),
                 Some(p) if self.once_in(2) => p.value,
                 _ => self.single(),
             }),
-            'U' => {
-                let x = match near {
-                    None => self.word(),
-                    Some(p) => key(&p).wrapping_add(self.below(3)).wrapping_sub(1),
-                };
+            ('U', Some(e)) => {
+                let x = self.lookup_sample(e);
                 Arg::U(match before.get(1) {
                     Some(Arg::U(s)) if self.once_in(2) => s.saturating_add(self.below(700)),
                     Some(Arg::U(s)) if !self.once_in(5) => x.max(*s),
                     _ => x,
                 })
             }
-            'N' => Arg::N(self.count(op, before.len(), last)),
-            'B' => Arg::B(self.once_in(2)),
-            'O' => Arg::O(if self.once_in(30) {
+            ('U', None) => Arg::U(self.word()),
+            ('N', _) => Arg::N(self.count(op, before)),
+            ('B', _) => Arg::B(self.once_in(2)),
+            ('O', _) => Arg::O(if self.once_in(30) {
                 Some(f32::NAN)
             } else {
                 self.optional()
             }),
-            'C' => Arg::C(self.curve()),
-            'P' => {
+            ('C', _) => Arg::C(self.curve()),
+            ('P', _) => {
                 let q = match before.first() {
                     Some(Arg::P(q)) => Some(q),
                     _ => None,
@@ -291,14 +201,12 @@ impl Random {
                 Arg::P(self.point(near.as_ref(), q))
             }
             _ => {
-                let mut e = match first {
+                let e = match first {
                     None => self.envelope(),
                     Some(f) => self.second(op, f),
                 };
-                if self.once_in(60) && e.points.len() > 1 {
-                    e.points.swap(0, 1);
-                }
-                Arg::E(e)
+                let spoil = self.once_in(if op == "valid" { 2 } else { 40 });
+                Arg::E(if spoil { self.spoiled(e) } else { e })
             }
         }
     }
@@ -311,7 +219,7 @@ impl Random {
         }
         let mut a = vec![];
         for kind in kinds.chars() {
-            let x = self.argument(op, kind, &a, kinds.len() - 1);
+            let x = self.argument(op, kind, &a);
             a.push(x);
         }
         a
@@ -345,10 +253,4 @@ impl Random {
             _ => (format!("edit {op}"), a),
         }
     }
-}
-
-/// In order of time, without times that are bit for bit the same.
-fn sort(e: &mut Envelope) {
-    e.points.sort_by(|a, b| a.time.total_cmp(&b.time));
-    e.points.dedup_by_key(|p| p.time.to_bits());
 }

@@ -1,5 +1,5 @@
 use Prim.Native.Nat.{zero-le}
-use mathlib.Core.Path.{_≡_, refl, ap, _∙_}
+use mathlib.Core.Path.{_≡_, refl, sym, ap, _∙_}
 use mathlib.Core.List.{List, []}
 use native.Mathlib.Omega.{arith}
 use borrow.Author.Tests.{le-leb}
@@ -10,10 +10,16 @@ use Rattle.points.specs.ValidLaws.{listOf-holding}
 use Rattle.points.proofs.Good.{places}
 use Rattle.edits.specs.Insert.{insertAll}
 use Rattle.edits.proofs.Ends.{listOf-few}
-use Rattle.edits.proofs.Inserting.{sorted-holding, all-few}
+use Rattle.edits.proofs.Inserting.{sorted-holding, all-few, rising-inserts}
 use borrow.Author.Needs.{needs}
 use Rattle.edits.proofs.insert.in_order.Statement.{statement}
 use Rattle.edits.proofs.insert.in_order.Tie as tie
+
+times-rise-requires : tie.Need-times-rise-requires
+times-rise-requires c κs = search needs
+
+returns : tie.Need-returns
+returns c = sym (ap holding (rising-inserts (listOf (c .before .before .args .new)) (sym (c .before .times-rise .ensures) ∙ c .if1 .taken)) ∙ c .before .before .pre)
 
 none-requires : tie.Need-none-requires
 none-requires c κs = search needs
@@ -22,13 +28,14 @@ insert-all-requires : tie.Need-insert-all-requires
 unfolding risingBy
 insert-all-requires c κs = sorted-holding (c .none .result) [] (c .none .ensures) zero-le refl
 
-returns : tie.Need-returns
-returns c =
-    let m = listOf (c .before .before .before .args .new) in
+returns-2 : tie.Need-returns-2
+returns-2 c =
+    let m = listOf (c .before .before .before .before .before .args .new) in
     let l = listOf (c .before .before .none .result) in
     let e : l ≡ [] = ap listOf (c .before .before .none .ensures) ∙ listOf-holding [] in
-    let few = listOf-few (c .before .before .before .args .new) (places (c .before .before .before .args .new) _ (c .before .before .before .good .0)) in
+    let few = listOf-few (c .before .before .before .before .before .args .new) (places (c .before .before .before .before .before .args .new) _ (c .before .before .before .before .before .good .0)) in
     c .before .insert-all .ensures .made (c .before .insert-all .ensures .fits ∙ le-leb (length (insertAll l m)) 256 (omega (arith, all-few l m, ap length e, few))) ∙ ap (λ (k : List AutomationPoint). holding (insertAll k m)) e
 
 pub in-order-spec : {M : Type 1} → statement M
-in-order-spec = tie.close (tie.spec none-requires insert-all-requires returns)
+in-order-spec =
+    tie.close (tie.spec times-rise-requires returns none-requires insert-all-requires returns-2)

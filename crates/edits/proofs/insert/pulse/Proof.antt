@@ -1,16 +1,21 @@
-use mathlib.Core.Path.{_≡_, ap, _∙_}
+use mathlib.Core.Path.{_≡_, refl, sym, ap, _∙_}
+use mathlib.Core.Bool.{_&&_}
 use mathlib.Core.List.{List, [], _∷_}
 use native.Mathlib.Omega.{arith}
+use borrow.Author.Tests.{not-true, not-false}
 use lib.Ieee.{add, binary64}
+use Rattle.numbers.specs.Bounds.{finite}
+use Rattle.curve.specs.Curve.{finiteControls}
 use Rattle.points.specs.declared.AutomationPoint.{AutomationPoint}
 use Rattle.curve.specs.declared.CurveType.the-variants.{Linear}
-use Rattle.points.specs.Points.{listOf, holding}
+use Rattle.points.specs.Point.{finitePoint}
+use Rattle.points.specs.Points.{listOf, holding, risingBy}
 use Rattle.points.specs.Laws.{and-both}
 use Rattle.points.specs.ValidLaws.{listOf-holding}
 use Rattle.edits.specs.Each.{zero64, zero32, one32}
 use Rattle.edits.specs.Insert.{insertAll, pointWith, pulseList}
-use Rattle.edits.proofs.Ends.{ends}
-use Rattle.edits.proofs.Inserting.{all-few}
+use Rattle.edits.proofs.Inserting.{holding-own, all-few, rising-all}
+use Rattle.edits.proofs.Merging.{not-valid, made-new, any-three, pulse-fine}
 use borrow.Author.Needs.{needs}
 use Rattle.edits.proofs.insert.pulse.Statement.{statement}
 use Rattle.edits.proofs.insert.pulse.Tie as tie
@@ -39,28 +44,53 @@ point-with-requires-3 c κs = search needs
 point-with-requires-4 : tie.Need-point-with-requires-4
 point-with-requires-4 c κs = search needs
 
+is-finite-requires-5 : tie.Need-is-finite-requires-5
+is-finite-requires-5 c κs = search needs
+
+is-finite-requires-6 : tie.Need-is-finite-requires-6
+is-finite-requires-6 c κs = search needs
+
+is-valid-requires : tie.Need-is-valid-requires
+is-valid-requires c κs = search needs
+
+refuse-requires : tie.Need-refuse-requires
+refuse-requires c κs = search needs
+
+refuse-requires-2 : tie.Need-refuse-requires-2
+refuse-requires-2 c κs = search needs
+
 four-requires : tie.Need-four-requires
 four-requires c κs = search needs
 
 in-order-requires : tie.Need-in-order-requires
-in-order-requires c κs = search needs
-
-finish-requires : tie.Need-finish-requires
-finish-requires c κs = search needs
+in-order-requires c κs = holding-own (c .four .result) (c .before .before .before .before .before .before .before .before .before .point-with .result ∷ (c .before .before .before .before .before .before .before .before .point-with2 .result ∷ (c .before .before .before .before .before .before .before .point-with3 .result ∷ (c .before .before .before .before .before .before .point-with4 .result ∷ [])))) (c .four .ensures)
 
 returns : tie.Need-returns
 returns c =
-    let ps = c .before .before .before .before .before .before .before .before .before .before .before .args .points in
-    let t = add binary64 (c .before .before .before .before .before .before .before .before .before .before .before .args .fade-in) (c .before .before .before .before .before .before .before .before .before .before .before .args .sustain) in
-    let a = pointWith zero64 zero32 Linear in
-    let b = pointWith (c .before .before .before .before .before .before .before .before .before .before .before .args .fade-in) one32 (c .before .before .before .before .before .before .before .before .before .before .before .args .curve) in
-    let k = pointWith t one32 Linear in
-    let d = pointWith (add binary64 t (c .before .before .before .before .before .before .before .before .before .before .before .args .fade-out)) zero32 (c .before .before .before .before .before .before .before .before .before .before .before .args .curve) in
-    let m : listOf (c .before .before .four .result) ≡ (a ∷ (b ∷ (k ∷ (d ∷ [])))) =
-    ap listOf (c .before .before .four .ensures) ∙ listOf-holding _ ∙ (λ i. c .before .before .before .before .before .before .point-with .ensures i ∷ (c .before .before .before .before .before .point-with2 .ensures i ∷ (c .before .before .before .before .point-with3 .ensures i ∷ (c .before .before .before .point-with4 .ensures i ∷ [])))) in
-    ends ps (c .before .in-order .result) (pulseList (c .before .before .before .before .before .before .before .before .before .before .before .args .fade-in) (c .before .before .before .before .before .before .before .before .before .before .before .args .sustain) (c .before .before .before .before .before .before .before .before .before .before .before .args .fade-out) (c .before .before .before .before .before .before .before .before .before .before .before .args .curve)) (c .finish .ensures)
-    (and-both (and-both (and-both (c .before .before .before .before .before .before .before .before .before .before .is-finite .ensures) (c .before .before .before .before .before .before .before .before .before .is-finite2 .ensures)) (c .before .before .before .before .before .before .before .before .is-finite3 .ensures)) (c .before .before .before .before .before .before .before .is-finite4 .ensures))
-    (omega (arith, all-few [] (a ∷ (b ∷ (k ∷ (d ∷ [])))))) (c .before .in-order .ensures ∙ ap (λ (l : List AutomationPoint). holding (insertAll [] l)) m)
+    c .refuse .ensures ∙ not-valid (c .before .before .before .before .before .before .before .before .before .before .before .before .before .args .points) (finite (c .before .before .before .before .before .before .before .before .before .before .before .before .before .args .fade-in) && finite (c .before .before .before .before .before .before .before .before .before .before .before .before .before .args .sustain) && finite (c .before .before .before .before .before .before .before .before .before .before .before .before .before .args .fade-out) && finiteControls (c .before .before .before .before .before .before .before .before .before .before .before .before .before .args .curve))
+    (pulseList (c .before .before .before .before .before .before .before .before .before .before .before .before .before .args .fade-in) (c .before .before .before .before .before .before .before .before .before .before .before .before .before .args .sustain) (c .before .before .before .before .before .before .before .before .before .before .before .before .before .args .fade-out) (c .before .before .before .before .before .before .before .before .before .before .before .before .before .args .curve)) (sym (c .before .before .is-valid .ensures) ∙ not-true _ (c .before .if1 .taken))
+
+returns-2 : tie.Need-returns-2
+returns-2 c =
+    let given = and-both (and-both (and-both (c .before .before .before .before .before .before .before .before .before .before .before .before .before .is-finite .ensures) (c .before .before .before .before .before .before .before .before .before .before .before .before .is-finite2 .ensures)) (c .before .before .before .before .before .before .before .before .before .before .before .is-finite3 .ensures)) (c .before .before .before .before .before .before .before .before .before .before .is-finite4 .ensures) in
+    let sums = and-both (and-both given (c .before .before .before .before .before .is-finite5 .ensures ∙ ap finitePoint (c .before .before .before .before .before .before .before .point-with3 .ensures))) (c .before .before .before .before .is-finite6 .ensures ∙ ap finitePoint (c .before .before .before .before .before .before .point-with4 .ensures)) in
+    let ok = sums ∙ pulse-fine (c .before .before .before .before .before .before .before .before .before .before .before .before .before .before .args .fade-in) (c .before .before .before .before .before .before .before .before .before .before .before .before .before .before .args .sustain) (c .before .before .before .before .before .before .before .before .before .before .before .before .before .before .args .fade-out) (c .before .before .before .before .before .before .before .before .before .before .before .before .before .before .args .curve) in
+    c .refuse2 .ensures ∙ any-three (c .before .before .before .before .before .before .before .before .before .before .before .before .before .before .args .points) (finite (c .before .before .before .before .before .before .before .before .before .before .before .before .before .before .args .fade-in) && finite (c .before .before .before .before .before .before .before .before .before .before .before .before .before .before .args .sustain) && finite (c .before .before .before .before .before .before .before .before .before .before .before .before .before .before .args .fade-out) && finiteControls (c .before .before .before .before .before .before .before .before .before .before .before .before .before .before .args .curve))
+    (pulseList (c .before .before .before .before .before .before .before .before .before .before .before .before .before .before .args .fade-in) (c .before .before .before .before .before .before .before .before .before .before .before .before .before .before .args .sustain) (c .before .before .before .before .before .before .before .before .before .before .before .before .before .before .args .fade-out) (c .before .before .before .before .before .before .before .before .before .before .before .before .before .before .args .curve)) (sym (c .before .before .before .is-valid .ensures) ∙ not-false _ (c .before .before .if1 .left)) (sym ok ∙ not-true _ (c .before .if2 .taken))
+
+returns-3 : tie.Need-returns-3
+unfolding risingBy
+returns-3 c =
+    let t = add binary64 (c .before .before .before .before .before .before .before .before .before .before .before .before .before .before .before .args .fade-in) (c .before .before .before .before .before .before .before .before .before .before .before .before .before .before .before .args .sustain) in
+    let l = pointWith zero64 zero32 Linear ∷ (pointWith (c .before .before .before .before .before .before .before .before .before .before .before .before .before .before .before .args .fade-in) one32 (c .before .before .before .before .before .before .before .before .before .before .before .before .before .before .before .args .curve) ∷ (pointWith t one32 Linear ∷ (pointWith (add binary64 t (c .before .before .before .before .before .before .before .before .before .before .before .before .before .before .before .args .fade-out)) zero32 (c .before .before .before .before .before .before .before .before .before .before .before .before .before .before .before .args .curve) ∷ []))) in
+    let m : listOf (c .before .four .result) ≡ l =
+    ap listOf (c .before .four .ensures) ∙ listOf-holding _ ∙ (λ i. c .before .before .before .before .before .before .before .before .before .before .point-with .ensures i ∷ (c .before .before .before .before .before .before .before .before .before .point-with2 .ensures i ∷ (c .before .before .before .before .before .before .before .before .point-with3 .ensures i ∷ (c .before .before .before .before .before .before .before .point-with4 .ensures i ∷ [])))) in
+    let given = and-both (and-both (and-both (c .before .before .before .before .before .before .before .before .before .before .before .before .before .before .is-finite .ensures) (c .before .before .before .before .before .before .before .before .before .before .before .before .before .is-finite2 .ensures)) (c .before .before .before .before .before .before .before .before .before .before .before .before .is-finite3 .ensures)) (c .before .before .before .before .before .before .before .before .before .before .before .is-finite4 .ensures) in
+    let sums = and-both (and-both given (c .before .before .before .before .before .before .is-finite5 .ensures ∙ ap finitePoint (c .before .before .before .before .before .before .before .before .point-with3 .ensures))) (c .before .before .before .before .before .is-finite6 .ensures ∙ ap finitePoint (c .before .before .before .before .before .before .before .point-with4 .ensures)) in
+    let ok = sums ∙ pulse-fine (c .before .before .before .before .before .before .before .before .before .before .before .before .before .before .before .args .fade-in) (c .before .before .before .before .before .before .before .before .before .before .before .before .before .before .before .args .sustain) (c .before .before .before .before .before .before .before .before .before .before .before .before .before .before .before .args .fade-out) (c .before .before .before .before .before .before .before .before .before .before .before .before .before .before .before .args .curve) in
+    made-new (c .before .before .before .before .before .before .before .before .before .before .before .before .before .before .before .args .points) (c .in-order .result) (finite (c .before .before .before .before .before .before .before .before .before .before .before .before .before .before .before .args .fade-in) && finite (c .before .before .before .before .before .before .before .before .before .before .before .before .before .before .before .args .sustain) && finite (c .before .before .before .before .before .before .before .before .before .before .before .before .before .before .before .args .fade-out) && finiteControls (c .before .before .before .before .before .before .before .before .before .before .before .before .before .before .before .args .curve))
+    (pulseList (c .before .before .before .before .before .before .before .before .before .before .before .before .before .before .before .args .fade-in) (c .before .before .before .before .before .before .before .before .before .before .before .before .before .before .before .args .sustain) (c .before .before .before .before .before .before .before .before .before .before .before .before .before .before .before .args .fade-out) (c .before .before .before .before .before .before .before .before .before .before .before .before .before .before .before .args .curve)) (sym (c .before .before .before .before .is-valid .ensures) ∙ not-false _ (c .before .before .before .if1 .left)) (sym ok ∙ not-false _ (c .before .before .if2 .left))
+    (rising-all [] l refl) (omega (arith, all-few [] l)) (c .in-order .ensures ∙ ap (λ (k : List AutomationPoint). holding (insertAll [] k)) m)
 
 pub pulse-spec : {M : Type 1} → statement M
 pulse-spec =
@@ -74,7 +104,13 @@ pulse-spec =
     point-with-requires-2
     point-with-requires-3
     point-with-requires-4
+    is-finite-requires-5
+    is-finite-requires-6
+    is-valid-requires
+    refuse-requires
+    refuse-requires-2
     four-requires
     in-order-requires
-    finish-requires
-    returns)
+    returns
+    returns-2
+    returns-3)

@@ -1,15 +1,17 @@
-use mathlib.Core.Path.{_≡_, ap, _∙_}
-use mathlib.Core.List.{List, [], _∷_}
+use mathlib.Core.Path.{refl, sym, _∙_}
+use mathlib.Core.Bool.{_&&_}
+use mathlib.Core.List.{[], _∷_}
 use native.Mathlib.Omega.{arith}
-use Rattle.points.specs.declared.AutomationPoint.{AutomationPoint}
+use borrow.Author.Tests.{not-true, not-false}
+use Rattle.numbers.specs.Bounds.{finite}
+use Rattle.curve.specs.Curve.{finiteControls}
 use Rattle.curve.specs.declared.CurveType.the-variants.{Linear}
-use Rattle.points.specs.Points.{listOf, holding}
+use Rattle.points.specs.Points.{holding, risingBy}
 use Rattle.points.specs.Laws.{and-both}
-use Rattle.points.specs.ValidLaws.{listOf-holding}
 use Rattle.edits.specs.Each.{zero64}
 use Rattle.edits.specs.Insert.{insertAll, pointWith, rampList}
-use Rattle.edits.proofs.Ends.{ends}
-use Rattle.edits.proofs.Inserting.{all-few}
+use Rattle.edits.proofs.Inserting.{all-few, rising-all}
+use Rattle.edits.proofs.Merging.{not-valid, made-new, any-three, ramp-fine}
 use borrow.Author.Needs.{needs}
 use Rattle.edits.proofs.insert.ramp.Statement.{statement}
 use Rattle.edits.proofs.insert.ramp.Tie as tie
@@ -32,24 +34,37 @@ point-with-requires c κs = search needs
 point-with-requires-2 : tie.Need-point-with-requires-2
 point-with-requires-2 c κs = search needs
 
-two-requires : tie.Need-two-requires
-two-requires c κs = search needs
+is-valid-requires : tie.Need-is-valid-requires
+is-valid-requires c κs = search needs
 
-in-order-requires : tie.Need-in-order-requires
-in-order-requires c κs = search needs
+refuse-requires : tie.Need-refuse-requires
+refuse-requires c κs = search needs
 
-finish-requires : tie.Need-finish-requires
-finish-requires c κs = search needs
+refuse-requires-2 : tie.Need-refuse-requires-2
+refuse-requires-2 c κs = search needs
+
+pair-requires : tie.Need-pair-requires
+pair-requires c κs = search needs
 
 returns : tie.Need-returns
 returns c =
-    let ps = c .before .before .before .before .before .before .before .before .before .args .points in
-    let a = pointWith zero64 (c .before .before .before .before .before .before .before .before .before .args .start) Linear in
-    let b = pointWith (c .before .before .before .before .before .before .before .before .before .args .duration) (c .before .before .before .before .before .before .before .before .before .args .end-value) (c .before .before .before .before .before .before .before .before .before .args .curve) in
-    let m : listOf (c .before .before .two .result) ≡ (a ∷ (b ∷ [])) = ap listOf (c .before .before .two .ensures) ∙ listOf-holding _ ∙ (λ i. c .before .before .before .before .point-with .ensures i ∷ (c .before .before .before .point-with2 .ensures i ∷ [])) in
-    ends ps (c .before .in-order .result) (rampList (c .before .before .before .before .before .before .before .before .before .args .duration) (c .before .before .before .before .before .before .before .before .before .args .start) (c .before .before .before .before .before .before .before .before .before .args .end-value) (c .before .before .before .before .before .before .before .before .before .args .curve)) (c .finish .ensures)
-    (and-both (and-both (and-both (c .before .before .before .before .before .before .before .before .is-finite .ensures) (c .before .before .before .before .before .before .before .is-finitef .ensures)) (c .before .before .before .before .before .before .is-finitef2 .ensures)) (c .before .before .before .before .before .is-finite2 .ensures))
-    (omega (arith, all-few [] (a ∷ (b ∷ [])))) (c .before .in-order .ensures ∙ ap (λ (l : List AutomationPoint). holding (insertAll [] l)) m)
+    c .refuse .ensures ∙ not-valid (c .before .before .before .before .before .before .before .before .before .args .points) (finite (c .before .before .before .before .before .before .before .before .before .args .duration) && finite (c .before .before .before .before .before .before .before .before .before .args .start) && finite (c .before .before .before .before .before .before .before .before .before .args .end-value) && finiteControls (c .before .before .before .before .before .before .before .before .before .args .curve))
+    (rampList (c .before .before .before .before .before .before .before .before .before .args .duration) (c .before .before .before .before .before .before .before .before .before .args .start) (c .before .before .before .before .before .before .before .before .before .args .end-value) (c .before .before .before .before .before .before .before .before .before .args .curve)) (sym (c .before .before .is-valid .ensures) ∙ not-true _ (c .before .if1 .taken))
+
+returns-2 : tie.Need-returns-2
+returns-2 c =
+    let ok = and-both (and-both (and-both (c .before .before .before .before .before .before .before .before .before .is-finite .ensures) (c .before .before .before .before .before .before .before .before .is-finitef .ensures)) (c .before .before .before .before .before .before .before .is-finitef2 .ensures)) (c .before .before .before .before .before .before .is-finite2 .ensures) ∙ ramp-fine (c .before .before .before .before .before .before .before .before .before .before .args .duration) (c .before .before .before .before .before .before .before .before .before .before .args .start) (c .before .before .before .before .before .before .before .before .before .before .args .end-value) (c .before .before .before .before .before .before .before .before .before .before .args .curve) in
+    c .refuse2 .ensures ∙ any-three (c .before .before .before .before .before .before .before .before .before .before .args .points) (finite (c .before .before .before .before .before .before .before .before .before .before .args .duration) && finite (c .before .before .before .before .before .before .before .before .before .before .args .start) && finite (c .before .before .before .before .before .before .before .before .before .before .args .end-value) && finiteControls (c .before .before .before .before .before .before .before .before .before .before .args .curve))
+    (rampList (c .before .before .before .before .before .before .before .before .before .before .args .duration) (c .before .before .before .before .before .before .before .before .before .before .args .start) (c .before .before .before .before .before .before .before .before .before .before .args .end-value) (c .before .before .before .before .before .before .before .before .before .before .args .curve)) (sym (c .before .before .before .is-valid .ensures) ∙ not-false _ (c .before .before .if1 .left)) (sym ok ∙ not-true _ (c .before .if2 .taken))
+
+returns-3 : tie.Need-returns-3
+unfolding risingBy
+returns-3 c =
+    let l = pointWith zero64 (c .before .before .before .before .before .before .before .before .before .before .args .start) Linear ∷ (pointWith (c .before .before .before .before .before .before .before .before .before .before .args .duration) (c .before .before .before .before .before .before .before .before .before .before .args .end-value) (c .before .before .before .before .before .before .before .before .before .before .args .curve) ∷ []) in
+    let ok = and-both (and-both (and-both (c .before .before .before .before .before .before .before .before .before .is-finite .ensures) (c .before .before .before .before .before .before .before .before .is-finitef .ensures)) (c .before .before .before .before .before .before .before .is-finitef2 .ensures)) (c .before .before .before .before .before .before .is-finite2 .ensures) ∙ ramp-fine (c .before .before .before .before .before .before .before .before .before .before .args .duration) (c .before .before .before .before .before .before .before .before .before .before .args .start) (c .before .before .before .before .before .before .before .before .before .before .args .end-value) (c .before .before .before .before .before .before .before .before .before .before .args .curve) in
+    made-new (c .before .before .before .before .before .before .before .before .before .before .args .points) (c .pair .result) (finite (c .before .before .before .before .before .before .before .before .before .before .args .duration) && finite (c .before .before .before .before .before .before .before .before .before .before .args .start) && finite (c .before .before .before .before .before .before .before .before .before .before .args .end-value) && finiteControls (c .before .before .before .before .before .before .before .before .before .before .args .curve))
+    (rampList (c .before .before .before .before .before .before .before .before .before .before .args .duration) (c .before .before .before .before .before .before .before .before .before .before .args .start) (c .before .before .before .before .before .before .before .before .before .before .args .end-value) (c .before .before .before .before .before .before .before .before .before .before .args .curve)) (sym (c .before .before .before .is-valid .ensures) ∙ not-false _ (c .before .before .if1 .left)) (sym ok ∙ not-false _ (c .before .if2 .left))
+    (rising-all [] l refl) (omega (arith, all-few [] l)) (c .pair .ensures ∙ (λ i. holding (insertAll [] (c .before .before .before .before .before .point-with .ensures i ∷ (c .before .before .before .before .point-with2 .ensures i ∷ [])))))
 
 pub ramp-spec : {M : Type 1} → statement M
 ramp-spec =
@@ -61,7 +76,10 @@ ramp-spec =
     is-finite-requires-2
     point-with-requires
     point-with-requires-2
-    two-requires
-    in-order-requires
-    finish-requires
-    returns)
+    is-valid-requires
+    refuse-requires
+    refuse-requires-2
+    pair-requires
+    returns
+    returns-2
+    returns-3)

@@ -36,17 +36,17 @@ loop-holds c =
 sub-i : tie.Need-sub-i Inv-loop μ-loop
 sub-i c = omega arith
 
-mul-p : tie.Need-mul-p Inv-loop μ-loop
-mul-p c = omega arith
+mul-point : tie.Need-mul-point Inv-loop μ-loop
+mul-point c = omega arith
 
-element-copy-out-p : tie.Need-element-copy-out-p Inv-loop μ-loop
-element-copy-out-p c = omega arith
+element-copy-out-point : tie.Need-element-copy-out-point Inv-loop μ-loop
+element-copy-out-point c = omega arith
 
-mul-p-2 : tie.Need-mul-p-2 Inv-loop μ-loop
-mul-p-2 c = omega arith
+mul-point-2 : tie.Need-mul-point-2 Inv-loop μ-loop
+mul-point-2 c = omega arith
 
-element-set-from-p : tie.Need-element-set-from-p Inv-loop μ-loop
-element-set-from-p c = omega arith
+element-set-from-point : tie.Need-element-set-from-point Inv-loop μ-loop
+element-set-from-point c = omega arith
 
 add-out : tie.Need-add-out Inv-loop μ-loop
 add-out c = omega arith
@@ -87,10 +87,10 @@ turned-spec =
     none-requires
     loop-holds
     sub-i
-    mul-p
-    element-copy-out-p
-    mul-p-2
-    element-set-from-p
+    mul-point
+    element-copy-out-point
+    mul-point-2
+    element-set-from-point
     add-out
     loop-less
     loop-again

@@ -37,14 +37,14 @@ refuse-requires c κs = search needs
 -- src/bench.rt:175:5
 returns : tie.Need-returns
 unfolding mergeOf
-returns c = 
+returns c =
     let f = sym (c .before .before .before .before .before .is-finite .ensures ∙ ap (λ (l : Limits). finiteLimits l) (c .before .before .before .before .before .before .limits .ensures)) ∙ c .before .before .before .before .if1 .taken in
     rw f (c .settle .ensures ∙ ap (λ (r : EditedPoints). edited (c .before .before .before .before .before .before .before .args .self) r) (c .before .merge .ensures))
 
 -- src/bench.rt:175:5
 returns-2 : tie.Need-returns-2
 unfolding mergeOf
-returns-2 c = 
+returns-2 c =
     let f = sym (c .before .before .is-finite .ensures ∙ ap (λ (l : Limits). finiteLimits l) (c .before .before .before .limits .ensures)) ∙ c .before .if1 .left in
     rw f (ap toldEdit (c .refuse .ensures))
 

@@ -1,70 +1,59 @@
-use Prim.Native.Nat.{ℕ, _+_, _/_, _≤_, _<_, _-_}
-use mathlib.Core.Path.{_≡_, sym}
+-- `lookup::render::search` meets its contract. Assumes nothing.
+use Prim.Native.Nat.{_+_, _/_, _-_}
+use mathlib.Core.Path.{sym}
 use native.Mathlib.Omega.{arith}
-use native.Mathlib.Nat.{not-suc-le-zero}
-use lib.ListN.{length, getD}
-use Rattle.points.specs.Search.{lower-up-to, place-at}
+use Rattle.points.specs.Search.{Searching, search-start, search-up, search-down, search-end}
 use Rattle.lookup.specs.Writer.{itself}
 use Rattle.lookup.proofs.render.search.Statement.{statement}
 use Rattle.lookup.proofs.render.search.Tie as tie
-use Rattle.lookup.proofs.render.search.Reads as reads
-use Rattle.lookup.proofs.render.search.Lts as lts
 
 abbrev Inv-loop : tie.InvT-loop
-Inv-loop keys n key low₀ high₀ low high = (low ≤ high) × (high ≤ n) × ((j : ℕ) → j < low → getD keys j 0 < key) × (high < n → key ≤ getD keys high 0)
+Inv-loop keys n key low₀ high₀ low high = Searching itself 0 key keys n low high
 
 abbrev μ-loop : tie.MeasureT-loop
 μ-loop keys n key low₀ high₀ low high = high - low
 
--- src/render.rt:124:5
 loop-holds : tie.Need-loop-holds Inv-loop μ-loop
-loop-holds c = (omega arith, omega arith, λ j l. absurd (not-suc-le-zero l), λ l. absurd (omega arith))
+loop-holds c = search-start itself 0 (c .args .key) (c .args .keys .now) (c .args .n)
 
--- src/render.rt:125:26
 sub-mid : tie.Need-sub-mid Inv-loop μ-loop
-sub-mid c = omega arith
+sub-mid c = omega (arith, c .before .loop .inv .ordered)
 
--- src/render.rt:125:19
 add-mid : tie.Need-add-mid Inv-loop μ-loop
-add-mid c = omega arith
+add-mid c = omega (arith, c .before .loop .inv .ordered, c .before .loop .inv .bounded)
 
--- src/render.rt:126:12
 mul-if1 : tie.Need-mul-if1 Inv-loop μ-loop
-mul-if1 c = omega arith
+mul-if1 c = omega (arith, c .before .loop .inv .ordered, c .before .loop .inv .bounded)
 
--- src/render.rt:126:12
 element-copy-out-if1 : tie.Need-element-copy-out-if1 Inv-loop μ-loop
-element-copy-out-if1 c = omega arith
+element-copy-out-if1 c = omega (arith, c .before .loop .inv .ordered, c .before .loop .inv .bounded)
 
--- src/render.rt:127:19
 add-low : tie.Need-add-low Inv-loop μ-loop
-add-low c = omega arith
+add-low c = omega (arith, c .before .before .before .loop .inv .ordered, c .before .before .before .loop .inv .bounded)
 
--- src/render.rt:124:5
 loop-less : tie.Need-loop-less Inv-loop μ-loop
 loop-less c = omega arith
 
--- src/render.rt:124:5
 loop-again : tie.Need-loop-again Inv-loop μ-loop
 loop-again c =
+    let a = c .before .before .before .before .args in
     let h = c .before .before .before .loop in
-    let mid = h .low + (h .high - h .low) / 2 in
-    (omega arith, omega arith, lower-up-to itself 0 (c .before .before .before .before .args .keys .now) (c .before .before .before .before .args .n) mid (c .before .before .before .before .args .key) (c .before .before .before .before .pre .2) (omega arith) (omega arith) (c .if1 .taken), h .inv .3)
+    search-up itself 0 (a .key) (a .keys .now) (a .n) (h .low) (h .high) (h .low + (h .high - h .low) / 2) (h .inv) (c .before .before .before .before .pre .2) (c .before .before .before .before .pre .1) (omega arith) (c .if1 .taken)
 
--- src/render.rt:124:5
 loop-less-2 : tie.Need-loop-less-2 Inv-loop μ-loop
 loop-less-2 c = omega arith
 
--- src/render.rt:124:5
 loop-again-2 : tie.Need-loop-again-2 Inv-loop μ-loop
-loop-again-2 c = (omega arith, omega arith, c .before .before .before .loop .inv .2, λ l. omega (arith, c .if1 .left))
+loop-again-2 c =
+    let a = c .before .before .before .before .args in
+    let h = c .before .before .before .loop in
+    search-down itself 0 (a .key) (a .keys .now) (a .n) (h .low) (h .high) (h .low + (h .high - h .low) / 2) (h .inv) (omega arith) (omega arith) (c .if1 .left)
 
--- src/render.rt:118:1
 returns : tie.Need-returns Inv-loop μ-loop
 returns c =
+    let a = c .before .before .args in
     let h = c .before .loop in
-    let same : h .high ≡ h .low = omega arith in
-    sym (place-at itself 0 (c .before .before .args .key) (c .before .before .args .keys .now) (c .before .before .args .n) (h .low) (omega arith) (omega arith) (h .inv .2) (rw same at (h .inv .3)))
+    sym (search-end itself 0 (a .key) (a .keys .now) (a .n) (h .low) (h .high) (h .inv) (c .before .before .pre .1) (omega arith))
 
 pub search-spec : {M : Type 1} → statement M
 search-spec =

@@ -1,20 +1,16 @@
-use Prim.Native.Nat.{ℕ, _+_, _≤_, _-_, min}
+-- `lookup::render::time_keys` meets its contract. Assumes nothing.
+use Prim.Native.Nat.{ℕ, _≤_, _-_, min}
 use mathlib.Core.Path.{_≡_, refl, sym, ap, _∙_}
-use mathlib.Core.List.{List, map}
+use mathlib.Core.List.{map}
 use native.Mathlib.Omega.{arith}
 use lib.ListN.{length, take, length-set, length-replicate}
 use Rattle.points.specs.Point.{anyPoint}
 use Rattle.points.specs.Points.{timeKey}
 use Rattle.points.specs.Laws.{take-min}
-use Rattle.points.specs.declared.AutomationPoint.{AutomationPoint}
 use Rattle.points.proofs.Good.{places}
 use Rattle.lookup.proofs.Keys.{keys-turn}
 use Rattle.lookup.proofs.render.time_keys.Statement.{statement}
 use Rattle.lookup.proofs.render.time_keys.Tie as tie
-use Rattle.lookup.proofs.render.time_keys.Reads as reads
-use Rattle.lookup.proofs.render.time_keys.Lts as lts
-use Rattle.numbers.proofs.order.order_key.Reads as order-key-reads
-use Rattle.points.proofs.Points.used.Reads as used-reads
 
 abbrev Inv-loop : tie.InvT-loop
 Inv-loop points n keys₀ i₀ keys i = (i ≤ n) × (length keys ≡ 256) × (take i keys ≡ map timeKey (take i (points .places)))
@@ -22,49 +18,38 @@ Inv-loop points n keys₀ i₀ keys i = (i ≤ n) × (length keys ≡ 256) × (t
 abbrev μ-loop : tie.MeasureT-loop
 μ-loop points n keys₀ i₀ keys i = n - i
 
--- src/render.rt:106:9
 used-requires : tie.Need-used-requires Inv-loop μ-loop
 used-requires c κs = tt
 
--- src/render.rt:109:5
 loop-holds : tie.Need-loop-holds Inv-loop μ-loop
 loop-holds c = (omega arith, length-replicate {A = ℕ} 256 0, refl)
 
--- src/render.rt:110:17
 mul-p : tie.Need-mul-p Inv-loop μ-loop
 mul-p c = omega (arith, c .before .before .used .ensures)
 
--- src/render.rt:110:17
 element-copy-out-p : tie.Need-element-copy-out-p Inv-loop μ-loop
 element-copy-out-p c = omega (arith, c .before .before .used .ensures)
 
--- src/render.rt:111:19
 order-key-requires : tie.Need-order-key-requires Inv-loop μ-loop
 order-key-requires c κs = tt
 
--- src/render.rt:111:9
 mul-keys : tie.Need-mul-keys Inv-loop μ-loop
 mul-keys c = omega (arith, c .before .before .before .before .used .ensures)
 
--- src/render.rt:111:9
 array-write-keys : tie.Need-array-write-keys Inv-loop μ-loop
 array-write-keys c = omega (arith, c .before .before .before .before .used .ensures)
 
--- src/render.rt:112:9
 add-i : tie.Need-add-i Inv-loop μ-loop
 add-i c = omega (arith, c .before .before .before .before .used .ensures)
 
--- src/render.rt:109:5
 loop-less : tie.Need-loop-less Inv-loop μ-loop
 loop-less c = omega arith
 
--- src/render.rt:109:5
 loop-again : tie.Need-loop-again Inv-loop μ-loop
 loop-again c =
     let len = places (c .before .before .before .before .before .args .t1) _ (c .before .before .before .before .before .good .0) in
     (omega arith, simp length-set (c .before .before .before .loop .inv .1), keys-turn timeKey (c .before .before .before .before .before .args .t1 .places) (c .before .before .before .loop .keys) (c .before .before .before .loop .i) anyPoint (c .order-key .result) (omega (arith, c .before .before .before .before .used .ensures)) (omega (arith, c .before .before .before .before .used .ensures)) (c .before .before .before .loop .inv .2) (c .order-key .ensures))
 
--- src/render.rt:103:1
 returns : tie.Need-returns Inv-loop μ-loop
 returns c =
     let ps = c .before .before .before .args .t1 in

@@ -1,75 +1,55 @@
+-- `lookup::render::write_samples` meets its contract. Assumes nothing.
 use mathlib.Core.Path.{_∙_}
-use native.Mathlib.Omega.{arith}
 use lib.Ieee.{ofBits}
+use borrow.Author.Needs.{needs}
 use Rattle.lookup.proofs.Good.{inside}
 use Rattle.lookup.proofs.Writing.{off-run, on-run, none-run, one-run}
-use borrow.Author.Needs.{needs}
 use Rattle.lookup.proofs.render.write_samples.Statement.{statement}
 use Rattle.lookup.proofs.render.write_samples.Tie as tie
-use Rattle.lookup.proofs.render.write_samples.Reads as reads
-use Rattle.lookup.proofs.render.write_samples.Lts as lts
-use Rattle.lookup.proofs.Limits.apply_constraints.Reads as apply-constraints-reads
-use Rattle.lookup.proofs.render.fill.Reads as fill-reads
-use Rattle.lookup.proofs.render.write_segments.Reads as write-segments-reads
 
--- src/render.rt:208:13
 fill-requires : tie.Need-fill-requires
 fill-requires c κs = search needs
 
--- src/render.rt:210:21
 element-copy-out-p : tie.Need-element-copy-out-p
 element-copy-out-p c = search needs
 
--- src/render.rt:211:18
 apply-constraints-requires : tie.Need-apply-constraints-requires
 apply-constraints-requires c κs = search needs
 
--- src/render.rt:211:13
 fill-requires-2 : tie.Need-fill-requires-2
 fill-requires-2 c κs = search needs
 
--- src/render.rt:213:50
 cast-write-segments : tie.Need-cast-write-segments
 cast-write-segments c = search needs
 
--- src/render.rt:213:13
 write-segments-requires : tie.Need-write-segments-requires
 write-segments-requires c κs = search needs
 
--- src/render.rt:216:9
 fill-requires-3 : tie.Need-fill-requires-3
 fill-requires-3 c κs = search needs
 
--- src/render.rt:194:1
 same-length : tie.Need-same-length
 same-length c = search needs
 
--- src/render.rt:194:1
 returns : tie.Need-returns
 unfolding ofBits
 returns c = c .before .before .fill .ensures ∙ none-run (c .before .before .before .before .before .before .before .args .t1) (c .before .before .before .before .before .before .before .args .enabled) (c .before .before .before .before .before .before .before .args .limits) (c .before .before .before .before .before .before .before .args .rate) (c .before .before .before .before .before .before .before .args .first) _ (c .before .before .before .before .before .if1 .taken) (c .before .before .before .before .if2 .taken)
 
--- src/render.rt:194:1
 same-length-2 : tie.Need-same-length-2
 same-length-2 c = search needs
 
--- src/render.rt:194:1
 returns-2 : tie.Need-returns-2
 returns-2 c = c .before .before .fill2 .ensures ∙ one-run (c .before .before .before .before .before .before .before .before .before .before .args .t1) (c .before .before .before .before .before .before .before .before .before .before .args .enabled) (c .before .before .before .before .before .before .before .before .before .before .args .limits) (c .before .before .before .before .before .before .before .before .before .before .args .rate) (c .before .before .before .before .before .before .before .before .before .before .args .first) _ (c .before .before .before .before .before .before .before .before .if1 .taken) (c .before .before .before .before .before .before .if3 .taken) (inside (c .before .before .before .before .before .before .before .before .before .before .args .t1) _ (c .before .before .before .before .before .before .before .before .before .before .good .0) (c .before .before .before .before .before .before .before .before .before .before .pre .0)) _ (c .before .before .before .before .apply-constraints .ensures)
 
--- src/render.rt:194:1
 same-length-3 : tie.Need-same-length-3
 same-length-3 c = search needs
 
--- src/render.rt:194:1
 returns-3 : tie.Need-returns-3
 returns-3 c = on-run (c .before .before .before .before .before .before .before .before .args .t1) (c .before .before .before .before .before .before .before .before .args .enabled) (c .before .before .before .before .before .before .before .before .args .limits) (c .before .before .before .before .before .before .before .before .args .rate) (c .before .before .before .before .before .before .before .before .args .first) _ (c .before .before .before .before .before .before .if1 .taken) _ (c .before .before .write-segments .ensures)
 
--- src/render.rt:194:1
 same-length-4 : tie.Need-same-length-4
 same-length-4 c = search needs
 
--- src/render.rt:194:1
 returns-4 : tie.Need-returns-4
 unfolding ofBits
 returns-4 c = c .before .before .fill3 .ensures ∙ off-run (c .before .before .before .before .before .before .args .t1) (c .before .before .before .before .before .before .args .enabled) (c .before .before .before .before .before .before .args .limits) (c .before .before .before .before .before .before .args .rate) (c .before .before .before .before .before .before .args .first) _ (c .before .before .before .before .if1 .left)

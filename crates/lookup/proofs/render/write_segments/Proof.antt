@@ -1,27 +1,16 @@
-use Prim.Native.Nat.{ℕ, _+_, _≤_, _<_, _-_}
-use mathlib.Core.Path.{_≡_, refl, sym, ap, _∙_}
-use mathlib.Core.Bool.{true, false}
-use mathlib.Core.List.{List, _++_, append-nil}
+-- `lookup::render::write_segments` meets its contract. Assumes nothing.
+use Prim.Native.Nat.{ℕ, _+_, _≤_, _-_}
+use mathlib.Core.Path.{_≡_, refl, ap, _∙_}
+use mathlib.Core.Bool.{true}
+use mathlib.Core.List.{_++_}
 use native.Mathlib.Omega.{arith}
-use lib.ListN.{length, take, drop, set, length-set, length-drop}
-use lib.Seq.{drop-length, length-take-le}
-use lib.Ieee.{Float}
+use lib.ListN.{length, take, drop, length-set}
 use Rattle.lookup.specs.LookupLaws.{valid-count}
 use Rattle.lookup.specs.Render.{run, sampleAt}
-use Rattle.lookup.specs.Runs.{run-turn, run-over, run-part, part-long}
-use Rattle.lookup.specs.Writer.{timeOf}
-use Rattle.lookup.proofs.Writing.{keys-asked, found, found-inside, stretch-written, outside-sample}
+use Rattle.lookup.specs.Runs.{run-turn, run-over, run-part, run-end, part-long}
+use Rattle.lookup.proofs.Writing.{keys-asked, search-inside, stretch-written, outside-sample}
 use Rattle.lookup.proofs.render.write_segments.Statement.{statement}
 use Rattle.lookup.proofs.render.write_segments.Tie as tie
-use Rattle.lookup.proofs.render.write_segments.Reads as reads
-use Rattle.lookup.proofs.render.write_segments.Lts as lts
-use Rattle.lookup.proofs.Limits.apply_constraints.Reads as apply-constraints-reads
-use Rattle.lookup.proofs.render.Ends.value_at.Reads as value-at-reads
-use Rattle.lookup.proofs.render.Segment.around.Reads as around-reads
-use Rattle.lookup.proofs.render.search.Reads as search-reads
-use Rattle.lookup.proofs.render.time_keys.Reads as time-keys-reads
-use Rattle.lookup.proofs.render.write_stretch.Reads as write-stretch-reads
-use Rattle.numbers.proofs.order.order_key.Reads as order-key-reads
 
 abbrev Inv-loop : tie.InvT-loop
 Inv-loop limits rate first out₀ points n ends keys end i₀ k₀ out i k = (i ≤ length out₀) × (length out ≡ length out₀) × (k ≡ first + i) × (out ≡ run (sampleAt points true limits rate) first i ++ drop i out₀)
@@ -29,122 +18,130 @@ Inv-loop limits rate first out₀ points n ends keys end i₀ k₀ out i k = (i 
 abbrev μ-loop : tie.MeasureT-loop
 μ-loop limits rate first out₀ points n ends keys end i₀ k₀ out i k = length out₀ - i
 
--- src/render.rt:162:13
 element-copy-out-p : tie.Need-element-copy-out-p Inv-loop μ-loop
 element-copy-out-p c = omega arith
 
--- src/render.rt:163:27
 sub-q : tie.Need-sub-q Inv-loop μ-loop
 sub-q c = omega arith
 
--- src/render.rt:163:13
 mul-q : tie.Need-mul-q Inv-loop μ-loop
 mul-q c = omega (arith, valid-count (c .before .before .args .t1) (c .before .before .pre .0))
 
--- src/render.rt:163:13
 element-copy-out-q : tie.Need-element-copy-out-q Inv-loop μ-loop
 element-copy-out-q c = omega (arith, valid-count (c .before .before .args .t1) (c .before .before .pre .0))
 
--- src/render.rt:166:16
 apply-constraints-requires : tie.Need-apply-constraints-requires Inv-loop μ-loop
 apply-constraints-requires c κs = tt
 
--- src/render.rt:168:15
 apply-constraints-requires-2 : tie.Need-apply-constraints-requires-2 Inv-loop μ-loop
 apply-constraints-requires-2 c κs = tt
 
--- src/render.rt:170:16
 time-keys-requires : tie.Need-time-keys-requires Inv-loop μ-loop
 time-keys-requires c κs = tt
 
--- src/render.rt:174:5
 loop-holds : tie.Need-loop-holds Inv-loop μ-loop
 unfolding run
 loop-holds c = (omega arith, refl, omega arith, refl)
 
--- src/render.rt:175:20
 int-to-float-time : tie.Need-int-to-float-time Inv-loop μ-loop
 int-to-float-time c = tt
 
--- src/render.rt:177:17
 order-key-requires : tie.Need-order-key-requires Inv-loop μ-loop
 order-key-requires c κs = tt
 
--- src/render.rt:178:17
 search-requires : tie.Need-search-requires Inv-loop μ-loop
 search-requires c κs = keys-asked (c .before .before .before .before .before .before .before .before .before .before .before .before .before .before .args .t1) _ (c .before .before .before .before .before .before .before .before .before .before .before .before .before .before .good .0) (c .before .before .before .before .before .before .before .before .before .before .before .before .before .before .pre .0) (c .before .before .before .before .before .before .before .before .before .before .before .before .before .before .pre .1) (c .before .before .before .before .before .before .before .before .time-keys .result) (c .before .before .before .before .before .before .before .before .time-keys .ensures)
 
--- src/render.rt:179:35
 sub-a : tie.Need-sub-a Inv-loop μ-loop
 sub-a c =
-    let p = found-inside (c .before .before .before .before .before .before .before .before .before .before .before .before .before .before .before .args .t1) _ (c .before .before .before .before .before .before .before .before .before .before .before .before .before .before .before .good .0) (c .before .before .before .before .before .before .before .before .before .before .before .before .before .before .before .pre .0) (c .before .before .before .before .before .before .before .before .before .before .before .before .before .before .before .pre .1) (c .before .before .before .before .before .before .before .before .before .before .before .before .before .before .before .args .rate) (c .before .before .before .before .before .before .before .before .loop .k) (c .before .before .before .if1 .taken) (c .search .result) (found (c .before .before .before .before .before .before .before .before .before .before .before .before .before .before .before .args .t1) _ (c .before .before .before .before .before .before .before .before .before .before .before .before .before .before .before .good .0) (c .before .before .before .before .before .before .before .before .before .before .before .before .before .before .before .pre .0) (c .before .before .before .before .before .before .before .before .before .before .before .before .before .before .before .pre .1) (c .before .before .before .before .before .before .before .before .before .before .before .before .before .before .before .args .rate) (c .before .before .before .before .before .before .before .before .loop .k) (c .before .before .before .before .before .before .before .before .before .time-keys .result) (c .before .before .before .before .before .before .before .before .before .time-keys .ensures) (c .before .before .order-key .result) (c .search .result) (c .before .before .order-key .ensures) (c .search .ensures)) in
-    omega (arith, valid-count (c .before .before .before .before .before .before .before .before .before .before .before .before .before .before .before .args .t1) (c .before .before .before .before .before .before .before .before .before .before .before .before .before .before .before .pre .0))
+    let a = c .before .before .before .before .before .before .before .before .before .before .before .before .before .before .before .args in
+    let h = c .before .before .before .before .before .before .before .before .loop in
+    let p = search-inside (a .t1) _ (c .before .before .before .before .before .before .before .before .before .before .before .before .before .before .before .good .0) (c .before .before .before .before .before .before .before .before .before .before .before .before .before .before .before .pre .0) (c .before .before .before .before .before .before .before .before .before .before .before .before .before .before .before .pre .1) (c .before .before .before .before .before .before .before .before .before .time-keys .result) (c .before .before .before .before .before .before .before .before .before .time-keys .ensures) (a .rate) (h .k) (c .before .before .before .if1 .taken) (c .before .before .order-key .result) (c .search .result) (c .before .before .order-key .ensures) (c .search .ensures) in
+    omega (arith, valid-count (a .t1) (c .before .before .before .before .before .before .before .before .before .before .before .before .before .before .before .pre .0))
 
--- src/render.rt:179:21
 mul-a : tie.Need-mul-a Inv-loop μ-loop
 mul-a c =
-    let p = found-inside (c .before .before .before .before .before .before .before .before .before .before .before .before .before .before .before .args .t1) _ (c .before .before .before .before .before .before .before .before .before .before .before .before .before .before .before .good .0) (c .before .before .before .before .before .before .before .before .before .before .before .before .before .before .before .pre .0) (c .before .before .before .before .before .before .before .before .before .before .before .before .before .before .before .pre .1) (c .before .before .before .before .before .before .before .before .before .before .before .before .before .before .before .args .rate) (c .before .before .before .before .before .before .before .before .loop .k) (c .before .before .before .if1 .taken) (c .search .result) (found (c .before .before .before .before .before .before .before .before .before .before .before .before .before .before .before .args .t1) _ (c .before .before .before .before .before .before .before .before .before .before .before .before .before .before .before .good .0) (c .before .before .before .before .before .before .before .before .before .before .before .before .before .before .before .pre .0) (c .before .before .before .before .before .before .before .before .before .before .before .before .before .before .before .pre .1) (c .before .before .before .before .before .before .before .before .before .before .before .before .before .before .before .args .rate) (c .before .before .before .before .before .before .before .before .loop .k) (c .before .before .before .before .before .before .before .before .before .time-keys .result) (c .before .before .before .before .before .before .before .before .before .time-keys .ensures) (c .before .before .order-key .result) (c .search .result) (c .before .before .order-key .ensures) (c .search .ensures)) in
-    omega (arith, valid-count (c .before .before .before .before .before .before .before .before .before .before .before .before .before .before .before .args .t1) (c .before .before .before .before .before .before .before .before .before .before .before .before .before .before .before .pre .0))
+    let a = c .before .before .before .before .before .before .before .before .before .before .before .before .before .before .before .args in
+    let h = c .before .before .before .before .before .before .before .before .loop in
+    let p = search-inside (a .t1) _ (c .before .before .before .before .before .before .before .before .before .before .before .before .before .before .before .good .0) (c .before .before .before .before .before .before .before .before .before .before .before .before .before .before .before .pre .0) (c .before .before .before .before .before .before .before .before .before .before .before .before .before .before .before .pre .1) (c .before .before .before .before .before .before .before .before .before .time-keys .result) (c .before .before .before .before .before .before .before .before .before .time-keys .ensures) (a .rate) (h .k) (c .before .before .before .if1 .taken) (c .before .before .order-key .result) (c .search .result) (c .before .before .order-key .ensures) (c .search .ensures) in
+    omega (arith, valid-count (a .t1) (c .before .before .before .before .before .before .before .before .before .before .before .before .before .before .before .pre .0))
 
--- src/render.rt:179:21
 element-copy-out-a : tie.Need-element-copy-out-a Inv-loop μ-loop
 element-copy-out-a c =
-    let p = found-inside (c .before .before .before .before .before .before .before .before .before .before .before .before .before .before .before .args .t1) _ (c .before .before .before .before .before .before .before .before .before .before .before .before .before .before .before .good .0) (c .before .before .before .before .before .before .before .before .before .before .before .before .before .before .before .pre .0) (c .before .before .before .before .before .before .before .before .before .before .before .before .before .before .before .pre .1) (c .before .before .before .before .before .before .before .before .before .before .before .before .before .before .before .args .rate) (c .before .before .before .before .before .before .before .before .loop .k) (c .before .before .before .if1 .taken) (c .search .result) (found (c .before .before .before .before .before .before .before .before .before .before .before .before .before .before .before .args .t1) _ (c .before .before .before .before .before .before .before .before .before .before .before .before .before .before .before .good .0) (c .before .before .before .before .before .before .before .before .before .before .before .before .before .before .before .pre .0) (c .before .before .before .before .before .before .before .before .before .before .before .before .before .before .before .pre .1) (c .before .before .before .before .before .before .before .before .before .before .before .before .before .before .before .args .rate) (c .before .before .before .before .before .before .before .before .loop .k) (c .before .before .before .before .before .before .before .before .before .time-keys .result) (c .before .before .before .before .before .before .before .before .before .time-keys .ensures) (c .before .before .order-key .result) (c .search .result) (c .before .before .order-key .ensures) (c .search .ensures)) in
-    omega (arith, valid-count (c .before .before .before .before .before .before .before .before .before .before .before .before .before .before .before .args .t1) (c .before .before .before .before .before .before .before .before .before .before .before .before .before .before .before .pre .0))
+    let a = c .before .before .before .before .before .before .before .before .before .before .before .before .before .before .before .args in
+    let h = c .before .before .before .before .before .before .before .before .loop in
+    let p = search-inside (a .t1) _ (c .before .before .before .before .before .before .before .before .before .before .before .before .before .before .before .good .0) (c .before .before .before .before .before .before .before .before .before .before .before .before .before .before .before .pre .0) (c .before .before .before .before .before .before .before .before .before .before .before .before .before .before .before .pre .1) (c .before .before .before .before .before .before .before .before .before .time-keys .result) (c .before .before .before .before .before .before .before .before .before .time-keys .ensures) (a .rate) (h .k) (c .before .before .before .if1 .taken) (c .before .before .order-key .result) (c .search .result) (c .before .before .order-key .ensures) (c .search .ensures) in
+    omega (arith, valid-count (a .t1) (c .before .before .before .before .before .before .before .before .before .before .before .before .before .before .before .pre .0))
 
--- src/render.rt:180:21
 mul-b : tie.Need-mul-b Inv-loop μ-loop
 mul-b c =
-    let p = found-inside (c .before .before .before .before .before .before .before .before .before .before .before .before .before .before .before .before .args .t1) _ (c .before .before .before .before .before .before .before .before .before .before .before .before .before .before .before .before .good .0) (c .before .before .before .before .before .before .before .before .before .before .before .before .before .before .before .before .pre .0) (c .before .before .before .before .before .before .before .before .before .before .before .before .before .before .before .before .pre .1) (c .before .before .before .before .before .before .before .before .before .before .before .before .before .before .before .before .args .rate) (c .before .before .before .before .before .before .before .before .before .loop .k) (c .before .before .before .before .if1 .taken) (c .before .search .result) (found (c .before .before .before .before .before .before .before .before .before .before .before .before .before .before .before .before .args .t1) _ (c .before .before .before .before .before .before .before .before .before .before .before .before .before .before .before .before .good .0) (c .before .before .before .before .before .before .before .before .before .before .before .before .before .before .before .before .pre .0) (c .before .before .before .before .before .before .before .before .before .before .before .before .before .before .before .before .pre .1) (c .before .before .before .before .before .before .before .before .before .before .before .before .before .before .before .before .args .rate) (c .before .before .before .before .before .before .before .before .before .loop .k) (c .before .before .before .before .before .before .before .before .before .before .time-keys .result) (c .before .before .before .before .before .before .before .before .before .before .time-keys .ensures) (c .before .before .before .order-key .result) (c .before .search .result) (c .before .before .before .order-key .ensures) (c .before .search .ensures)) in
-    omega (arith, valid-count (c .before .before .before .before .before .before .before .before .before .before .before .before .before .before .before .before .args .t1) (c .before .before .before .before .before .before .before .before .before .before .before .before .before .before .before .before .pre .0))
+    let a = c .before .before .before .before .before .before .before .before .before .before .before .before .before .before .before .before .args in
+    let h = c .before .before .before .before .before .before .before .before .before .loop in
+    let p = search-inside (a .t1) _ (c .before .before .before .before .before .before .before .before .before .before .before .before .before .before .before .before .good .0) (c .before .before .before .before .before .before .before .before .before .before .before .before .before .before .before .before .pre .0) (c .before .before .before .before .before .before .before .before .before .before .before .before .before .before .before .before .pre .1) (c .before .before .before .before .before .before .before .before .before .before .time-keys .result) (c .before .before .before .before .before .before .before .before .before .before .time-keys .ensures) (a .rate) (h .k) (c .before .before .before .before .if1 .taken) (c .before .before .before .order-key .result) (c .before .search .result) (c .before .before .before .order-key .ensures) (c .before .search .ensures) in
+    omega (arith, valid-count (a .t1) (c .before .before .before .before .before .before .before .before .before .before .before .before .before .before .before .before .pre .0))
 
--- src/render.rt:180:21
 element-copy-out-b : tie.Need-element-copy-out-b Inv-loop μ-loop
 element-copy-out-b c =
-    let p = found-inside (c .before .before .before .before .before .before .before .before .before .before .before .before .before .before .before .before .args .t1) _ (c .before .before .before .before .before .before .before .before .before .before .before .before .before .before .before .before .good .0) (c .before .before .before .before .before .before .before .before .before .before .before .before .before .before .before .before .pre .0) (c .before .before .before .before .before .before .before .before .before .before .before .before .before .before .before .before .pre .1) (c .before .before .before .before .before .before .before .before .before .before .before .before .before .before .before .before .args .rate) (c .before .before .before .before .before .before .before .before .before .loop .k) (c .before .before .before .before .if1 .taken) (c .before .search .result) (found (c .before .before .before .before .before .before .before .before .before .before .before .before .before .before .before .before .args .t1) _ (c .before .before .before .before .before .before .before .before .before .before .before .before .before .before .before .before .good .0) (c .before .before .before .before .before .before .before .before .before .before .before .before .before .before .before .before .pre .0) (c .before .before .before .before .before .before .before .before .before .before .before .before .before .before .before .before .pre .1) (c .before .before .before .before .before .before .before .before .before .before .before .before .before .before .before .before .args .rate) (c .before .before .before .before .before .before .before .before .before .loop .k) (c .before .before .before .before .before .before .before .before .before .before .time-keys .result) (c .before .before .before .before .before .before .before .before .before .before .time-keys .ensures) (c .before .before .before .order-key .result) (c .before .search .result) (c .before .before .before .order-key .ensures) (c .before .search .ensures)) in
-    omega (arith, valid-count (c .before .before .before .before .before .before .before .before .before .before .before .before .before .before .before .before .args .t1) (c .before .before .before .before .before .before .before .before .before .before .before .before .before .before .before .before .pre .0))
+    let a = c .before .before .before .before .before .before .before .before .before .before .before .before .before .before .before .before .args in
+    let h = c .before .before .before .before .before .before .before .before .before .loop in
+    let p = search-inside (a .t1) _ (c .before .before .before .before .before .before .before .before .before .before .before .before .before .before .before .before .good .0) (c .before .before .before .before .before .before .before .before .before .before .before .before .before .before .before .before .pre .0) (c .before .before .before .before .before .before .before .before .before .before .before .before .before .before .before .before .pre .1) (c .before .before .before .before .before .before .before .before .before .before .time-keys .result) (c .before .before .before .before .before .before .before .before .before .before .time-keys .ensures) (a .rate) (h .k) (c .before .before .before .before .if1 .taken) (c .before .before .before .order-key .result) (c .before .search .result) (c .before .before .before .order-key .ensures) (c .before .search .ensures) in
+    omega (arith, valid-count (a .t1) (c .before .before .before .before .before .before .before .before .before .before .before .before .before .before .before .before .pre .0))
 
--- src/render.rt:181:17
 around-requires : tie.Need-around-requires Inv-loop μ-loop
 around-requires c κs = tt
 
--- src/render.rt:182:57
 mul-write-stretch : tie.Need-mul-write-stretch Inv-loop μ-loop
 mul-write-stretch c = omega arith
 
--- src/render.rt:182:57
 sub-write-stretch : tie.Need-sub-write-stretch Inv-loop μ-loop
 sub-write-stretch c = omega arith
 
--- src/render.rt:182:57
 part-write-stretch-start : tie.Need-part-write-stretch-start Inv-loop μ-loop
 part-write-stretch-start c = omega arith
 
--- src/render.rt:182:57
 part-write-stretch-end : tie.Need-part-write-stretch-end Inv-loop μ-loop
 part-write-stretch-end c = omega arith
 
--- src/render.rt:182:17
 write-stretch-requires : tie.Need-write-stretch-requires Inv-loop μ-loop
-write-stretch-requires c κs = let l = part-long (c .before .before .before .before .before .before .before .before .before .before .before .before .loop .i) (length (c .before .before .before .before .before .before .before .before .before .before .before .before .before .before .before .before .before .before .before .args .out .now)) (c .before .before .before .before .before .before .before .before .before .before .before .before .loop .out) (c .before .before .before .before .before .before .before .before .before .before .before .before .loop .inv .1) (c .before .before .before .before .before .before .before .before .before .before .before .before .loop .inv .0) in (omega arith, omega arith)
+write-stretch-requires c κs =
+    let a = c .before .before .before .before .before .before .before .before .before .before .before .before .before .before .before .before .before .before .before .args in
+    let h = c .before .before .before .before .before .before .before .before .before .before .before .before .loop in
+    let l = part-long (h .i) (length (a .out .now)) (h .out) (h .inv .1) (h .inv .0) in
+    (omega arith, omega (arith, c .before .before .before .before .before .before .before .before .before .before .before .before .before .before .before .before .before .before .before .pre .2, h .inv .2))
 
--- src/render.rt:183:13
 add-i : tie.Need-add-i Inv-loop μ-loop
-add-i c = let l = part-long (c .before .before .before .before .before .before .before .before .before .before .before .before .before .before .before .loop .i) (length (c .before .before .before .before .before .before .before .before .before .before .before .before .before .before .before .before .before .before .before .before .before .before .args .out .now)) (c .before .before .before .before .before .before .before .before .before .before .before .before .before .before .before .loop .out) (c .before .before .before .before .before .before .before .before .before .before .before .before .before .before .before .loop .inv .1) (c .before .before .before .before .before .before .before .before .before .before .before .before .before .before .before .loop .inv .0) in let q = c .before .before .write-stretch .ensures .most in omega arith
+add-i c =
+    let a = c .before .before .before .before .before .before .before .before .before .before .before .before .before .before .before .before .before .before .before .before .before .before .args in
+    let h = c .before .before .before .before .before .before .before .before .before .before .before .before .before .before .before .loop in
+    let l = part-long (h .i) (length (a .out .now)) (h .out) (h .inv .1) (h .inv .0) in
+    let q = c .before .before .write-stretch .ensures .most in
+    omega (arith, c .before .before .before .before .before .before .before .before .before .before .before .before .before .before .before .before .before .before .before .before .before .before .pre .2, h .inv .2)
 
--- src/render.rt:184:18
 cast-k : tie.Need-cast-k Inv-loop μ-loop
-cast-k c = let l = part-long (c .before .before .before .before .before .before .before .before .before .before .before .before .before .before .before .loop .i) (length (c .before .before .before .before .before .before .before .before .before .before .before .before .before .before .before .before .before .before .before .before .before .before .args .out .now)) (c .before .before .before .before .before .before .before .before .before .before .before .before .before .before .before .loop .out) (c .before .before .before .before .before .before .before .before .before .before .before .before .before .before .before .loop .inv .1) (c .before .before .before .before .before .before .before .before .before .before .before .before .before .before .before .loop .inv .0) in let q = c .before .before .write-stretch .ensures .most in omega arith
+cast-k c =
+    let a = c .before .before .before .before .before .before .before .before .before .before .before .before .before .before .before .before .before .before .before .before .before .before .args in
+    let h = c .before .before .before .before .before .before .before .before .before .before .before .before .before .before .before .loop in
+    let l = part-long (h .i) (length (a .out .now)) (h .out) (h .inv .1) (h .inv .0) in
+    let q = c .before .before .write-stretch .ensures .most in
+    omega (arith, c .before .before .before .before .before .before .before .before .before .before .before .before .before .before .before .before .before .before .before .before .before .before .pre .2, h .inv .2)
 
--- src/render.rt:184:13
 add-k : tie.Need-add-k Inv-loop μ-loop
-add-k c = let l = part-long (c .before .before .before .before .before .before .before .before .before .before .before .before .before .before .before .loop .i) (length (c .before .before .before .before .before .before .before .before .before .before .before .before .before .before .before .before .before .before .before .before .before .before .args .out .now)) (c .before .before .before .before .before .before .before .before .before .before .before .before .before .before .before .loop .out) (c .before .before .before .before .before .before .before .before .before .before .before .before .before .before .before .loop .inv .1) (c .before .before .before .before .before .before .before .before .before .before .before .before .before .before .before .loop .inv .0) in let q = c .before .before .write-stretch .ensures .most in omega arith
+add-k c =
+    let a = c .before .before .before .before .before .before .before .before .before .before .before .before .before .before .before .before .before .before .before .before .before .before .args in
+    let h = c .before .before .before .before .before .before .before .before .before .before .before .before .before .before .before .loop in
+    let l = part-long (h .i) (length (a .out .now)) (h .out) (h .inv .1) (h .inv .0) in
+    let q = c .before .before .write-stretch .ensures .most in
+    omega (arith, c .before .before .before .before .before .before .before .before .before .before .before .before .before .before .before .before .before .before .before .before .before .before .pre .2, h .inv .2)
 
--- src/render.rt:174:5
 loop-less : tie.Need-loop-less Inv-loop μ-loop
-loop-less c = let l = part-long (c .before .before .before .before .before .before .before .before .before .before .before .before .before .before .before .loop .i) (length (c .before .before .before .before .before .before .before .before .before .before .before .before .before .before .before .before .before .before .before .before .before .before .args .out .now)) (c .before .before .before .before .before .before .before .before .before .before .before .before .before .before .before .loop .out) (c .before .before .before .before .before .before .before .before .before .before .before .before .before .before .before .loop .inv .1) (c .before .before .before .before .before .before .before .before .before .before .before .before .before .before .before .loop .inv .0) in let q = c .before .before .write-stretch .ensures .most in let z = c .before .before .write-stretch .ensures .some in omega arith
+loop-less c =
+    let a = c .before .before .before .before .before .before .before .before .before .before .before .before .before .before .before .before .before .before .before .before .before .before .args in
+    let h = c .before .before .before .before .before .before .before .before .before .before .before .before .before .before .before .loop in
+    let l = part-long (h .i) (length (a .out .now)) (h .out) (h .inv .1) (h .inv .0) in
+    let q = c .before .before .write-stretch .ensures .most in
+    let z = c .before .before .write-stretch .ensures .some in
+    omega arith
 
--- src/render.rt:174:5
 loop-again : tie.Need-loop-again Inv-loop μ-loop
 loop-again c =
     let a = c .before .before .before .before .before .before .before .before .before .before .before .before .before .before .before .before .before .before .before .before .before .before .args in
@@ -152,62 +149,50 @@ loop-again c =
     let o = a .out .now in
     let f = sampleAt (a .t1) true (a .limits) (a .rate) in
     let m = c .before .before .write-stretch .result in
-    let l = part-long (c .before .before .before .before .before .before .before .before .before .before .before .before .before .before .before .loop .i) (length (c .before .before .before .before .before .before .before .before .before .before .before .before .before .before .before .before .before .before .before .before .before .before .args .out .now)) (c .before .before .before .before .before .before .before .before .before .before .before .before .before .before .before .loop .out) (c .before .before .before .before .before .before .before .before .before .before .before .before .before .before .before .loop .inv .1) (c .before .before .before .before .before .before .before .before .before .before .before .before .before .before .before .loop .inv .0) in
+    let l = part-long (h .i) (length (a .out .now)) (h .out) (h .inv .1) (h .inv .0) in
     let q = c .before .before .write-stretch .ensures .most in
-    let at = found (c .before .before .before .before .before .before .before .before .before .before .before .before .before .before .before .before .before .before .before .before .before .before .args .t1) _ (c .before .before .before .before .before .before .before .before .before .before .before .before .before .before .before .before .before .before .before .before .before .before .good .0) (c .before .before .before .before .before .before .before .before .before .before .before .before .before .before .before .before .before .before .before .before .before .before .pre .0) (c .before .before .before .before .before .before .before .before .before .before .before .before .before .before .before .before .before .before .before .before .before .before .pre .1) (c .before .before .before .before .before .before .before .before .before .before .before .before .before .before .before .before .before .before .before .before .before .before .args .rate) (c .before .before .before .before .before .before .before .before .before .before .before .before .before .before .before .loop .k) (c .before .before .before .before .before .before .before .before .before .before .before .before .before .before .before .before .time-keys .result) (c .before .before .before .before .before .before .before .before .before .before .before .before .before .before .before .before .time-keys .ensures) (c .before .before .before .before .before .before .before .before .before .order-key .result) (c .before .before .before .before .before .before .before .search .result) (c .before .before .before .before .before .before .before .before .before .order-key .ensures) (c .before .before .before .before .before .before .before .search .ensures) in
-    let w = stretch-written (a .t1) _ (c .before .before .before .before .before .before .before .before .before .before .before .before .before .before .before .before .before .before .before .before .before .before .good .0) (c .before .before .before .before .before .before .before .before .before .before .before .before .before .before .before .before .before .before .before .before .before .before .pre .0) (c .before .before .before .before .before .before .before .before .before .before .before .before .before .before .before .before .before .before .before .before .before .before .pre .1) (a .rate) (h .k) (c .before .before .before .before .before .before .before .before .before .before .if1 .taken) (a .limits) (c .before .before .before .before .around .result) (c .before .before .before .before .before .before .before .before .before .order-key .result) (c .before .before .before .before .before .before .before .search .result) m _ _ (c .before .before .before .before .before .before .before .before .before .order-key .ensures) at (c .before .before .before .before .around .ensures) (c .before .before .write-stretch .ensures) in
+    let w = stretch-written (a .t1) _ (c .before .before .before .before .before .before .before .before .before .before .before .before .before .before .before .before .before .before .before .before .before .before .good .0) (c .before .before .before .before .before .before .before .before .before .before .before .before .before .before .before .before .before .before .before .before .before .before .pre .0) (c .before .before .before .before .before .before .before .before .before .before .before .before .before .before .before .before .before .before .before .before .before .before .pre .1) (c .before .before .before .before .before .before .before .before .before .before .before .before .before .before .before .before .time-keys .result) (c .before .before .before .before .before .before .before .before .before .before .before .before .before .before .before .before .time-keys .ensures) (a .rate) (h .k) (c .before .before .before .before .before .before .before .before .before .before .if1 .taken) (c .before .before .before .before .before .before .before .before .before .order-key .result) (c .before .before .before .before .before .before .before .search .result) (c .before .before .before .before .before .before .before .before .before .order-key .ensures) (c .before .before .before .before .before .before .before .search .ensures) (a .limits) (c .before .before .before .before .around .result) m _ _ (c .before .before .before .before .around .ensures) (c .before .before .write-stretch .ensures) in
     let e = run-part f (a .first) (h .i) m o (h .out) _ (h .inv .0) (h .inv .3) (w ∙ ap (λ (n : ℕ). run f n m ++ drop m (take (length o - h .i) (drop (h .i) (h .out)))) (h .inv .2)) in
     (omega arith, ap length e ∙ run-over f (a .first) (h .i + m) o (omega arith), omega arith, e)
 
--- src/render.rt:186:22
 value-at-requires : tie.Need-value-at-requires Inv-loop μ-loop
 value-at-requires c κs = tt
 
--- src/render.rt:186:13
 mul-out : tie.Need-mul-out Inv-loop μ-loop
 mul-out c = omega arith
 
--- src/render.rt:186:13
 slice-write-out : tie.Need-slice-write-out Inv-loop μ-loop
 slice-write-out c = omega arith
 
--- src/render.rt:187:13
 add-i-2 : tie.Need-add-i-2 Inv-loop μ-loop
 add-i-2 c = omega arith
 
--- src/render.rt:188:13
 add-k-2 : tie.Need-add-k-2 Inv-loop μ-loop
 add-k-2 c = omega arith
 
--- src/render.rt:174:5
 loop-less-2 : tie.Need-loop-less-2 Inv-loop μ-loop
 loop-less-2 c = omega arith
 
--- src/render.rt:174:5
 loop-again-2 : tie.Need-loop-again-2 Inv-loop μ-loop
 loop-again-2 c =
     let a = c .before .before .before .before .before .before .before .before .before .before .before .before .before .args in
     let h = c .before .before .before .before .before .before .loop in
-    let f = sampleAt (a .t1) true (a .limits) (a .rate) in (
+    let f = sampleAt (a .t1) true (a .limits) (a .rate) in
+    let w = outside-sample (a .t1) _ (c .before .before .before .before .before .before .before .before .before .before .before .before .before .good .0) (c .before .before .before .before .before .before .before .before .before .before .before .before .before .pre .0) (c .before .before .before .before .before .before .before .before .before .before .before .before .before .pre .1) (a .rate) (h .k) (a .limits) (c .before .if1 .left) _ _ _ (c .before .before .before .before .before .before .before .before .before .apply-constraints .ensures) (c .before .before .before .before .before .before .before .before .apply-constraints2 .ensures) (c .value-at .ensures) in (
       omega arith,
       length-set (h .out) (h .i) (c .value-at .result) ∙ h .inv .1,
       omega arith,
-      run-turn f (a .first) (h .i) (a .out .now) (h .out) (c .value-at .result) (omega arith) (h .inv .3)
-          (outside-sample (a .t1) _ (c .before .before .before .before .before .before .before .before .before .before .before .before .before .good .0) (c .before .before .before .before .before .before .before .before .before .before .before .before .before .pre .0) (c .before .before .before .before .before .before .before .before .before .before .before .before .before .pre .1) (a .rate) (h .k) (a .limits) (c .before .if1 .left) (c .before .before .before .before .before .before .before .before .before .apply-constraints .result) (c .before .before .before .before .before .before .before .before .apply-constraints2 .result) (c .value-at .result) (c .before .before .before .before .before .before .before .before .before .apply-constraints .ensures) (c .before .before .before .before .before .before .before .before .apply-constraints2 .ensures) (c .value-at .ensures)
-          ∙ ap f (h .inv .2)),
+      run-turn f (a .first) (h .i) (a .out .now) (h .out) (c .value-at .result) (omega arith) (h .inv .3) (w ∙ ap f (h .inv .2)),
     )
 
--- src/render.rt:157:1
 same-length : tie.Need-same-length Inv-loop μ-loop
 same-length c = c .before .loop .inv .1
 
--- src/render.rt:157:1
 returns : tie.Need-returns Inv-loop μ-loop
 returns c =
-    let f = sampleAt (c .before .before .before .before .before .before .before .before .args .t1) true (c .before .before .before .before .before .before .before .before .args .limits) (c .before .before .before .before .before .before .before .before .args .rate) in
-    let o = c .before .before .before .before .before .before .before .before .args .out .now in
-    let at : c .before .loop .i ≡ length o = omega arith in
-    c .before .loop .inv .3 ∙ ap (λ (n : ℕ). run f (c .before .before .before .before .before .before .before .before .args .first) n ++ drop n o) at ∙ ap (λ (l : List Float). run f (c .before .before .before .before .before .before .before .before .args .first) (length o) ++ l) (drop-length o) ∙ append-nil (run f (c .before .before .before .before .before .before .before .before .args .first) (length o))
+    let a = c .before .before .before .before .before .before .before .before .args in
+    let f = sampleAt (a .t1) true (a .limits) (a .rate) in
+    c .before .loop .inv .3 ∙ run-end f (a .first) (c .before .loop .i) (a .out .now) (omega arith)
 
 pub write-segments-spec : {M : Type 1} → statement M
 write-segments-spec =

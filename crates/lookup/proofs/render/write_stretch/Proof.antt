@@ -1,3 +1,4 @@
+-- `lookup::render::write_stretch` meets its contract. Assumes nothing.
 use Prim.Native.Nat.{ℕ, _+_, _≤_, _<_, _-_}
 use mathlib.Core.Path.{_≡_, refl, sym, ap, _∙_}
 use mathlib.Core.Bool.{true}
@@ -11,11 +12,9 @@ use borrow.Author.Count.{below-more}
 use Rattle.lookup.specs.Render.{run}
 use Rattle.lookup.specs.Runs.{run-turn}
 use Rattle.lookup.specs.Writer.{inside, timeOf, segmentAt}
+use Rattle.lookup.proofs.Segments.{stretch-end}
 use Rattle.lookup.proofs.render.write_stretch.Statement.{statement}
 use Rattle.lookup.proofs.render.write_stretch.Tie as tie
-use Rattle.lookup.proofs.render.write_stretch.Reads as reads
-use Rattle.lookup.proofs.render.write_stretch.Lts as lts
-use Rattle.lookup.proofs.render.Segment.value_at.Reads as value-at-reads
 
 abbrev Inv-loop : tie.InvT-loop
 Inv-loop seg limits rate first out₀ i₀ k₀ out i k = (1 ≤ i) × (i ≤ length out₀) × (length out ≡ length out₀) × (k ≡ first + i) × ((j : ℕ) → j < i → 0 < j → inside seg (timeOf rate (first + j)) ≡ true) × (out ≡ run (λ n. segmentAt limits seg (timeOf rate n)) first i ++ drop i out₀)
@@ -23,23 +22,18 @@ Inv-loop seg limits rate first out₀ i₀ k₀ out i k = (1 ≤ i) × (i ≤ le
 abbrev μ-loop : tie.MeasureT-loop
 μ-loop seg limits rate first out₀ i₀ k₀ out i k = length out₀ - i
 
--- src/render.rt:140:35
 int-to-float-value-at : tie.Need-int-to-float-value-at Inv-loop μ-loop
 int-to-float-value-at c = tt
 
--- src/render.rt:140:14
 value-at-requires : tie.Need-value-at-requires Inv-loop μ-loop
 value-at-requires c κs = tt
 
--- src/render.rt:140:5
 slice-write-out : tie.Need-slice-write-out Inv-loop μ-loop
 slice-write-out c = omega arith
 
--- src/render.rt:142:22
 add-k : tie.Need-add-k Inv-loop μ-loop
 add-k c = omega arith
 
--- src/render.rt:143:5
 loop-holds : tie.Need-loop-holds Inv-loop μ-loop
 unfolding run
 loop-holds c =
@@ -56,35 +50,27 @@ loop-holds c =
       run-turn f (a .first) 0 o o x (omega arith) refl w ∙ ap (λ (l : List Float). run f (a .first) 1 ++ l) (sym (drop-set-lt 1 o 0 x (omega arith))),
     )
 
--- src/render.rt:144:20
 int-to-float-time : tie.Need-int-to-float-time Inv-loop μ-loop
 int-to-float-time c = tt
 
--- src/render.rt:146:22
 value-at-requires-2 : tie.Need-value-at-requires-2 Inv-loop μ-loop
 value-at-requires-2 c κs = tt
 
--- src/render.rt:146:13
 mul-out : tie.Need-mul-out Inv-loop μ-loop
 mul-out c = omega arith
 
--- src/render.rt:146:13
 slice-write-out-2 : tie.Need-slice-write-out-2 Inv-loop μ-loop
 slice-write-out-2 c = omega arith
 
--- src/render.rt:147:13
 add-i : tie.Need-add-i Inv-loop μ-loop
 add-i c = omega arith
 
--- src/render.rt:148:13
 add-k-2 : tie.Need-add-k-2 Inv-loop μ-loop
 add-k-2 c = omega (arith, length-set (c .before .before .before .before .before .before .before .before .before .before .args .out .now) 0 (c .before .before .before .before .before .before .before .value-at .result))
 
--- src/render.rt:143:5
 loop-less : tie.Need-loop-less Inv-loop μ-loop
 loop-less c = omega arith
 
--- src/render.rt:143:5
 loop-again : tie.Need-loop-again Inv-loop μ-loop
 loop-again c =
     let a = c .before .before .before .before .before .before .before .before .before .before .args in
@@ -98,35 +84,23 @@ loop-again c =
       run-turn f (a .first) (h .i) (set (a .out .now) 0 (c .before .before .before .before .before .before .before .value-at .result)) (h .out) (c .value-at2 .result) (omega arith) (h .inv .5) (c .value-at2 .ensures ∙ ap f (h .inv .3)),
     )
 
--- src/render.rt:150:13
 same-length : tie.Need-same-length Inv-loop μ-loop
 same-length c = c .before .before .before .before .before .loop .inv .2 ∙ length-set (c .before .before .before .before .before .before .before .before .before .args .out .now) 0 (c .before .before .before .before .before .before .value-at .result)
 
--- src/render.rt:150:13
 returns : tie.Need-returns Inv-loop μ-loop
 returns c =
+    let a = c .before .before .before .before .before .before .before .before .before .args in
     let h = c .before .before .before .before .before .loop in
-    record {
-      some = omega arith;
-      most = omega (arith, length-set (c .before .before .before .before .before .before .before .before .before .args .out .now) 0 (c .before .before .before .before .before .before .value-at .result));
-      within = h .inv .4;
-      buffer = h .inv .5 ∙ ap (λ (l : List Float). run (λ n. segmentAt (c .before .before .before .before .before .before .before .before .before .args .limits) (c .before .before .before .before .before .before .before .before .before .args .seg) (timeOf (c .before .before .before .before .before .before .before .before .before .args .rate) n)) (c .before .before .before .before .before .before .before .before .before .args .first) (h .i) ++ l) (drop-set-lt (h .i) (c .before .before .before .before .before .before .before .before .before .args .out .now) 0 (c .before .before .before .before .before .before .value-at .result) (omega arith));
-    }
+    stretch-end (a .seg) (a .limits) (a .rate) (a .first) (h .i) (a .out .now) (h .out) (c .before .before .before .before .before .before .value-at .result) (h .inv .0) (h .inv .1) (h .inv .4) (h .inv .5)
 
--- src/render.rt:136:1
 same-length-2 : tie.Need-same-length-2 Inv-loop μ-loop
 same-length-2 c = c .before .loop .inv .2 ∙ length-set (c .before .before .before .before .before .args .out .now) 0 (c .before .before .value-at .result)
 
--- src/render.rt:136:1
 returns-2 : tie.Need-returns-2 Inv-loop μ-loop
 returns-2 c =
+    let a = c .before .before .before .before .before .args in
     let h = c .before .loop in
-    record {
-      some = omega arith;
-      most = omega (arith, length-set (c .before .before .before .before .before .args .out .now) 0 (c .before .before .value-at .result));
-      within = h .inv .4;
-      buffer = h .inv .5 ∙ ap (λ (l : List Float). run (λ n. segmentAt (c .before .before .before .before .before .args .limits) (c .before .before .before .before .before .args .seg) (timeOf (c .before .before .before .before .before .args .rate) n)) (c .before .before .before .before .before .args .first) (h .i) ++ l) (drop-set-lt (h .i) (c .before .before .before .before .before .args .out .now) 0 (c .before .before .value-at .result) (omega arith));
-    }
+    stretch-end (a .seg) (a .limits) (a .rate) (a .first) (h .i) (a .out .now) (h .out) (c .before .before .value-at .result) (h .inv .0) (h .inv .1) (h .inv .4) (h .inv .5)
 
 pub write-stretch-spec : {M : Type 1} → statement M
 write-stretch-spec =

@@ -1,8 +1,8 @@
 -- `lookup::sample::keys_rise` meets its contract. Assumes nothing.
-use Prim.Native.Nat.{ℕ, _≤_, _-_, max}
+use Prim.Native.Nat.{ℕ, _+_, _≤_, _-_, max}
 use mathlib.Core.Path.{_≡_, sym, ap, _∙_}
 use native.Mathlib.Omega.{arith}
-use lib.ListN.{take}
+use lib.ListN.{take, getD}
 use Rattle.points.specs.Point.{anyPoint}
 use Rattle.points.specs.Points.{risingBy}
 use Rattle.points.specs.Laws.{rising-next, rising-one, rising-end, take-min}
@@ -12,34 +12,28 @@ use Rattle.lookup.proofs.sample.keys_rise.Statement.{statement}
 use Rattle.lookup.proofs.sample.keys_rise.Tie as tie
 
 abbrev Inv-loop : tie.InvT-loop
-Inv-loop points n ok₀ i₀ ok i = (1 ≤ i) × (i ≤ max 1 n) × (ok ≡ risingBy sampleKey (take i (points .places)))
+Inv-loop points n last₀ ok₀ i₀ last ok i = (1 ≤ i) × (i ≤ max 1 n) × (last ≡ sampleKey (getD (points .places) (i - 1) anyPoint)) × (ok ≡ risingBy sampleKey (take i (points .places)))
 
 abbrev μ-loop : tie.MeasureT-loop
-μ-loop points n ok₀ i₀ ok i = n - i
+μ-loop points n last₀ ok₀ i₀ last ok i = n - i
 
 used-requires : tie.Need-used-requires Inv-loop μ-loop
 used-requires c κs = tt
 
-loop-holds : tie.Need-loop-holds Inv-loop μ-loop
-loop-holds c = (omega arith, omega arith, sym (rising-one sampleKey (c .before .args .t1 .places)))
+element-copy-out-first : tie.Need-element-copy-out-first Inv-loop μ-loop
+element-copy-out-first c = omega arith
 
-sub-p : tie.Need-sub-p Inv-loop μ-loop
-sub-p c = omega arith
+sample-key-requires : tie.Need-sample-key-requires Inv-loop μ-loop
+sample-key-requires c κs = tt
+
+loop-holds : tie.Need-loop-holds Inv-loop μ-loop
+loop-holds c = (omega arith, omega arith, c .sample-key .ensures, sym (rising-one sampleKey (c .before .before .before .args .t1 .places)))
 
 mul-p : tie.Need-mul-p Inv-loop μ-loop
 mul-p c = omega arith
 
 element-copy-out-p : tie.Need-element-copy-out-p Inv-loop μ-loop
 element-copy-out-p c = omega arith
-
-mul-q : tie.Need-mul-q Inv-loop μ-loop
-mul-q c = omega arith
-
-element-copy-out-q : tie.Need-element-copy-out-q Inv-loop μ-loop
-element-copy-out-q c = omega arith
-
-sample-key-requires : tie.Need-sample-key-requires Inv-loop μ-loop
-sample-key-requires c κs = tt
 
 sample-key-requires-2 : tie.Need-sample-key-requires-2 Inv-loop μ-loop
 sample-key-requires-2 c κs = tt
@@ -52,14 +46,17 @@ loop-less c = omega arith
 
 loop-again : tie.Need-loop-again Inv-loop μ-loop
 loop-again c =
-    let len = places (c .before .before .before .before .before .before .before .args .t1) _ (c .before .before .before .before .before .before .before .good .0) in
-    (omega arith, omega arith, cc (rising-next sampleKey (c .before .before .before .before .before .before .before .args .t1 .places) (c .before .before .before .before .before .loop .i) anyPoint (omega arith) (omega arith)))
+    let ps = c .before .before .before .before .before .before .before .args .t1 in
+    let i = c .before .before .before .loop .i in
+    let len = places ps _ (c .before .before .before .before .before .before .before .good .0) in
+    let e : i ≡ i + 1 - 1 = omega arith in
+    (omega arith, omega arith, c .sample-key2 .ensures ∙ ap (λ (m : ℕ). sampleKey (getD (ps .places) m anyPoint)) e, cc (rising-next sampleKey (ps .places) i anyPoint (omega arith) (omega arith)))
 
 returns : tie.Need-returns Inv-loop μ-loop
 returns c =
-    let ps = c .before .before .before .args .t1 in
-    c .before .loop .inv .2 ∙ rising-end sampleKey (ps .places) (c .before .loop .i) (c .before .before .used .result) (omega arith) (omega arith) (omega arith)
-    ∙ ap (risingBy sampleKey) (ap (λ (k : ℕ). take k (ps .places)) (c .before .before .used .ensures) ∙ take-min (ps .count) (ps .places) 256 (places ps _ (c .before .before .before .good .0)))
+    let ps = c .before .before .before .before .before .args .t1 in
+    c .before .loop .inv .3 ∙ rising-end sampleKey (ps .places) (c .before .loop .i) (c .before .before .before .before .used .result) (omega arith) (omega arith) (omega arith)
+    ∙ ap (risingBy sampleKey) (ap (λ (k : ℕ). take k (ps .places)) (c .before .before .before .before .used .ensures) ∙ take-min (ps .count) (ps .places) 256 (places ps _ (c .before .before .before .before .before .good .0)))
 
 pub keys-rise-spec : {M : Type 1} → statement M
 keys-rise-spec =
@@ -68,13 +65,11 @@ keys-rise-spec =
     Inv-loop
     μ-loop
     used-requires
+    element-copy-out-first
+    sample-key-requires
     loop-holds
-    sub-p
     mul-p
     element-copy-out-p
-    mul-q
-    element-copy-out-q
-    sample-key-requires
     sample-key-requires-2
     add-i
     loop-less

@@ -1,20 +1,16 @@
+-- `lookup::render::Ends::value_at` meets its contract. Assumes nothing.
 use lib.Ieee.{ofBits}
 use Rattle.lookup.proofs.render.Ends.value_at.Statement.{statement}
 use Rattle.lookup.proofs.render.Ends.value_at.Tie as tie
-use Rattle.lookup.proofs.render.Ends.value_at.Reads as reads
-use Rattle.lookup.proofs.render.Ends.value_at.Lts as lts
 
--- src/render.rt:79:5
 returns : tie.Need-returns
 unfolding ofBits
 returns c = rw (c .if1 .taken)
 
--- src/render.rt:79:5
 returns-2 : tie.Need-returns-2
 unfolding ofBits
 returns-2 c = rw (c .before .before .if1 .left, c .if2 .taken)
 
--- src/render.rt:79:5
 returns-3 : tie.Need-returns-3
 unfolding ofBits
 returns-3 c = rw (c .before .before .if1 .left, c .if2 .left)

@@ -1,30 +1,22 @@
+-- `lookup::render::Segment::around` meets its contract. Assumes nothing.
 use mathlib.Core.Path.{sym, _∙_}
 use borrow.Author.Tests.{eq-eqb, ne-eqb}
 use borrow.Author.Needs.{needs}
 use Rattle.lookup.proofs.render.Segment.around.Statement.{statement}
 use Rattle.lookup.proofs.render.Segment.around.Tie as tie
-use Rattle.lookup.proofs.render.Segment.around.Reads as reads
-use Rattle.lookup.proofs.render.Segment.around.Lts as lts
-use Rattle.lookup.proofs.render.Segment.new.Reads as new-reads
-use Rattle.numbers.proofs.order.order_key.Reads as order-key-reads
 
--- src/render.rt:61:12
 order-key-requires : tie.Need-order-key-requires
 order-key-requires c κs = search needs
 
--- src/render.rt:62:13
 new-requires : tie.Need-new-requires
 new-requires c κs = search needs
 
--- src/render.rt:64:13
 new-requires-2 : tie.Need-new-requires-2
 new-requires-2 c κs = search needs
 
--- src/render.rt:58:5
 returns : tie.Need-returns
 returns c = rw (eq-eqb _ _ (sym (c .before .before .order-key .ensures) ∙ c .before .if1 .taken)) (c .new .ensures)
 
--- src/render.rt:58:5
 returns-2 : tie.Need-returns-2
 returns-2 c = rw (ne-eqb _ _ (λ e. c .before .if1 .left (c .before .before .order-key .ensures ∙ e))) (c .new2 .ensures)
 

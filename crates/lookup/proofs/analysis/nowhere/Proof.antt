@@ -1,0 +1,12 @@
+-- `lookup::analysis::nowhere` meets its contract. Assumes nothing.
+use lib.Ieee.{ofBits, div, neg}
+use mathlib.Core.Path.{refl}
+use Rattle.lookup.proofs.analysis.nowhere.Statement.{statement}
+use Rattle.lookup.proofs.analysis.nowhere.Tie as tie
+
+returns : tie.Need-returns
+unfolding ofBits div neg
+returns c = refl
+
+pub nowhere-spec : {M : Type 1} → statement M
+nowhere-spec = tie.close (tie.spec returns)

@@ -1,0 +1,79 @@
+-- `lookup::place::keys` meets its contract. Assumes nothing.
+use Prim.Native.Nat.{ℕ, _≤_, _-_, min}
+use mathlib.Core.Path.{_≡_, refl, sym, ap, _∙_}
+use mathlib.Core.List.{map}
+use native.Mathlib.Omega.{arith}
+use lib.ListN.{length, take, length-set, length-replicate}
+use Rattle.points.specs.Point.{anyPoint}
+use Rattle.points.specs.Laws.{take-min}
+use Rattle.lookup.specs.Keys.{keyBy}
+use Rattle.lookup.proofs.Good.{places}
+use Rattle.lookup.proofs.PlaceKeys.{keys-turn}
+use Rattle.lookup.proofs.place.keys.Statement.{statement}
+use Rattle.lookup.proofs.place.keys.Tie as tie
+
+abbrev Inv-loop : tie.InvT-loop
+Inv-loop by-sample points n keys₀ i₀ keys i = (i ≤ n) × (length keys ≡ 256) × (take i keys ≡ map (keyBy by-sample) (take i (points .places)))
+
+abbrev μ-loop : tie.MeasureT-loop
+μ-loop by-sample points n keys₀ i₀ keys i = n - i
+
+used-requires : tie.Need-used-requires Inv-loop μ-loop
+used-requires c κs = tt
+
+loop-holds : tie.Need-loop-holds Inv-loop μ-loop
+loop-holds c = (omega arith, length-replicate {A = ℕ} 256 0, refl)
+
+mul-p : tie.Need-mul-p Inv-loop μ-loop
+mul-p c = omega arith
+
+element-copy-out-p : tie.Need-element-copy-out-p Inv-loop μ-loop
+element-copy-out-p c = omega arith
+
+key-requires : tie.Need-key-requires Inv-loop μ-loop
+key-requires c κs = tt
+
+mul-keys : tie.Need-mul-keys Inv-loop μ-loop
+mul-keys c = omega arith
+
+array-write-keys : tie.Need-array-write-keys Inv-loop μ-loop
+array-write-keys c = omega arith
+
+add-i : tie.Need-add-i Inv-loop μ-loop
+add-i c = omega arith
+
+loop-less : tie.Need-loop-less Inv-loop μ-loop
+loop-less c = omega arith
+
+loop-again : tie.Need-loop-again Inv-loop μ-loop
+loop-again c =
+    let len = places (c .before .before .before .before .before .args .t1) _ (c .before .before .before .before .before .good .0) in
+    (omega arith, simp length-set (c .before .before .before .loop .inv .1), keys-turn (keyBy (c .before .before .before .before .before .args .by-sample)) (c .before .before .before .before .before .args .t1 .places) (c .before .before .before .loop .keys) (c .before .before .before .loop .i) anyPoint (c .key .result) (omega arith) (omega arith) (c .before .before .before .loop .inv .2) (c .key .ensures))
+
+returns : tie.Need-returns Inv-loop μ-loop
+returns c =
+    let ps = c .before .before .before .args .t1 in
+    let at : c .before .loop .i ≡ min (ps .count) 256 = omega (arith, c .before .before .used .ensures) in
+    sym (take-min (ps .count) (c .before .loop .keys) 256 (c .before .loop .inv .1))
+    ∙ ap (λ (n : ℕ). take n (c .before .loop .keys)) (sym at)
+    ∙ c .before .loop .inv .2
+    ∙ ap (λ (n : ℕ). map (keyBy (c .before .before .before .args .by-sample)) (take n (ps .places))) at
+    ∙ ap (map (keyBy (c .before .before .before .args .by-sample))) (take-min (ps .count) (ps .places) 256 (places ps _ (c .before .before .before .good .0)))
+
+pub keys-spec : {M : Type 1} → statement M
+keys-spec =
+    tie.close
+    (tie.spec
+    Inv-loop
+    μ-loop
+    used-requires
+    loop-holds
+    mul-p
+    element-copy-out-p
+    key-requires
+    mul-keys
+    array-write-keys
+    add-i
+    loop-less
+    loop-again
+    returns)

@@ -1,0 +1,55 @@
+// The points' keys in an array of their own, and the search over it: an array of numbers can be lent, so a loop of lookups copies no points.
+ghost use mathlib.Core.Path.{_≡_};
+ghost use mathlib.Core.Bool.{true};
+ghost use mathlib.Core.List.{map};
+ghost use Prim.Native.Nat.{_≤_};
+ghost use lib.ListN.{length, take};
+ghost use Rattle.points.specs.Points.{listOf, risingBy};
+ghost use Rattle.points.specs.Search.{placeBy};
+ghost use Rattle.lookup.specs.Keys.{itself, keyBy};
+use points::AutomationPoint;
+use points::Points;
+
+// A point's key, by sample or by time.
+fn key(p: AutomationPoint, by_sample: bool) -> u64
+    ensures { λ r. ⌜ r ≡ keyBy «by_sample» p ⌝ }
+{
+    if by_sample {
+        crate::sample::sample_key(p)
+    } else {
+        numbers::order::order_key(p.time)
+    }
+}
+
+// The points' keys, in the first places.
+pub(crate) fn keys(points: Points, by_sample: bool) -> [u64; 256]
+    ensures { λ r. ⌜ take (points .count) r ≡ map (keyBy «by_sample») (listOf points) ⌝ }
+{
+    let n = points.used();
+    let mut keys: [u64; 256] = [0; 256];
+    let mut i: usize = 0;
+    while i < n {
+        let p = points.places[i];
+        keys[i] = key(p, by_sample);
+        i += 1;
+    }
+    keys
+}
+
+// How many of the first n keys are below a key, by a binary search.
+pub(crate) fn search(keys: &[u64; 256], n: usize, key: u64) -> usize
+    requires { ⌜ (n ≤ 256) × (n ≤ length (now keys)) × (risingBy itself (take n (now keys)) ≡ true) ⌝ }
+    ensures { λ r. ⌜ r ≡ placeBy itself key (take n (now (keys .entry))) ⌝ }
+{
+    let mut low: usize = 0;
+    let mut high: usize = n;
+    while low < high {
+        let mid = low + (high - low) / 2;
+        if keys[mid] < key {
+            low = mid + 1;
+        } else {
+            high = mid;
+        }
+    }
+    low
+}

@@ -1,0 +1,155 @@
+-- Runs of stores, and how long the texts are. Assumes nothing.
+use Prim.Native.Nat.{ℕ, zero, suc, _+_, _-_, _/_, _%_, _≤_, _<_}
+use mathlib.Core.Path.{_≡_, refl, sym, ap, _∙_}
+use mathlib.Core.Bool.{Bool, true, false}
+use mathlib.Core.List.{List, [], _∷_, _++_}
+use native.Mathlib.Nat.{add-zero}
+use native.Mathlib.Numerals.{add-one}
+use native.Mathlib.Omega.{arith}
+use borrow.Author.Tests.{eq-eqb, ne-eqb, eqb-true, eqb-false}
+use lib.Dec.{eqb}
+use lib.ListN.{length, set, drop, getD, length-append, drop-of-length-le}
+use lib.Seq.{sets, set-comm, drop-cons, length-sets}
+use Rattle.sheet.specs.Lines.{dashes}
+use Rattle.sheet.specs.Text.{digitByte, digitsOf, numberText, optionalText, controlsText}
+use Rattle.sheet.specs.Told.{Put}
+use Rattle.sheet.specs.declared.field.Optional.{Optional}
+use Rattle.sheet.specs.declared.field.Optional.the-variants as optional
+
+-- ---- one text after another
+
+-- one run after another
+sets-append : (l : List ℕ) (i : ℕ) (us vs : List ℕ) → sets l i (us ++ vs) ≡ sets (sets l i us) (i + length us) vs
+sets-append l i [] vs = ap (λ (k : ℕ). sets l k vs) (sym (add-zero i))
+sets-append l i (a ∷ us) vs =
+    let k : suc i + length us ≡ i + suc (length us) = omega arith in
+    sets-append (set l i a) (suc i) us vs ∙ ap (λ (n : ℕ). sets (sets (set l i a) (suc i) us) n vs) k
+
+-- a text of two parts has place for the first
+pub front : (at : ℕ) (l u v : List ℕ) → at + length (u ++ v) ≤ length l → at + length u ≤ length l
+front at l u v h = omega (arith, length-append u v)
+
+module _ {l u b : List ℕ} {at n : ℕ} (p : Put l at u b n) where
+  -- and for the second after it
+  pub back : (v : List ℕ) → at + length (u ++ v) ≤ length l → n + length v ≤ length b
+  back v h = rw (p .bytes) (omega (arith, p .next, length-append u v, length-sets l at u))
+
+  pub put-length : length b ≡ length l
+  put-length = ap length (p .bytes) ∙ length-sets l at u
+
+  pub put-then : {v c : List ℕ} {m : ℕ} → Put b n v c m → Put l at (u ++ v) c m
+  put-then {v} q = record {
+    next = omega (arith, p .next, q .next, length-append u v);
+    bytes = q .bytes ∙ rw (p .bytes, p .next) (sym (sets-append l at u v));
+  }
+
+-- ---- a number
+
+pub length-digits : (base w v : ℕ) → length (digitsOf base w v) ≡ w
+unfolding digitsOf
+length-digits base zero v = refl
+length-digits base (suc w) v = length-append (digitsOf base w (v / base)) (digitByte (v % base) ∷ []) ∙ omega (arith, length-digits base w (v / base))
+
+pub length-number : (base w e v : ℕ) → length (numberText base w e v) ≡ w + 1
+length-number base w e v = length-append (digitsOf base w v) (e ∷ []) ∙ ap (λ (n : ℕ). n + 1) (length-digits base w v)
+
+-- the last store first
+sets-snoc : (l : List ℕ) (i : ℕ) (vs : List ℕ) (c : ℕ) → sets l i (vs ++ (c ∷ [])) ≡ sets (set l (i + length vs) c) i vs
+sets-snoc l i [] c = ap (λ (k : ℕ). set l k c) (sym (add-zero i))
+sets-snoc l i (a ∷ vs) c =
+    let k : suc i + length vs ≡ i + suc (length vs) = omega arith in
+    sets-snoc (set l i a) (suc i) vs c
+    ∙ ap (λ (n : ℕ). sets (set (set l i a) n c) (suc i) vs) k
+    ∙ ap (λ (m : List ℕ). sets m (suc i) vs) (set-comm l i (i + suc (length vs)) a c (λ e. omega arith))
+
+-- a digit stored, and those before it left to store
+pub digit-stored : (l : List ℕ) (at base k left : ℕ) → 0 < k
+    → sets (set l (at + (k - 1)) (digitByte (left % base))) at (digitsOf base (k - 1) (left / base)) ≡ sets l at (digitsOf base k left)
+unfolding digitsOf
+digit-stored l at base zero left h = absurd (omega arith)
+digit-stored l at base (suc k) left h =
+    let e : suc k - 1 ≡ k = omega arith in
+    rw e (sym (sets-snoc l at (digitsOf base k (left / base)) (digitByte (left % base))
+    ∙ ap (λ (n : ℕ). sets (set l (at + n) (digitByte (left % base))) at (digitsOf base k (left / base))) (length-digits base k (left / base))))
+
+-- all digits stored, after the byte at their end
+pub number-stored : (l b : List ℕ) (at base w v e k left : ℕ) → k ≤ 0
+    → sets b at (digitsOf base k left) ≡ sets (set l (at + w) e) at (digitsOf base w v) → Put l at (numberText base w e v) b (at + w + 1)
+unfolding digitsOf
+number-stored l b at base w v e zero left z q = record {
+  next = omega (arith, length-number base w e v);
+  bytes = q ∙ ap (λ (n : ℕ). sets (set l (at + n) e) at (digitsOf base w v)) (sym (length-digits base w v)) ∙ sym (sets-snoc l at (digitsOf base w v) e);
+}
+number-stored l b at base w v e (suc k) left z q = absurd (omega arith)
+
+-- ---- an optional number, by its case
+
+module _ (w e : ℕ) {p : Optional} where
+  pub some-is : (v : ℕ) → p ≡ optional.Bits v → numberText 16 w e v ≡ optionalText w e p
+  unfolding optionalText
+  some-is v q = rw q
+
+  pub none-is : p ≡ optional.None → 45 ∷ e ∷ [] ≡ optionalText w e p
+  unfolding optionalText
+  none-is q = rw q
+
+  pub some-length : (v : ℕ) → p ≡ optional.Bits v → length (optionalText w e p) ≡ w + 1
+  some-length v q = ap length (sym (some-is v q)) ∙ length-number 16 w e v
+
+  pub none-length : p ≡ optional.None → length (optionalText w e p) ≡ 2
+  none-length q = ap length (sym (none-is q))
+
+-- the byte after it does not matter
+pub same-length : (w e f : ℕ) (p : Optional) → length (optionalText w e p) ≡ length (optionalText w f p)
+unfolding optionalText
+same-length w e f optional.None = refl
+same-length w e f (optional.Bits v) = length-number 16 w e v ∙ sym (length-number 16 w f v)
+
+pub length-le : (w e : ℕ) (p : Optional) → length (optionalText w e p) ≤ w + 2
+unfolding optionalText
+length-le w e optional.None = omega arith
+length-le w e (optional.Bits v) = omega (arith, length-number 16 w e v)
+
+-- ---- a text, from the front
+
+pub text-step : (l w : List ℕ) (at i : ℕ) → i < length w → sets l (at + i) (drop i w) ≡ sets (set l (at + i) (getD w i 0)) (at + (i + 1)) (drop (i + 1) w)
+text-step l w at i h =
+    let k : suc (at + i) ≡ at + (i + 1) = omega arith in
+    ap (λ (v : List ℕ). sets l (at + i) v) (drop-cons w i 0 h)
+    ∙ ap (λ (n : ℕ). sets (set l (at + i) (getD w i 0)) n (drop (suc i) w)) k
+    ∙ ap (λ (n : ℕ). sets (set l (at + i) (getD w i 0)) (at + (i + 1)) (drop n w)) (sym (add-one i))
+
+pub text-end : (l w : List ℕ) (at i : ℕ) → length w ≤ i → sets l (at + i) (drop i w) ≡ l
+text-end l w at i h = rw (drop-of-length-le w h)
+
+-- ---- the controls
+
+module _ (code a b : ℕ) where
+  pub controls-five : code ≡ 5 → numberText 16 8 32 a ++ numberText 16 8 10 b ≡ controlsText code a b
+  controls-five e = rw (eq-eqb code 5 e)
+
+  pub controls-other : (code ≡ 5 → ⊥) → dashes ≡ controlsText code a b
+  controls-other e = rw (ne-eqb code 5 e)
+
+  pub five-length : code ≡ 5 → length (controlsText code a b) ≡ 18
+  five-length e =
+      ap length (sym (controls-five e))
+      ∙ omega (arith, length-append (numberText 16 8 32 a) (numberText 16 8 10 b), length-number 16 8 32 a, length-number 16 8 10 b)
+
+  pub other-length : (code ≡ 5 → ⊥) → length (controlsText code a b) ≡ 4
+  other-length e = ap length (sym (controls-other e))
+
+pub controls-le : (code a b : ℕ) → length (controlsText code a b) ≤ 18
+controls-le code a b = go (eqb code 5) refl
+  where
+    go : (t : Bool) → eqb code 5 ≡ t → length (controlsText code a b) ≤ 18
+    go true e = omega (arith, five-length code a b (eqb-true code 5 e))
+    go false e = omega (arith, other-length code a b (eqb-false code 5 e))
+
+-- what they are does not matter
+pub controls-same : (code a b : ℕ) → length (controlsText code a b) ≡ length (controlsText code 0 0)
+controls-same code a b = go (eqb code 5) refl
+  where
+    go : (t : Bool) → eqb code 5 ≡ t → length (controlsText code a b) ≡ length (controlsText code 0 0)
+    go true e = five-length code a b (eqb-true code 5 e) ∙ sym (five-length code 0 0 (eqb-true code 5 e))
+    go false e = other-length code a b (eqb-false code 5 e) ∙ sym (other-length code 0 0 (eqb-false code 5 e))

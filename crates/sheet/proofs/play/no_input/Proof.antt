@@ -1,0 +1,20 @@
+use mathlib.Core.Path.{refl}
+use Rattle.sheet.specs.Told.{toldInput}
+use borrow.Author.Needs.{needs}
+use Rattle.sheet.proofs.play.no_input.Statement.{statement}
+use Rattle.sheet.proofs.play.no_input.Tie as tie
+use Rattle.sheet.proofs.play.no_input.Reads as reads
+use Rattle.sheet.proofs.play.no_input.Lts as lts
+use Rattle.envelope.proofs.AutomationEnvelope.new.Reads as new-reads
+
+-- src/play.rt:76:9
+new-requires : tie.Need-new-requires
+new-requires c κs = search needs
+
+-- src/play.rt:73:1
+returns : tie.Need-returns
+unfolding toldInput
+returns c = refl
+
+pub no-input-spec : {M : Type 1} → statement M
+no-input-spec = tie.close (tie.spec new-requires returns)

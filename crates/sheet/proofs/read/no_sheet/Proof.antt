@@ -1,0 +1,20 @@
+use mathlib.Core.Path.{refl}
+use Rattle.sheet.specs.Told.{toldSheetLines}
+use borrow.Author.Needs.{needs}
+use Rattle.sheet.proofs.read.no_sheet.Statement.{statement}
+use Rattle.sheet.proofs.read.no_sheet.Tie as tie
+use Rattle.sheet.proofs.read.no_sheet.Reads as reads
+use Rattle.sheet.proofs.read.no_sheet.Lts as lts
+use Rattle.envelope.proofs.AutomationEnvelope.new.Reads as new-reads
+
+-- src/read.rt:112:9
+new-requires : tie.Need-new-requires
+new-requires c κs = search needs
+
+-- src/read.rt:109:1
+returns : tie.Need-returns
+unfolding toldSheetLines
+returns c = λ s. refl
+
+pub no-sheet-spec : {M : Type 1} → statement M
+no-sheet-spec = tie.close (tie.spec new-requires returns)

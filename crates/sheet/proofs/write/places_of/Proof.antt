@@ -1,0 +1,36 @@
+use native.Mathlib.Omega.{arith}
+use Rattle.sheet.proofs.Texts.{Counting, counting, counted, counts}
+use Rattle.sheet.proofs.write.places_of.Statement.{statement}
+use Rattle.sheet.proofs.write.places_of.Tie as tie
+use Rattle.sheet.proofs.write.places_of.Reads as reads
+use Rattle.sheet.proofs.write.places_of.Lts as lts
+
+abbrev Inv-loop : tie.InvT-loop
+Inv-loop v left₀ places₀ left places = Counting v left places
+
+abbrev μ-loop : tie.MeasureT-loop
+μ-loop v left₀ places₀ left places = left
+
+-- src/write.rt:119:5
+loop-holds : tie.Need-loop-holds Inv-loop μ-loop
+loop-holds c = counting (c .args .v) (omega arith)
+
+-- src/write.rt:121:9
+add-places : tie.Need-add-places Inv-loop μ-loop
+add-places c = omega (arith, c .before .loop .inv .few)
+
+-- src/write.rt:119:5
+loop-less : tie.Need-loop-less Inv-loop μ-loop
+loop-less c = omega arith
+
+-- src/write.rt:119:5
+loop-again : tie.Need-loop-again Inv-loop μ-loop
+loop-again c = counts (c .before .loop .inv) (omega arith)
+
+-- src/write.rt:114:1
+returns : tie.Need-returns Inv-loop μ-loop
+returns c = counted (c .before .loop .inv) (omega arith)
+
+pub places-of-spec : {M : Type 1} → statement M
+places-of-spec =
+    tie.close (tie.spec Inv-loop μ-loop loop-holds add-places loop-less loop-again returns)

@@ -1,0 +1,123 @@
+-- 01's example of "The sheet", read and written, and refusals with their lines.
+use Prim.Native.Nat.{ℕ}
+use mathlib.Core.Path.{_≡_, refl}
+use mathlib.Core.Bool.{true}
+use Prim.Native.String.{String}
+use mathlib.Core.List.{List, [], _∷_, _++_, map}
+use lib.Ieee.{ofBits, toBits, binary32, binary64}
+use Rattle.numbers.specs.Bounds.{finite}
+use Rattle.numbers.specs.Order.{orderKey}
+use Rattle.curve.specs.Curve.{code, controls, curveOf}
+use Rattle.curve.specs.declared.CurveType.the-variants.{Linear}
+use Rattle.points.specs.Points.{holding, risingBy}
+use Rattle.points.specs.declared.AutomationPoint.{AutomationPoint}
+use Rattle.points.specs.declared.SamplePosition.the-variants as position
+use Rattle.lookup.specs.declared.Limit.the-variants as limit
+use Rattle.envelope.specs.declared.AutomationEnvelope.{AutomationEnvelope}
+use Rattle.sheet.specs.Form.{text, startsWith, nextIs, readDigits, numberForm, optionalForm, decimals, nextDigit, targetForm}
+use Rattle.sheet.specs.Lines.{settingsForm, limitOf, finiteBits, settingsMeaning, settingsLine, controlsForm, pointForm, positionOf, pointMeaning, pointLine, blockForm, blockMeaning, blockLine}
+use Rattle.sheet.specs.Sheet.{settingNames, pointNames, blockNames, isEmpty, pointsEnd, pointLines, sheetLines, Read, refusal, sheet, readSheet, Input, declined, input, playInput}
+use Rattle.sheet.specs.Text.{digitByte, digitsOf, optionalText, placesOf, settingsText, pointText, rawSettings, rawPoint, pointTexts, sheetText}
+
+-- ---- 01's example
+
+abbrev head : List ℕ
+head = settingNames ++ text "0 1 - - -\n" ++ pointNames
+
+abbrev first : List ℕ
+first = text "0000000000000000 - 00000000 00 - -\n"
+
+abbrev second : List ℕ
+second = text "4010000000000000 - 3F800000 00 - -\n"
+
+abbrev block : List ℕ
+block = blockNames ++ text "3FF0000000000000 4008000000000000\n"
+
+-- (0, 0) and (4, 1), Linear
+abbrev linear : ℕ → ℕ → AutomationPoint
+linear time value = record { time = ofBits binary64 time; «sample_position» = position.None; value = ofBits binary32 value; curve = Linear }
+
+abbrev envelope : AutomationEnvelope
+envelope = record {
+  target = 0;
+  points = holding (linear 0 0 ∷ linear 0x4010_0000_0000_0000 0x3F80_0000 ∷ []);
+  enabled = true;
+  «min_value» = limit.None;
+  «max_value» = limit.None;
+  «step_size» = limit.None;
+}
+
+pub example-read : readSheet (head ++ first ++ second) ≡ sheet envelope
+unfolding startsWith nextIs readDigits numberForm optionalForm decimals nextDigit targetForm settingsForm limitOf finiteBits settingsMeaning settingsLine controlsForm pointForm positionOf pointMeaning pointLine isEmpty pointsEnd pointLines sheetLines readSheet finite ofBits toBits orderKey risingBy curveOf
+example-read = refl
+
+-- a second at rate 1, for 3 seconds
+pub example-input : playInput (head ++ first ++ second ++ block) ≡ input envelope (record { rate = ofBits binary64 0x3FF0_0000_0000_0000; duration = ofBits binary64 0x4008_0000_0000_0000 })
+unfolding startsWith nextIs readDigits numberForm optionalForm decimals nextDigit targetForm settingsForm limitOf finiteBits settingsMeaning settingsLine controlsForm pointForm positionOf pointMeaning pointLine blockForm blockMeaning blockLine isEmpty pointsEnd pointLines sheetLines playInput finite ofBits toBits orderKey risingBy curveOf
+example-input = refl
+
+pub example-written : sheetText envelope ≡ head ++ first ++ second
+unfolding digitByte digitsOf optionalText placesOf settingsText pointText rawSettings rawPoint pointTexts sheetText ofBits toBits code controls
+example-written = refl
+
+-- ---- refusals, each with its number and its line
+
+abbrev settings : String → List ℕ
+settings line = settingNames ++ text line
+
+abbrev point : String → List ℕ
+point line = head ++ text line
+
+-- the times of the points on lines 4 and 5
+abbrev times : String → String → List ℕ
+times a b = head ++ text a ++ text " - 00000000 00 - -\n" ++ text b ++ text " - 00000000 00 - -\n"
+
+abbrev cases : List (List ℕ × Read)
+cases =
+    -- nothing, and names without their 0A
+    ([], refusal 9 1)
+    ∷ (text "target enabled min max step", refusal 9 1)
+    -- a leading zero, 2^32, enabled 2, an infinite minimum
+    ∷ (settings "00 1 - - -\n", refusal 9 2)
+    ∷ (settings "4294967296 1 - - -\n", refusal 9 2)
+    ∷ (settings "4294967295 2 - - -\n", refusal 9 2)
+    ∷ (settings "4294967295 1 FF800000 - -\n", refusal 3 2)
+    -- no names of the points
+    ∷ (settings "0 0 - - -\n", refusal 9 3)
+    -- a lower-case digit, two spaces, a line without its 0A
+    ∷ (point "0000000000000000 - 3f800000 00 - -\n", refusal 9 4)
+    ∷ (point "0000000000000000  - 3F800000 00 - -\n", refusal 9 4)
+    ∷ (point "0000000000000000 - 3F800000 00 - -", refusal 9 4)
+    -- curves: 06, 22, 06 with controls, 05 without
+    ∷ (point "0000000000000000 - 3F800000 06 - -\n", refusal 2 4)
+    ∷ (point "0000000000000000 - 3F800000 22 - -\n", refusal 2 4)
+    ∷ (point "0000000000000000 - 3F800000 06 00000000 00000000\n", refusal 9 4)
+    ∷ (point "0000000000000000 - 3F800000 05 - -\n", refusal 9 4)
+    -- an infinite time stands left of the curve, the curve left of the controls; the form comes first
+    ∷ (point "7FF0000000000000 - 3F800000 06 - -\n", refusal 3 4)
+    ∷ (point "0000000000000000 - 3F800000 05 00000000 7FC00000\n", refusal 3 4)
+    ∷ (point "7FF0000000000000 - 3F800000 00 - 0\n", refusal 9 4)
+    -- the same time again, and −0.0 after 0.0
+    ∷ (times "0000000000000000" "0000000000000000", refusal 6 5)
+    ∷ (times "0000000000000000" "8000000000000000", refusal 6 5)
+    -- an empty line at the end
+    ∷ (head ++ first ++ second ++ text "\n", refusal 9 6)
+    ∷ []
+
+pub cases-hold : map (λ c. readSheet (c .0)) cases ≡ map (λ c. c .1) cases
+unfolding startsWith nextIs readDigits numberForm optionalForm decimals nextDigit targetForm settingsForm limitOf finiteBits settingsMeaning settingsLine controlsForm pointForm positionOf pointMeaning pointLine isEmpty pointsEnd pointLines sheetLines readSheet finite ofBits toBits orderKey risingBy curveOf
+cases-hold = refl
+
+abbrev inputs : List (List ℕ × Input)
+inputs =
+    -- no block, a block whose names have a carriage return, no numbers, a rate that is no number, a line too many
+    (head ++ first ++ second, declined 9 6)
+    ∷ (head ++ first ++ second ++ text "rate duration\r\n", declined 9 6)
+    ∷ (head ++ first ++ second ++ blockNames, declined 9 7)
+    ∷ (head ++ first ++ second ++ blockNames ++ text "7FF8000000000000 4008000000000000\n", declined 3 7)
+    ∷ (head ++ first ++ second ++ block ++ text "\n", declined 9 8)
+    ∷ []
+
+pub inputs-hold : map (λ c. playInput (c .0)) inputs ≡ map (λ c. c .1) inputs
+unfolding startsWith nextIs readDigits numberForm optionalForm decimals nextDigit targetForm settingsForm limitOf finiteBits settingsMeaning settingsLine controlsForm pointForm positionOf pointMeaning pointLine blockForm blockMeaning blockLine isEmpty pointsEnd pointLines sheetLines playInput finite ofBits toBits orderKey risingBy curveOf
+inputs-hold = refl

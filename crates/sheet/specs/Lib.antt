@@ -1,0 +1,9 @@
+-- 01, "The sheet" and "What the player declines": what is read, what is refused, what is written.
+pub mod Form
+pub mod Lines
+pub mod Sheet
+pub mod Text
+-- What the code's answers say in these terms.
+pub mod Told
+-- 01's example.
+pub mod Examples

@@ -1,0 +1,127 @@
+-- 01, "The sheet": what the writer writes.
+use Prim.Native.Nat.{ℕ, zero, suc, _+_, _/_, _%_}
+use mathlib.Core.Bool.{cond}
+use mathlib.Core.List.{List, [], _∷_, _++_}
+use lib.ListN.{length, drop}
+use lib.Dec.{ltb, leb, eqb}
+use lib.Ieee.{binary32, binary64, toBits}
+use Rattle.curve.specs.Curve.{code, controls}
+use Rattle.points.specs.Refusal.{Said, refuses, gives}
+use Rattle.points.specs.Points.{listOf}
+use Rattle.points.specs.declared.AutomationPoint.{AutomationPoint}
+use Rattle.points.specs.declared.SamplePosition.{SamplePosition}
+use Rattle.points.specs.declared.SamplePosition.the-variants as position
+use Rattle.lookup.specs.declared.Limit.{Limit}
+use Rattle.lookup.specs.declared.Limit.the-variants as limit
+use Rattle.envelope.specs.Envelope.{validEnvelope}
+use Rattle.envelope.specs.declared.AutomationEnvelope.{AutomationEnvelope}
+use Rattle.sheet.specs.Form.{space, newline, dash}
+use Rattle.sheet.specs.Lines.{dashes}
+use Rattle.sheet.specs.Sheet.{settingNames, pointNames}
+use Rattle.sheet.specs.declared.field.Optional.{Optional}
+use Rattle.sheet.specs.declared.field.Optional.the-variants as optional
+use Rattle.sheet.specs.declared.settings.RawSettings.{RawSettings}
+use Rattle.sheet.specs.declared.point.RawPoint.{RawPoint}
+
+-- ---- fields
+
+-- the byte of a digit below 16
+unfoldable pub digitByte : ℕ → ℕ
+digitByte d = cond (ltb d 10) (d + 48) (d + 55)
+
+-- v in so many digits of the base
+unfoldable pub digitsOf : ℕ → ℕ → ℕ → List ℕ
+unfolding digitByte
+digitsOf base zero v = []
+digitsOf base (suc width) v = digitsOf base width (v / base) ++ (digitByte (v % base) ∷ [])
+
+-- the number, and the byte after it
+abbrev pub numberText : ℕ → ℕ → ℕ → ℕ → List ℕ
+numberText base width e v = digitsOf base width v ++ (e ∷ [])
+
+unfoldable pub optionalText : ℕ → ℕ → Optional → List ℕ
+unfolding digitsOf
+optionalText width e optional.None = dash ∷ e ∷ []
+optionalText width e (optional.Bits v) = numberText 16 width e v
+
+-- how many decimal digits the number v has, if at most `most`
+unfoldable pub placesOf : ℕ → ℕ → ℕ
+placesOf zero v = 0
+placesOf (suc most) v = cond (ltb v 10) 1 (suc (placesOf most (v / 10)))
+
+-- "decimal without leading zeros": as many digits as the number has. 2^32 − 1 has ten.
+abbrev pub decimalText : ℕ → ℕ → List ℕ
+decimalText e v = numberText 10 (placesOf 10 v) e v
+
+-- ---- lines
+
+unfoldable pub settingsText : RawSettings → List ℕ
+unfolding digitsOf placesOf optionalText
+settingsText r =
+    decimalText space (r .target) ++ (numberText 2 1 space (r .enabled)
+    ++ (optionalText 8 space (r .min) ++ (optionalText 8 space (r .max) ++ optionalText 8 newline (r .step))))
+
+abbrev pub controlsText : ℕ → ℕ → ℕ → List ℕ
+controlsText code cp1 cp2 = cond (eqb code 5) (numberText 16 8 space cp1 ++ numberText 16 8 newline cp2) dashes
+
+unfoldable pub pointText : RawPoint → List ℕ
+unfolding digitsOf optionalText
+pointText r =
+    numberText 16 16 space (r .time) ++ (optionalText 16 space (r .position)
+    ++ (numberText 16 8 space (r .value) ++ (numberText 10 2 space (r .curve) ++ controlsText (r .curve) (r .cp1) (r .cp2))))
+
+-- ---- "Numbers are bits"
+
+abbrev pub limitBits : Limit → Optional
+limitBits limit.None = optional.None
+limitBits (limit.Number x) = optional.Bits (toBits binary32 x)
+
+unfoldable pub rawSettings : AutomationEnvelope → RawSettings
+rawSettings e = record {
+  target = e .target;
+  enabled = cond (e .enabled) 1 0;
+  min = limitBits (e .«min_value»);
+  max = limitBits (e .«max_value»);
+  step = limitBits (e .«step_size»);
+}
+
+abbrev pub positionBits : SamplePosition → Optional
+positionBits position.None = optional.None
+positionBits (position.At n) = optional.Bits n
+
+unfoldable pub rawPoint : AutomationPoint → RawPoint
+rawPoint p = record {
+  time = toBits binary64 (p .time);
+  position = positionBits (p .«sample_position»);
+  value = toBits binary32 (p .value);
+  curve = code (p .curve);
+  cp1 = toBits binary32 (controls (p .curve) .cp1);
+  cp2 = toBits binary32 (controls (p .curve) .cp2);
+}
+
+-- ---- the whole sheet
+
+unfoldable pub pointTexts : List AutomationPoint → List ℕ
+unfolding rawPoint pointText
+pointTexts [] = []
+pointTexts (p ∷ ps) = pointText (rawPoint p) ++ pointTexts ps
+
+unfoldable pub sheetText : AutomationEnvelope → List ℕ
+unfolding settingsText rawSettings pointTexts
+sheetText e = settingNames ++ (settingsText (rawSettings e) ++ (pointNames ++ pointTexts (listOf (e .points))))
+
+-- ---- the writer: what it says, and the lent list after it
+
+pub record WriteTold : Type 0 where
+  pub said : Said ℕ
+  pub bytes : List ℕ
+
+-- 1, then 8: "the answer needs more places than the lent part has". Else the bytes stand from the start, and the places after them stay.
+unfoldable pub writeSheet : AutomationEnvelope → List ℕ → WriteTold
+unfolding sheetText
+writeSheet e out =
+    cond (validEnvelope e)
+    (cond (leb (length (sheetText e)) (length out))
+    (record { said = gives (length (sheetText e)); bytes = sheetText e ++ drop (length (sheetText e)) out })
+    (record { said = refuses 8; bytes = out }))
+    (record { said = refuses 1; bytes = out })

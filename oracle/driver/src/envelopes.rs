@@ -1,0 +1,467 @@
+//! Random envelopes, points, times and samples, with their edge cases: both zeros, spans that are
+//! subnormal or whose width overflows, neighbouring numbers, limits that cross, steps of each sign,
+//! keys that tie, and envelopes that are not valid.
+use crate::domain::key;
+use crate::edges::{bits, near, near_double, sign};
+use crate::random::Random;
+use crate::records::{controls, AutomationPoint, CurveType, Envelope};
+
+/// What an envelope's times have in common.
+#[derive(Clone, Copy)]
+enum Times {
+    Eighths,
+    Many,
+    Wild,
+    Zeros,
+    Tiny,
+    Huge,
+    /// Neighbours of a number.
+    Close(f64),
+}
+
+/// What an envelope's values have in common.
+#[derive(Clone, Copy)]
+enum Values {
+    Plain,
+    Wild,
+    Zeros,
+    Huge,
+    Alike(f32),
+}
+
+const AROUND_ZERO: [f64; 12] = [
+    -2.0,
+    -1.0,
+    -1e-300,
+    f64::from_bits(0x8000_0000_0000_0001),
+    -0.0,
+    0.0,
+    f64::from_bits(1),
+    f64::MIN_POSITIVE,
+    1e-300,
+    0.5,
+    1.0,
+    3.0,
+];
+
+const NOT_FINITE: [f64; 3] = [f64::NAN, f64::INFINITY, f64::NEG_INFINITY];
+
+impl Random {
+    fn times(&mut self, count: u64) -> Times {
+        if count > 100 {
+            return Times::Many;
+        }
+        match self.below(14) {
+            0..=6 => Times::Eighths,
+            7 | 8 => Times::Wild,
+            9 | 10 => Times::Zeros,
+            11 => Times::Tiny,
+            12 => Times::Huge,
+            _ => Times::Close(self.one_of(&[1.0, 0.5, -0.25, 1e-3, 300.0]) * (1.0 + self.unit())),
+        }
+    }
+
+    fn time_of(&mut self, times: Times) -> f64 {
+        match times {
+            Times::Eighths => (self.below(200) as f64 - 60.0) / 8.0,
+            Times::Many if self.once_in(2) => self.below(2000) as f64 / 8.0,
+            Times::Many => self.unit() * 50.0,
+            Times::Wild => self.double(),
+            Times::Zeros => self.one_of(&AROUND_ZERO),
+            Times::Tiny => f64::from_bits(bits(self, 53)) * sign(self),
+            Times::Huge => (1.0 - 0.6 * self.unit()) * f64::MAX * sign(self),
+            Times::Close(x) => near_double(self, x, 8),
+        }
+    }
+
+    fn values(&mut self) -> Values {
+        match self.below(12) {
+            0..=5 => Values::Plain,
+            6..=8 => Values::Wild,
+            9 => Values::Zeros,
+            10 => Values::Huge,
+            _ => Values::Alike(self.single()),
+        }
+    }
+
+    fn value_of(&mut self, values: Values) -> f32 {
+        match values {
+            Values::Plain => (self.unit() as f32 - 0.5) * 8.0,
+            Values::Wild => self.single(),
+            Values::Zeros => self.one_of(&[0.0, -0.0, 0.0, -0.0, 1.0, -1.0]),
+            Values::Huge => (1.0 - 0.6 * self.unit() as f32) * f32::MAX * sign(self) as f32,
+            Values::Alike(x) => x,
+        }
+    }
+
+    fn number_of_points(&mut self) -> u64 {
+        match self.below(400) {
+            0 | 1 => 256,
+            2 | 3 => 255,
+            4 | 5 => 120 + self.below(60),
+            6..=29 => 0,
+            30..=65 => 1,
+            66..=125 => 2,
+            _ => 2 + self.below(7),
+        }
+    }
+
+    pub fn envelope(&mut self) -> Envelope {
+        let target = self.one_of(&[0, 1, 2, 3, 4, 4_294_967_295]);
+        let mut e = Envelope::new(target);
+        e.enabled = !self.once_in(12);
+        let count = self.number_of_points();
+        let (times, values) = (self.times(count), self.values());
+        for _ in 0..4 * count {
+            if e.points.len() as u64 == count {
+                break;
+            }
+            let (time, value, curve) = (self.time_of(times), self.value_of(values), self.curve());
+            e.add_point(AutomationPoint {
+                time,
+                sample_position: None,
+                value,
+                curve,
+            });
+        }
+        self.positions(&mut e);
+        self.limits(&mut e);
+        e
+    }
+
+    // ---- positions
+
+    /// Positions for no point, for all, for some; with keys that mostly rise, or that tie; or times
+    /// that are not negative.
+    fn positions(&mut self, e: &mut Envelope) {
+        let which = self.below(10);
+        let mut position = self.below(100);
+        for p in &mut e.points {
+            match which {
+                0 | 1 => {}
+                2..=4 => p.time = p.time.abs() + 0.0,
+                // differences that are not exact in f32, or pass 2^63
+                5 => {
+                    let most = self.one_of(&[26, 40, 61, 63]);
+                    position = position.saturating_add(bits(self, most) + 1);
+                    p.sample_position = Some(position);
+                }
+                // close ones, and some that are the same
+                6 => {
+                    position += self.one_of(&[0, 1, 1, 1, 1, 2, 3]);
+                    p.sample_position = Some(position);
+                }
+                // about the key that the point has anyway
+                7 => {
+                    if self.once_in(2) {
+                        p.sample_position = Some(key(p).saturating_add(self.below(3)));
+                    }
+                }
+                _ => {
+                    position += 1 + self.below(5000);
+                    if which == 8 || self.once_in(2) {
+                        p.sample_position = Some(if self.once_in(60) { self.word() } else { position });
+                    }
+                }
+            }
+        }
+        sort(e);
+    }
+
+    // ---- limits
+
+    fn limits(&mut self, e: &mut Envelope) {
+        let value = |r: &mut Random| match e.points[..] {
+            [] => r.single(),
+            _ => r.one_of(&e.points).value,
+        };
+        let (min, max) = match self.below(12) {
+            0..=5 => (None, None),
+            6 | 7 => (self.optional(), self.optional()),
+            8 => (Some(self.one_of(&[0.0, -0.0])), Some(self.one_of(&[0.0, -0.0]))),
+            9 => (Some(self.one_of(&[0.0, -0.0])), None),
+            // they cross as often as not
+            10 => (Some(value(self)), Some(value(self))),
+            _ => (Some(1.0 + self.unit() as f32), Some(self.unit() as f32)),
+        };
+        let step = if self.once_in(3) {
+            let v = value(self);
+            Some(self.step(v))
+        } else {
+            None
+        };
+        (e.min_value, e.max_value, e.step_size) = (min, max, step);
+    }
+
+    /// A step: above 0, at it, below it; also one that has v halfway between two of its steps.
+    fn step(&mut self, v: f32) -> f32 {
+        let half = (self.below(20) as f32 + 0.5) * if self.once_in(3) { 1.0 / 3.0 } else { 1.0 };
+        let x = match self.below(9) {
+            0 | 1 => self.one_of(&[0.1, 0.25, 0.625, 1.0, 3.0]),
+            2 => self.one_of(&[0.0, -0.0, -1.0, -0.25]),
+            3 => f32::from_bits(1 + self.below(16) as u32),
+            4 => (v / half).abs(),
+            5 => {
+                let x = (v / half).abs();
+                near(self, x, 1)
+            }
+            6 => self.single(),
+            7 => self.unit() as f32 * f32::MAX,
+            _ => self.unit() as f32,
+        };
+        if x.is_finite() {
+            x
+        } else {
+            1.0
+        }
+    }
+
+    // ---- envelopes that are not valid
+
+    /// An envelope that is not valid: a number that is not finite, times that fall or are the same,
+    /// or more than 256 points.
+    pub fn spoiled(&mut self, mut e: Envelope) -> Envelope {
+        let number = self.one_of(&NOT_FINITE);
+        let n = e.points.len() as u64;
+        let i = if n == 0 { 0 } else { self.below(n) as usize };
+        match self.below(11) {
+            0 => e.min_value = Some(number as f32),
+            1 => e.max_value = Some(number as f32),
+            2 if self.once_in(4) => {
+                let (most, curve) = (257 + self.one_of(&[0, 0, 0, 1, 40]), self.curve());
+                e.points = (0..most)
+                    .map(|k| AutomationPoint::with_curve(k as f64, 1.0, curve))
+                    .collect();
+            }
+            3 if n > 0 => e.points[i].time = number,
+            4 if n > 0 => e.points[i].value = number as f32,
+            5 if n > 0 => e.points[i].curve = CurveType::Bezier(number as f32, self.single()),
+            6 if n > 0 => e.points[i].curve = CurveType::Bezier(self.single(), number as f32),
+            7 if i > 0 => e.points.swap(i - 1, i),
+            8 if i > 0 => e.points[i].time = e.points[i - 1].time,
+            9 if i > 0 => (e.points[i - 1].time, e.points[i].time) = (0.0, -0.0),
+            _ => e.step_size = Some(number as f32),
+        }
+        e
+    }
+
+    // ---- a second envelope, and points
+
+    /// A second envelope: for an equality often the first with one thing changed, else sometimes
+    /// with times of the first.
+    pub fn second(&mut self, op: &str, first: &Envelope) -> Envelope {
+        if op.starts_with("eq") && !self.once_in(4) {
+            return self.altered(first);
+        }
+        let mut e = self.envelope();
+        if self.once_in(3) && !first.points.is_empty() {
+            for p in &mut e.points {
+                if self.once_in(2) {
+                    p.time = self.one_of(&first.points).time;
+                }
+            }
+            sort(&mut e);
+        }
+        e
+    }
+
+    /// The envelope with at most one thing changed, often by very little.
+    fn altered(&mut self, first: &Envelope) -> Envelope {
+        let mut e = first.clone();
+        let n = e.points.len() as u64;
+        let i = if n == 0 { 0 } else { self.below(n) as usize };
+        let other = self.single();
+        let limit = |x: Option<f32>| x.map_or(Some(other), |v| if v == 0.0 { Some(-v) } else { None });
+        match self.below(16) {
+            0 => e.target = e.target.wrapping_add(1),
+            1 => e.enabled = !e.enabled,
+            2 => e.min_value = limit(e.min_value),
+            3 => e.max_value = limit(e.max_value),
+            4 => e.step_size = limit(e.step_size),
+            5 => drop(e.points.pop()),
+            6..=14 if n > 0 => {
+                let p = self.like(&first.points[i]);
+                match self.below(4) {
+                    0 => e.points[i].time = p.time,
+                    1 => e.points[i].value = p.value,
+                    2 => e.points[i].curve = p.curve,
+                    _ => e.points[i].sample_position = Some(4),
+                }
+                sort(&mut e);
+            }
+            _ => {}
+        }
+        e
+    }
+
+    /// A point much like another: the differences lie around those that the equalities allow.
+    fn like(&mut self, q: &AutomationPoint) -> AutomationPoint {
+        let mut p = q.clone();
+        let apart = self.one_of(&[0.0, 1e-16, f64::EPSILON, 3e-16]);
+        let time = near_double(self, apart, 1) * sign(self);
+        p.time = q.time + time;
+        let apart = self.one_of(&[0.0, 1e-7, f32::EPSILON, 2e-7]);
+        let value = near(self, apart, 1) * sign(self) as f32;
+        p.value = q.value + value;
+        if self.once_in(2) {
+            p.curve = self.curve();
+        } else if let Some((a, b)) = controls(&q.curve) {
+            let other = self.single();
+            p.curve = self.one_of(&[
+                q.curve,
+                CurveType::Bezier(-a, b),
+                CurveType::Bezier(a, other),
+                CurveType::Bezier(other, b),
+            ]);
+        }
+        if !p.time.is_finite() || !p.value.is_finite() {
+            return q.clone();
+        }
+        p
+    }
+
+    fn any_point(&mut self) -> AutomationPoint {
+        let time = if self.once_in(2) {
+            self.unit() - 0.5
+        } else {
+            self.double()
+        };
+        let sample_position = if self.once_in(3) { Some(self.word()) } else { None };
+        let value = if self.once_in(2) {
+            self.unit() as f32 - 0.5
+        } else {
+            self.single()
+        };
+        let mut curve = self.curve();
+        if self.once_in(4) {
+            curve = CurveType::Bezier(self.one_of(&[0.0, -0.0, 1.0]), self.single());
+        }
+        AutomationPoint {
+            time,
+            sample_position,
+            value,
+            curve,
+        }
+    }
+
+    /// A point: `near` gives its time, `before` is the one that it is compared with.
+    pub fn point(
+        &mut self,
+        near: Option<&AutomationPoint>,
+        before: Option<&AutomationPoint>,
+    ) -> AutomationPoint {
+        let mut p = match before {
+            Some(q) if !self.once_in(4) => self.like(q),
+            _ => self.any_point(),
+        };
+        if let Some(n) = near {
+            p.time = n.time;
+        }
+        if self.once_in(24) {
+            let number = self.one_of(&NOT_FINITE);
+            match self.below(4) {
+                0 => p.time = number,
+                1 => p.value = number as f32,
+                2 => p.curve = CurveType::Bezier(number as f32, 1.0),
+                _ => p.curve = CurveType::Bezier(1.0, number as f32),
+            }
+        }
+        p
+    }
+
+    // ---- times and samples of lookups
+
+    /// Two neighbouring points.
+    fn neighbours(&mut self, e: &Envelope) -> Option<[AutomationPoint; 2]> {
+        let pairs = (e.points.len() as u64).checked_sub(1).filter(|n| *n > 0)?;
+        let i = self.below(pairs) as usize;
+        Some([e.points[i].clone(), e.points[i + 1].clone()])
+    }
+
+    /// A time of a lookup, which is free: mostly at a point, beside one or between two.
+    pub fn lookup_time(&mut self, e: &Envelope) -> f64 {
+        if self.once_in(if e.points.len() == 1 { 4 } else { 20 }) {
+            return self.one_of(&NOT_FINITE);
+        }
+        let Some([p, q]) = self.neighbours(e) else {
+            return self.double();
+        };
+        match self.below(10) {
+            0 => p.time,
+            1 => q.time,
+            2 => near_double(self, p.time, 2),
+            3 => near_double(self, q.time, 2),
+            4 => p.time / 2.0 + q.time / 2.0,
+            5..=7 => {
+                let u = self.unit();
+                p.time * (1.0 - u) + q.time * u
+            }
+            8 => -p.time,
+            _ => self.double(),
+        }
+    }
+
+    /// A sample of a lookup: mostly at a key, beside one or between two.
+    pub fn lookup_sample(&mut self, e: &Envelope) -> u64 {
+        let Some([p, q]) = self.neighbours(e) else {
+            return self.word();
+        };
+        let (a, b) = (key(&p), key(&q));
+        match self.below(10) {
+            0 | 1 => a.saturating_add(self.below(3)).saturating_sub(1),
+            2 | 3 => b.saturating_add(self.below(3)).saturating_sub(1),
+            4..=7 if a < b => a + self.below(b - a),
+            8 if key(&e.points[0]) > 0 => self.below(key(&e.points[0])),
+            _ => self.word(),
+        }
+    }
+
+    // ---- rates and durations
+
+    /// A rate of samples.
+    pub fn rate(&mut self) -> f64 {
+        match self.below(12) {
+            0..=4 => self.one_of(&[1.0, 2.0, 4.0, 8.0, 0.1, 3.0, 7.0, 30.0, 44100.0, 48000.0]),
+            5..=7 => self.unit() * 20.0,
+            8 => -self.one_of(&[1.0, 8.0, 3.0, 48000.0]),
+            9 => self.one_of(&[0.0, -0.0, 1e-300, f64::from_bits(1), 1e300, f64::MAX]),
+            _ => self.double(),
+        }
+    }
+
+    /// A duration: mostly of some tens of samples at the rate.
+    pub fn duration(&mut self, rate: f64) -> f64 {
+        let samples = self.below(60) as f64 + self.one_of(&[0.0, 0.0, 0.5, -1.0]);
+        let x = match self.below(12) {
+            0 => self.double(),
+            1 => self.one_of(&[1e10, 4_294_967_296.0, 4_294_967_295.0]) / rate,
+            2 => near_double(self, samples / rate, 1),
+            _ => samples / rate,
+        };
+        if x.is_finite() {
+            x
+        } else {
+            1.0
+        }
+    }
+
+    /// The first sample of a run: often one whose time is about a point's.
+    pub fn first_sample(&mut self, e: &Envelope, rate: f64, most: u64) -> u64 {
+        let Some([p, q]) = self.neighbours(e) else {
+            return self.one_of(&[0, 1, 2, 7, 1000, most - 3, most]);
+        };
+        let about = |t: f64, back: u64| ((t * rate) as u64).min(most).saturating_sub(back);
+        match self.below(8) {
+            0 => self.one_of(&[0, 1, 2, 7, 1000, most - 14, most - 3, most, most + 1]),
+            1..=3 => about(p.time, self.below(4)),
+            4 | 5 => about(q.time, self.below(12)),
+            _ => self.below(40),
+        }
+    }
+}
+
+/// In order of time, without times that are bit for bit the same.
+fn sort(e: &mut Envelope) {
+    e.points.sort_by(|a, b| a.time.total_cmp(&b.time));
+    e.points.dedup_by_key(|p| p.time.to_bits());
+}
