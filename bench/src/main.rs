@@ -22,6 +22,14 @@ fn figures() -> Vec<Figure> {
         calls!("round", rattle_round, rust_round, f64 => f64, inputs::scaled(1e3)),
         calls!("roundf", rattle_roundf, rust_roundf, f32 => f32, inputs::singles(inputs::scaled(1e3))),
         calls!("sqrtf, fractions", rattle_sqrtf, rust_sqrtf, f32 => f32, inputs::singles(inputs::fractions())),
+        calls!("Linear", rattle_linear, rust_linear, f32 => f32, inputs::singles(inputs::fractions())),
+        calls!("CubicInOut", rattle_cubic_in_out, rust_cubic_in_out, f32 => f32, inputs::singles(inputs::fractions())),
+        calls!("QuintInOut", rattle_quint_in_out, rust_quint_in_out, f32 => f32, inputs::singles(inputs::fractions())),
+        calls!("Bounce", rattle_bounce, rust_bounce, f32 => f32, inputs::singles(inputs::fractions())),
+        calls!("Back", rattle_back, rust_back, f32 => f32, inputs::singles(inputs::fractions())),
+        calls!("Bezier", rattle_bezier, rust_bezier, f32 => f32, inputs::singles(inputs::fractions())),
+        calls!("Logarithmic", rattle_logarithmic, rust_logarithmic, f32 => f32, inputs::singles(inputs::fractions())),
+        calls!("Circular", rattle_circular, rust_circular, f32 => f32, inputs::singles(inputs::fractions())),
     ]
 }
 
