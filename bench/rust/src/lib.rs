@@ -1,6 +1,7 @@
 //! The Rust's counterparts of crates/bench_exports, under the same signatures. A crate of their own,
 //! and `inline(never)`, so that the measuring loop calls them just as it calls the others.
 use source::curve::CurveType;
+use std::hint::black_box;
 
 #[no_mangle]
 #[inline(never)]
@@ -44,50 +45,52 @@ pub extern "C" fn rust_sqrtf(x: f32) -> f32 {
     libm::sqrtf(x)
 }
 
+// The curve passes through `black_box`: a point's curve is known only when the move is played, and
+// the other side doesn't fold it either.
 #[no_mangle]
 #[inline(never)]
 pub extern "C" fn rust_linear(t: f32) -> f32 {
-    CurveType::Linear.interpolate(0.25, 0.75, t)
+    black_box(CurveType::Linear).interpolate(0.25, 0.75, t)
 }
 
 #[no_mangle]
 #[inline(never)]
 pub extern "C" fn rust_cubic_in_out(t: f32) -> f32 {
-    CurveType::CubicInOut.interpolate(0.25, 0.75, t)
+    black_box(CurveType::CubicInOut).interpolate(0.25, 0.75, t)
 }
 
 #[no_mangle]
 #[inline(never)]
 pub extern "C" fn rust_quint_in_out(t: f32) -> f32 {
-    CurveType::QuintInOut.interpolate(0.25, 0.75, t)
+    black_box(CurveType::QuintInOut).interpolate(0.25, 0.75, t)
 }
 
 #[no_mangle]
 #[inline(never)]
 pub extern "C" fn rust_bounce(t: f32) -> f32 {
-    CurveType::Bounce.interpolate(0.25, 0.75, t)
+    black_box(CurveType::Bounce).interpolate(0.25, 0.75, t)
 }
 
 #[no_mangle]
 #[inline(never)]
 pub extern "C" fn rust_back(t: f32) -> f32 {
-    CurveType::Back.interpolate(0.25, 0.75, t)
+    black_box(CurveType::Back).interpolate(0.25, 0.75, t)
 }
 
 #[no_mangle]
 #[inline(never)]
 pub extern "C" fn rust_logarithmic(t: f32) -> f32 {
-    CurveType::Logarithmic.interpolate(0.25, 0.75, t)
+    black_box(CurveType::Logarithmic).interpolate(0.25, 0.75, t)
 }
 
 #[no_mangle]
 #[inline(never)]
 pub extern "C" fn rust_circular(t: f32) -> f32 {
-    CurveType::Circular.interpolate(0.25, 0.75, t)
+    black_box(CurveType::Circular).interpolate(0.25, 0.75, t)
 }
 
 #[no_mangle]
 #[inline(never)]
 pub extern "C" fn rust_bezier(t: f32) -> f32 {
-    CurveType::Bezier(0.5, 1.0).interpolate(0.25, 0.75, t)
+    black_box(CurveType::Bezier(0.5, 1.0)).interpolate(0.25, 0.75, t)
 }
