@@ -16,3 +16,4 @@ pub mod LineForms
 pub mod Meanings
 pub mod Sheets
 pub mod RoundTrip
+pub mod Prefix

@@ -16,20 +16,20 @@ use Rattle.sheet.proofs.Back.{byte-digit, read-digits, write-digits}
 
 -- ---- digits of a fixed width, and as far as they go
 
+-- another digit makes at least ten times as much
+pub grows : (v d p : ℕ) → v * (p * 10) ≤ (v * 10 + d) * p
+grows v d p =
+    let left : v * (p * 10) ≡ v * 10 * p = ap (λ (k : ℕ). v * k) (mul-comm p 10) ∙ sym (mul-assoc v 10 p) in
+    let right : (v * 10 + d) * p ≡ v * 10 * p + d * p = add-mul (v * 10) d p in
+    omega arith
+
 -- the number does not fall
 digits-ge : (w v : ℕ) (l : List ℕ) (u : ℕ) (m : List ℕ) → readDigits 10 w v l ≡ got u m → v * 10 ^ w ≤ u
 unfolding readDigits
 digits-ge zero v l u m e = let k : v ≡ u = cc in rw (pow-zero, mul-one) (omega arith)
 digits-ge (suc w) v [] u m e = no-bad e
 digits-ge (suc w) v (b ∷ l) u m e =
-    uncond (ltb (digit b) 10) e
-    (λ t q.
-    let p = 10 ^ w in
-    let up : 10 ^ suc w ≡ p * 10 = pow-suc 10 w in
-    let left : v * (p * 10) ≡ v * 10 * p = ap (λ (k : ℕ). v * k) (mul-comm p 10) ∙ sym (mul-assoc v 10 p) in
-    let right : (v * 10 + digit b) * p ≡ v * 10 * p + digit b * p = add-mul (v * 10) (digit b) p in
-    let more = digits-ge w (v * 10 + digit b) l u m q in
-    rw up (omega arith))
+    uncond (ltb (digit b) 10) e (λ t q. let up : 10 ^ suc w ≡ 10 ^ w * 10 = pow-suc 10 w in rw up (omega (arith, grows v (digit b) (10 ^ w), digits-ge w (v * 10 + digit b) l u m q)))
 
 digits-le : (w v : ℕ) (l : List ℕ) (u : ℕ) (m : List ℕ) → readDigits 10 w v l ≡ got u m → v ≤ u
 unfolding readDigits
