@@ -1,7 +1,7 @@
 // The Player: lookup by time and by sample, and rendering into a lent buffer.
 ghost use mathlib.Core.Path.{_≡_};
 ghost use Rattle.points.specs.Refusal.{said};
-ghost use Rattle.lookup.specs.Render.{render, toBuffer};
+ghost use Rattle.render.specs.Render.{render, toBuffer};
 ghost use Rattle.lookup.specs.Lookup.{getValueAt, getValueAtSample, told};
 ghost use Rattle.envelope.specs.Envelope.{limitsOf};
 use crate::AutomationEnvelope;
@@ -29,7 +29,7 @@ impl AutomationEnvelope {
         ensures { λ _. ⌜ now (out .exit) ≡ render (self .points) (self .enabled) (limitsOf self) rate first count place (now (out .entry)) .buffer ⌝ }
     {
         let points = self.points;
-        lookup::render::render(
+        render::render(
             points,
             self.enabled,
             self.limits(),
@@ -47,7 +47,7 @@ impl AutomationEnvelope {
         ensures { λ _. ⌜ now (out .exit) ≡ toBuffer (self .points) (self .enabled) (limitsOf self) rate duration place (now (out .entry)) .buffer ⌝ }
     {
         let points = self.points;
-        lookup::render::to_buffer(
+        render::to_buffer(
             points,
             self.enabled,
             self.limits(),

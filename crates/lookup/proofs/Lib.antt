@@ -1,9 +1,1 @@
 pub mod Good
-pub mod Fits
-pub mod Keys
-pub mod TimeOrder
-pub mod Segments
-pub mod Writing
-pub mod PlaceKeys
-pub mod Ranges
-pub mod Middles

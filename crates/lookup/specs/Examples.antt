@@ -1,11 +1,11 @@
--- 01's "Proved examples", the part that is the lookups' and the ranges': P1, P2, P7 to P10 and P12. Every point is Linear and has no position; every envelope is enabled.
+-- 01's "Proved examples", the part that is the lookups': P1, P2 and P7 to P10. Every point is Linear and has no position; every envelope is enabled.
 use Prim.Native.Nat.{ℕ}
 use mathlib.Core.Path.{_≡_, refl}
 use mathlib.Core.Bool.{true}
 use mathlib.Core.List.{List, [], _∷_}
 use mathlib.Core.Option.{Option, none, some}
 use lib.Ieee.{Float, binary32, binary64, ofBits, toBits, toUnsigned, round, add, sub, mul, div, lt, le, isNan}
-use Rattle.numbers.specs.Bounds.{finite, minNum, maxNum}
+use Rattle.numbers.specs.Bounds.{finite, minNum}
 use Rattle.numbers.specs.Narrow.{narrow}
 use Rattle.numbers.specs.Order.{orderKey}
 use Rattle.numbers.specs.Whole.{roundAway}
@@ -18,8 +18,6 @@ use Rattle.points.specs.declared.SamplePosition.the-variants as position
 use Rattle.lookup.specs.Limits.{constrained}
 use Rattle.lookup.specs.Lookup.{surrounded, fraction, rawAt, rawAtSample, getValueAt, getValueAtSample}
 use Rattle.points.specs.Search.{placeBy}
-use Rattle.lookup.specs.Render.{run}
-use Rattle.lookup.specs.Analysis.{heardOf, rangeOf, rawInside, getRange}
 use Rattle.lookup.specs.declared.Limit.{Limit}
 use Rattle.lookup.specs.declared.Limit.the-variants as limit
 use Rattle.lookup.specs.declared.Limits.{Limits}
@@ -68,7 +66,7 @@ t10 = f64 0x4024_0000_0000_0000
 abbrev t20 : Float
 t20 = f64 0x4034_0000_0000_0000
 
--- 0.0, -0.0, 1.0, 2.0
+-- 0.0, -0.0, 1.0
 abbrev zero : Float
 zero = f32 0x0000_0000
 
@@ -77,9 +75,6 @@ minusZero = f32 0x8000_0000
 
 abbrev one : Float
 one = f32 0x3F80_0000
-
-abbrev two : Float
-two = f32 0x4000_0000
 
 -- "P1 empty: silent."
 pub p1 : byTime [] free t1 ≡ gives none
@@ -118,8 +113,3 @@ p10-silent = refl
 pub p10-first : bySample (at t10 one ∷ at t20 zero ∷ []) 0 ≡ gives (some one)
 unfolding getValueAtSample validPoints every risingBy rawAtSample constrained finite finiteControls controls code orderKey ofBits toBits toUnsigned mul round
 p10-first = refl
-
--- "P12 value 2, maximum 1, time 0, range 0 to 1: (1, 2)."
-pub p12 : getRange (holding (at t0 two ∷ [])) true (limits (limit.Number one) limit.None) t0 t1 ≡ gives (some (one, two))
-unfolding getRange rangeOf heardOf rawInside run validPoints every risingBy rawAt constrained finite finiteControls controls code ofBits minNum maxNum isNan lt le
-p12 = refl

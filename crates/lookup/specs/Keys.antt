@@ -1,15 +1,19 @@
--- The points' keys in an array of their own, as the functions that search it cite them.
-use Prim.Native.Nat.{ℕ}
+-- The points' keys in an array of their own, and where a search over it ends, as the functions that search it cite them.
+use Prim.Native.Nat.{ℕ, _-_, _≤_, _<_}
 use mathlib.Core.Bool.{Bool, true, false}
+use mathlib.Core.List.{List}
+use lib.ListN.{getD}
 use Rattle.points.specs.Points.{timeKey}
 use Rattle.points.specs.declared.AutomationPoint.{AutomationPoint}
 use Rattle.lookup.specs.Lookup.{sampleKey}
-
--- the key of a number in a list of keys
-abbrev pub itself : ℕ → ℕ
-itself k = k
 
 -- a point's key, by sample or by time
 abbrev pub keyBy : Bool → AutomationPoint → ℕ
 keyBy true = sampleKey
 keyBy false = timeKey
+
+-- where a search for k among the first n keys ends: the key before it is below k, and the one at it is not. Of keys that rise there is one such place (KeyLaws, `keys-place`)
+pub record EndsAt (keys : List ℕ) (n k r : ℕ) : Type 0 where
+  pub most : r ≤ n
+  pub before : 0 < r → getD keys (r - 1) 0 < k
+  pub from : r < n → k ≤ getD keys r 0

@@ -1,4 +1,4 @@
--- Laws of `run`, the values of a function from a number on. Assumes nothing.
+-- The values of a function from a number on, and their laws. Assumes nothing.
 use Prim.Native.Nat.{ℕ, zero, suc, _+_, _-_, _≤_, _<_, suc-le-suc, zero-le}
 use mathlib.Core.Path.{_≡_, refl, sym, ap, ap₂, _∙_}
 use mathlib.Core.List.{List, [], _∷_, _++_, append-assoc, append-nil}
@@ -7,7 +7,11 @@ use native.Mathlib.Nat.{add-suc, suc-add, add-zero, zero-add}
 use native.Mathlib.Omega.{arith}
 use lib.ListN.{length, take, drop, set, replicate, length-append, length-drop, drop-of-length-le}
 use lib.Seq.{drop-length, take-all, length-take-le, drop-cons, drop-drop, drop-at, take-at, set-at, append-snoc}
-use Rattle.lookup.specs.Render.{run}
+
+-- n values of f, from the first on
+unfoldable pub run : {A : Type 0} → (ℕ → A) → ℕ → ℕ → List A
+run f first zero = []
+run f first (suc n) = f first ∷ run f (suc first) n
 
 module _ {A : Type 0} (f : ℕ → A) where
   pub run-long : (a n : ℕ) → length (run f a n) ≡ n

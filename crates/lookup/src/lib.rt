@@ -1,13 +1,11 @@
-// Lookup by time and by sample, and rendering, over an envelope's points, switch and limits. Source: envelope.rs (000).
+// Lookup by time and by sample, over an envelope's points, switch and limits. Source: envelope.rs (000).
 ghost use mathlib.Core.Path.{_≡_};
 ghost use Rattle.lookup.specs.Limits.{finiteLimit, finiteLimits, valid, atLeast, atMost, toStep, constrained};
 ghost use Rattle.lookup.specs.Lookup.{constrainedAnswer};
 use points::Points;
 use points::refusal::Refusal;
 
-pub mod analysis;
-mod place;
-pub mod render;
+pub mod place;
 pub mod sample;
 pub mod time;
 
@@ -97,7 +95,7 @@ impl Limits {
 
 impl Lookup {
     // The answer with the constraints applied to its value.
-    fn constrain(self, limits: Limits) -> Lookup
+    pub fn constrain(self, limits: Limits) -> Lookup
         ensures { λ r. ⌜ r ≡ constrainedAnswer limits self ⌝ }
     {
         match self {

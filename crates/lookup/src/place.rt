@@ -1,12 +1,10 @@
 // The points' keys in an array of their own, and the search over it: an array of numbers can be lent, so a loop of lookups copies no points.
 ghost use mathlib.Core.Path.{_≡_};
-ghost use mathlib.Core.Bool.{true};
 ghost use mathlib.Core.List.{map};
-ghost use Prim.Native.Nat.{_≤_};
-ghost use lib.ListN.{length, take};
-ghost use Rattle.points.specs.Points.{listOf, risingBy};
-ghost use Rattle.points.specs.Search.{placeBy};
-ghost use Rattle.lookup.specs.Keys.{itself, keyBy};
+ghost use Prim.Native.Nat.{min};
+ghost use lib.ListN.{take};
+ghost use Rattle.points.specs.Points.{listOf};
+ghost use Rattle.lookup.specs.Keys.{keyBy, EndsAt};
 use points::AutomationPoint;
 use points::Points;
 
@@ -22,7 +20,7 @@ fn key(p: AutomationPoint, by_sample: bool) -> u64
 }
 
 // The points' keys, in the first places.
-pub(crate) fn keys(points: Points, by_sample: bool) -> [u64; 256]
+pub fn keys(points: Points, by_sample: bool) -> [u64; 256]
     ensures { λ r. ⌜ take (points .count) r ≡ map (keyBy «by_sample») (listOf points) ⌝ }
 {
     let n = points.used();
@@ -36,13 +34,19 @@ pub(crate) fn keys(points: Points, by_sample: bool) -> [u64; 256]
     keys
 }
 
-// How many of the first n keys are below a key, by a binary search.
-pub(crate) fn search(keys: &[u64; 256], n: usize, key: u64) -> usize
-    requires { ⌜ (n ≤ 256) × (n ≤ length (now keys)) × (risingBy itself (take n (now keys)) ≡ true) ⌝ }
-    ensures { λ r. ⌜ r ≡ placeBy itself key (take n (now (keys .entry))) ⌝ }
+// A count of places that the array has.
+fn places(n: usize) -> usize
+    ensures { λ r. ⌜ r ≡ min n 256 ⌝ }
+{
+    if n < 256 { n } else { 256 }
+}
+
+// Where a binary search for a key ends among the first n keys.
+pub fn search(keys: &[u64; 256], n: usize, key: u64) -> usize
+    ensures { λ r. ⌜ EndsAt (now (keys .entry)) (min n 256) key r ⌝ }
 {
     let mut low: usize = 0;
-    let mut high: usize = n;
+    let mut high: usize = places(n);
     while low < high {
         let mid = low + (high - low) / 2;
         if keys[mid] < key {

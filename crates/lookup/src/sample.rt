@@ -23,7 +23,7 @@ fn key_from(position: SamplePosition, other: u64) -> u64
 }
 
 // A point's key: its position, or its time at 48 kHz.
-pub(crate) fn sample_key(p: AutomationPoint) -> u64
+pub fn sample_key(p: AutomationPoint) -> u64
     ensures { λ r. ⌜ r ≡ sampleKey p ⌝ }
 {
     let position = p.sample_position;
@@ -31,7 +31,7 @@ pub(crate) fn sample_key(p: AutomationPoint) -> u64
 }
 
 // What the start test takes for the first point's key: 0 where it has no position.
-pub(crate) fn start_key(p: AutomationPoint) -> u64
+pub fn start_key(p: AutomationPoint) -> u64
     ensures { λ r. ⌜ r ≡ keyFrom (p .«sample_position») 0 ⌝ }
 {
     let position = p.sample_position;
@@ -59,7 +59,7 @@ fn sample_fraction(previous: u64, next: u64, sample: u64) -> f32
 }
 
 // The value at a sample on the way from p to q.
-pub(crate) fn between_samples(p: AutomationPoint, q: AutomationPoint, sample: u64) -> f32
+pub fn between_samples(p: AutomationPoint, q: AutomationPoint, sample: u64) -> f32
     ensures { λ r. ⌜ r ≡ betweenSamples sample p q ⌝ }
 {
     let c = p.curve;
@@ -71,7 +71,7 @@ pub(crate) fn between_samples(p: AutomationPoint, q: AutomationPoint, sample: u6
 }
 
 // Whether each point's key is below the next one's.
-pub(crate) fn keys_rise(points: Points) -> bool
+pub fn keys_rise(points: Points) -> bool
     ensures { λ r. ⌜ r ≡ risingBy sampleKey (listOf points) ⌝ }
 {
     let n = points.used();
@@ -136,7 +136,7 @@ fn raw_at_sample(points: Points, sample: u64) -> Lookup
 }
 
 // The lookup on points that are known to be valid, with keys that are known to rise if they are enabled.
-pub(crate) fn value_at_sample(points: Points, enabled: bool, limits: Limits, sample: u64) -> Lookup
+fn value_at_sample(points: Points, enabled: bool, limits: Limits, sample: u64) -> Lookup
     requires { ⌜ (validPoints points ≡ true) × (keysRise points enabled ≡ true) ⌝ }
     ensures { λ r. ⌜ told r ≡ gives (valueAtSample points enabled limits sample) ⌝ }
 {

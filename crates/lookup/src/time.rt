@@ -20,7 +20,7 @@ fn quotient(a: f64, b: f64) -> f32
 }
 
 // How far a time is on the way from one time to the next.
-pub(crate) fn fraction(previous: f64, next: f64, time: f64) -> f32
+pub fn fraction(previous: f64, next: f64, time: f64) -> f32
     ensures { λ r. ⌜ r ≡ fraction previous next time ⌝ }
 {
     let span = next - previous;
@@ -32,7 +32,7 @@ pub(crate) fn fraction(previous: f64, next: f64, time: f64) -> f32
 }
 
 // The value at a time on the way from p to q.
-pub(crate) fn between(p: AutomationPoint, q: AutomationPoint, time: f64) -> f32
+pub fn between(p: AutomationPoint, q: AutomationPoint, time: f64) -> f32
     ensures { λ r. ⌜ r ≡ between time p q ⌝ }
 {
     let c = p.curve;
@@ -87,7 +87,7 @@ fn raw_at(points: Points, time: f64) -> Lookup
 }
 
 // The lookup on points that are known to be valid.
-pub(crate) fn value_at(points: Points, enabled: bool, limits: Limits, time: f64) -> Lookup
+fn value_at(points: Points, enabled: bool, limits: Limits, time: f64) -> Lookup
     requires { ⌜ validPoints points ≡ true ⌝ }
     ensures { λ r. ⌜ told r ≡ gives (valueAt points enabled limits time) ⌝ }
 {

@@ -55,7 +55,7 @@ fn rendered(
     let mut buffer = marked();
     let out = &mut buffer[0..length];
     let points = envelope.points;
-    let answer = lookup::render::render(
+    let answer = render::render(
         points,
         envelope.enabled,
         envelope.limits(),
@@ -105,7 +105,7 @@ fn buffered(
     let mut buffer = marked();
     let out = &mut buffer[0..length];
     let points = envelope.points;
-    let answer = lookup::render::to_buffer(
+    let answer = render::to_buffer(
         points,
         envelope.enabled,
         envelope.limits(),

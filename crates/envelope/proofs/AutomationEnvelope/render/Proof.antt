@@ -2,7 +2,7 @@ use mathlib.Core.Path.{_≡_, ap, _∙_}
 use lib.Ieee.{Float}
 use mathlib.Core.List.{List}
 use Rattle.points.specs.Refusal.{Said}
-use Rattle.lookup.specs.Render.{render}
+use Rattle.render.specs.Render.{render}
 use Rattle.lookup.specs.declared.Limits.{Limits}
 use borrow.Author.Needs.{needs}
 use Rattle.envelope.proofs.AutomationEnvelope.render.Statement.{statement}
@@ -10,7 +10,7 @@ use Rattle.envelope.proofs.AutomationEnvelope.render.Tie as tie
 use Rattle.envelope.proofs.AutomationEnvelope.render.Reads as reads
 use Rattle.envelope.proofs.AutomationEnvelope.render.Lts as lts
 use Rattle.envelope.proofs.AutomationEnvelope.limits.Reads as limits-reads
-use Rattle.lookup.proofs.render.render.Reads as render-reads
+use Rattle.render.proofs.render.Reads as render-reads
 
 -- src/player.rt:35:13
 limits-requires : tie.Need-limits-requires

@@ -2,7 +2,7 @@ use mathlib.Core.Path.{_≡_, ap, _∙_}
 use lib.Ieee.{Float}
 use mathlib.Core.List.{List}
 use Rattle.points.specs.Refusal.{Said}
-use Rattle.lookup.specs.Render.{toBuffer}
+use Rattle.render.specs.Render.{toBuffer}
 use Rattle.lookup.specs.declared.Limits.{Limits}
 use borrow.Author.Needs.{needs}
 use Rattle.envelope.proofs.AutomationEnvelope.to_buffer.Statement.{statement}
@@ -10,7 +10,7 @@ use Rattle.envelope.proofs.AutomationEnvelope.to_buffer.Tie as tie
 use Rattle.envelope.proofs.AutomationEnvelope.to_buffer.Reads as reads
 use Rattle.envelope.proofs.AutomationEnvelope.to_buffer.Lts as lts
 use Rattle.envelope.proofs.AutomationEnvelope.limits.Reads as limits-reads
-use Rattle.lookup.proofs.render.to_buffer.Reads as to-buffer-reads
+use Rattle.render.proofs.to_buffer.Reads as to-buffer-reads
 
 -- src/player.rt:53:13
 limits-requires : tie.Need-limits-requires

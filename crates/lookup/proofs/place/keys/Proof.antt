@@ -7,8 +7,8 @@ use lib.ListN.{length, take, length-set, length-replicate}
 use Rattle.points.specs.Point.{anyPoint}
 use Rattle.points.specs.Laws.{take-min}
 use Rattle.lookup.specs.Keys.{keyBy}
-use Rattle.lookup.proofs.Good.{places}
-use Rattle.lookup.proofs.PlaceKeys.{keys-turn}
+use Rattle.points.proofs.Good.{places}
+use Rattle.lookup.specs.KeyLaws.{keys-turn}
 use Rattle.lookup.proofs.place.keys.Statement.{statement}
 use Rattle.lookup.proofs.place.keys.Tie as tie
 

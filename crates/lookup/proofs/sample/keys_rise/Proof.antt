@@ -7,7 +7,7 @@ use Rattle.points.specs.Point.{anyPoint}
 use Rattle.points.specs.Points.{risingBy}
 use Rattle.points.specs.Laws.{rising-next, rising-one, rising-end, take-min}
 use Rattle.lookup.specs.Lookup.{sampleKey}
-use Rattle.lookup.proofs.Good.{places}
+use Rattle.points.proofs.Good.{places}
 use Rattle.lookup.proofs.sample.keys_rise.Statement.{statement}
 use Rattle.lookup.proofs.sample.keys_rise.Tie as tie
 

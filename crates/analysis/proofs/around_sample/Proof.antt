@@ -1,0 +1,47 @@
+-- `analysis::around_sample` meets its contract. Assumes nothing.
+use mathlib.Core.Path.{sym, ap, _∙_}
+use mathlib.Core.Option.{some}
+use borrow.Author.Tests.{lt-ltb, le-ltb, eq-eqb, ne-eqb}
+use lib.Ieee.{Float}
+use Rattle.points.specs.Refusal.{gives}
+use Rattle.analysis.specs.Ranges.{around}
+use borrow.Author.Needs.{needs}
+use Rattle.analysis.proofs.around_sample.Statement.{statement}
+use Rattle.analysis.proofs.around_sample.Tie as tie
+
+sample-key-requires : tie.Need-sample-key-requires
+sample-key-requires c κs = search needs
+
+between-samples-requires : tie.Need-between-samples-requires
+between-samples-requires c κs = search needs
+
+between-samples-requires-2 : tie.Need-between-samples-requires-2
+between-samples-requires-2 c κs = search needs
+
+returns : tie.Need-returns
+unfolding around
+returns c = rw (lt-ltb _ _ (c .before .before .before .if1 .taken), eq-eqb _ _ (sym (c .before .before .sample-key .ensures) ∙ c .before .if2 .taken)) (ap (λ (v : Float). gives (some v)) (c .between-samples .ensures))
+
+returns-2 : tie.Need-returns-2
+unfolding around
+returns-2 c = rw (lt-ltb _ _ (c .before .before .before .before .if1 .taken), ne-eqb _ _ (λ e. c .before .before .if2 .left (c .before .before .before .sample-key .ensures ∙ e)), lt-ltb _ _ (c .before .if3 .taken)) (ap (λ (v : Float). gives (some v)) (c .between-samples2 .ensures))
+
+returns-3 : tie.Need-returns-3
+unfolding around
+returns-3 c = rw (lt-ltb _ _ (c .before .before .before .if1 .taken), ne-eqb _ _ (λ e. c .before .if2 .left (c .before .before .sample-key .ensures ∙ e)), le-ltb _ _ (c .if3 .left))
+
+returns-4 : tie.Need-returns-4
+unfolding around
+returns-4 c = rw (le-ltb _ _ (c .if1 .left))
+
+pub around-sample-spec : {M : Type 1} → statement M
+around-sample-spec =
+    tie.close
+    (tie.spec
+    sample-key-requires
+    between-samples-requires
+    between-samples-requires-2
+    returns
+    returns-2
+    returns-3
+    returns-4)

@@ -1,0 +1,104 @@
+-- `analysis::get_range_samples` meets its contract. Assumes nothing.
+use Prim.Native.Nat.{ℕ, _+_, _*_, _-_, _/_}
+use mathlib.Core.Path.{_≡_, sym, ap, _∙_}
+use mathlib.Core.Bool.{true}
+use mathlib.Core.List.{foldl}
+use native.Mathlib.Omega.{arith}
+use lib.Dec.{ltb}
+use borrow.Author.Tests.{le-leb, lt-leb, ltb-true}
+use Rattle.points.specs.Laws.{and-right}
+use Rattle.points.specs.Points.{validPoints}
+use Rattle.points.specs.Refusal.{gives}
+use Rattle.lookup.specs.Limits.{finiteLimits}
+use Rattle.analysis.specs.Analysis.{getRangeSamples, sampleStep, sampleStops}
+use Rattle.analysis.specs.Ranges.{nowhere, widen, asRange, samplesHeard}
+use Rattle.analysis.proofs.Ranges.{range-is, stops-few}
+use borrow.Author.Needs.{needs}
+use Rattle.analysis.proofs.get_range_samples.Statement.{statement}
+use Rattle.analysis.proofs.get_range_samples.Tie as tie
+
+is-valid-requires : tie.Need-is-valid-requires
+is-valid-requires c κs = search needs
+
+sample-step-requires : tie.Need-sample-step-requires
+sample-step-requires c κs = search needs
+
+next-fits-requires : tie.Need-next-fits-requires
+next-fits-requires c κs = search needs
+
+enabled-keys-rise-requires : tie.Need-enabled-keys-rise-requires
+enabled-keys-rise-requires c κs = search needs
+
+div-stops : tie.Need-div-stops
+div-stops c = search needs
+
+add-stops : tie.Need-add-stops
+add-stops c =
+    let span = c .before .before .before .before .before .before .before .before .args .end-sample - c .before .before .before .before .before .before .before .before .args .start-sample in
+    let step = c .before .before .before .before .sample-step .result in
+    let b = ltb-true (c .before .before .before .before .before .before .before .before .args .start-sample + (span / step + 1) * step) 18446744073709551616 (sym (c .before .before .before .next-fits .ensures) ∙ c .before .before .if3 .taken) in
+    omega (arith, stops-few (span / step + 1) step (omega (arith, c .before .before .before .before .sample-step .ensures)))
+
+samples-range-requires : tie.Need-samples-range-requires
+samples-range-requires c κs =
+    let span = c .before .before .before .before .before .before .before .before .args .end-sample - c .before .before .before .before .before .before .before .before .args .start-sample in
+    let step = c .before .before .before .before .sample-step .result in
+    (and-right (finiteLimits (c .before .before .before .before .before .before .before .before .args .limits)) (validPoints (c .before .before .before .before .before .before .before .before .args .points)) (sym (c .before .before .before .before .before .before .before .is-valid .ensures) ∙ c .before .before .before .before .before .before .if1 .taken), sym (c .before .enabled-keys-rise .ensures) ∙ c .if4 .taken, ltb-true (c .before .before .before .before .before .before .before .before .args .start-sample + (span / step + 1) * step) 18446744073709551616 (sym (c .before .before .before .next-fits .ensures) ∙ c .before .before .if3 .taken))
+
+range-requires : tie.Need-range-requires
+range-requires c κs = search needs
+
+returns : tie.Need-returns
+unfolding getRangeSamples
+returns c =
+    let a = c .before .before .before .before .before .before .before .before .before .before .args in
+    let start = a .start-sample in
+    let end = a .end-sample in
+    let fits : ltb (start + sampleStops start end * sampleStep start end) 18446744073709551616 ≡ true = ap (λ (s : ℕ). ltb (start + ((end - start) / s + 1) * s) 18446744073709551616) (sym (c .before .before .before .before .before .before .sample-step .ensures)) ∙ sym (c .before .before .before .before .before .next-fits .ensures) ∙ c .before .before .before .before .if3 .taken in
+    rw (sym (c .before .before .before .before .before .before .before .before .before .is-valid .ensures) ∙ c .before .before .before .before .before .before .before .before .if1 .taken, le-leb start end (c .before .before .before .before .before .before .before .if2 .taken), fits, sym (c .before .before .before .enabled-keys-rise .ensures) ∙ c .before .before .if4 .taken)
+    (c .range .ensures
+    ∙ ap (λ b. gives (asRange b)) (c .before .samples-range .ensures)
+    ∙ ap (λ (s : ℕ). gives (asRange (foldl widen nowhere (samplesHeard (a .points) (a .enabled) (a .limits) start s ((end - start) / s + 1))))) (c .before .before .before .before .before .before .sample-step .ensures)
+    ∙ ap gives (range-is (samplesHeard (a .points) (a .enabled) (a .limits) start (sampleStep start end) (sampleStops start end))))
+
+returns-2 : tie.Need-returns-2
+unfolding getRangeSamples
+returns-2 c =
+    let start = c .before .before .before .before .before .before .before .before .args .start-sample in
+    let end = c .before .before .before .before .before .before .before .before .args .end-sample in
+    let fits : ltb (start + sampleStops start end * sampleStep start end) 18446744073709551616 ≡ true = ap (λ (s : ℕ). ltb (start + ((end - start) / s + 1) * s) 18446744073709551616) (sym (c .before .before .before .before .sample-step .ensures)) ∙ sym (c .before .before .before .next-fits .ensures) ∙ c .before .before .if3 .taken in
+    rw (sym (c .before .before .before .before .before .before .before .is-valid .ensures) ∙ c .before .before .before .before .before .before .if1 .taken, le-leb start end (c .before .before .before .before .before .if2 .taken), fits, sym (c .before .enabled-keys-rise .ensures) ∙ c .if4 .left)
+
+returns-3 : tie.Need-returns-3
+unfolding getRangeSamples
+returns-3 c =
+    let start = c .before .before .before .before .before .before .args .start-sample in
+    let end = c .before .before .before .before .before .before .args .end-sample in
+    let over = ap (λ (s : ℕ). ltb (start + ((end - start) / s + 1) * s) 18446744073709551616) (sym (c .before .before .sample-step .ensures)) ∙ sym (c .before .next-fits .ensures) ∙ c .if3 .left in
+    rw (sym (c .before .before .before .before .before .is-valid .ensures) ∙ c .before .before .before .before .if1 .taken, le-leb start end (c .before .before .before .if2 .taken), over)
+
+returns-4 : tie.Need-returns-4
+unfolding getRangeSamples
+returns-4 c = rw (sym (c .before .before .is-valid .ensures) ∙ c .before .if1 .taken, lt-leb (c .before .before .before .args .start-sample) (c .before .before .before .args .end-sample) (omega (arith, c .if2 .left)))
+
+returns-5 : tie.Need-returns-5
+unfolding getRangeSamples
+returns-5 c = rw (sym (c .before .is-valid .ensures) ∙ c .if1 .left)
+
+pub get-range-samples-spec : {M : Type 1} → statement M
+get-range-samples-spec =
+    tie.close
+    (tie.spec
+    is-valid-requires
+    sample-step-requires
+    next-fits-requires
+    enabled-keys-rise-requires
+    div-stops
+    add-stops
+    samples-range-requires
+    range-requires
+    returns
+    returns-2
+    returns-3
+    returns-4
+    returns-5)

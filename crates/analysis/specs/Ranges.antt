@@ -1,0 +1,78 @@
+-- The analyses' own terms, which their private functions cite: the least and the greatest value of lookups so far, a lookup from where its search ended, and the test of three points in a row.
+use Prim.Native.Nat.{ℕ, _+_, _*_}
+use mathlib.Core.Bool.{Bool, true, false, cond}
+use mathlib.Core.List.{List}
+use mathlib.Core.Option.{Option, none, some}
+use lib.Dec.{ltb, eqb}
+use lib.Ieee.{Float, binary32, ofBits}
+use Rattle.numbers.specs.Bounds.{finite, maxNum, minNum}
+use Rattle.points.specs.Middles.{middles}
+use Rattle.points.specs.Points.{listOf}
+use Rattle.points.specs.Refusal.{Said, refuses, gives}
+use Rattle.points.specs.declared.AutomationPoint.{AutomationPoint}
+use Rattle.points.specs.declared.Points.{Points}
+use Rattle.lookup.specs.Lookup.{valueAt, valueAtSample}
+use Rattle.lookup.specs.Runs.{run}
+use Rattle.analysis.specs.Analysis.{heardOf, rangeTime, slopeOf, isPeak, isValley}
+use Rattle.lookup.specs.declared.Limits.{Limits}
+use Rattle.analysis.specs.declared.Bounds.{Bounds}
+
+-- ---- the least and the greatest
+
+-- "from the infinities"
+abbrev pub nowhere : Bounds
+nowhere = record { low = ofBits binary32 0x7F80_0000; high = ofBits binary32 0xFF80_0000 }
+
+-- with one more value
+abbrev pub widen : Bounds → Float → Bounds
+widen b v = record { low = minNum (b .low) v; high = maxNum (b .high) v }
+
+-- with one more lookup
+abbrev pub hear : Bounds → Said (Option Float) → Bounds
+hear b (gives (some v)) = widen b v
+hear b (gives none) = b
+hear b (refuses n) = b
+
+-- "none if the minimum isn't finite"
+abbrev pub asRange : Bounds → Option (Float × Float)
+asRange b = cond (finite (b .low)) (some (b .low, b .high)) none
+
+-- ---- the lookups
+
+-- the values of n lookups by time
+abbrev pub timesHeard : Points → Bool → Limits → Float → Float → ℕ → List Float
+timesHeard points enabled limits start end n = heardOf (run (λ i. valueAt points enabled limits (rangeTime start end i)) 0 n)
+
+-- and by sample
+abbrev pub samplesHeard : Points → Bool → Limits → ℕ → ℕ → ℕ → List Float
+samplesHeard points enabled limits start step n = heardOf (run (λ k. valueAtSample points enabled limits (start + k * step)) 0 n)
+
+-- the search among n points ended at i: p is the point before, q the one at it
+unfoldable pub around : {A : Type 0} → (AutomationPoint → ℕ) → ℕ → (AutomationPoint → AutomationPoint → A) → ℕ → ℕ → AutomationPoint → AutomationPoint → Option A
+around key k give n i p q = cond (ltb i n) (cond (eqb (key q) k) (some (give q q)) (cond (ltb 0 i) (some (give p q)) none)) none
+
+-- ---- slope
+
+-- of two lookups' answers
+abbrev pub slopeSaid : Said (Option Float) → Said (Option Float) → Said (Option Float)
+slopeSaid (refuses n) after = refuses n
+slopeSaid (gives none) after = gives none
+slopeSaid (gives (some v)) (refuses n) = refuses n
+slopeSaid (gives (some v)) (gives after) = gives (slopeOf (some v) after)
+
+-- ---- peaks and valleys
+
+-- one test or the other
+abbrev pub middleTest : Bool → AutomationPoint → AutomationPoint → AutomationPoint → Bool
+middleTest true = isValley
+middleTest false = isPeak
+
+-- the peaks of points, or the valleys
+abbrev pub middlesOf : Bool → Points → List AutomationPoint
+middlesOf valley points = middles (middleTest valley) (listOf points)
+
+abbrev pub timeOf : AutomationPoint → Float
+timeOf p = p .time
+
+abbrev pub valueOf : AutomationPoint → Float
+valueOf p = p .value

@@ -1,0 +1,4 @@
+pub mod Fits
+pub mod TimeOrder
+pub mod Segments
+pub mod Writing

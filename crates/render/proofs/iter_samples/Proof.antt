@@ -1,0 +1,44 @@
+-- `render::iter_samples` meets its contract. Assumes nothing.
+use mathlib.Core.Path.{sym, _∙_}
+use borrow.Author.Needs.{needs}
+use Rattle.points.specs.Laws.{and-both}
+use Rattle.render.specs.RenderLaws.{open-invalid, open-infinite, open-too-many, opened}
+use Rattle.render.proofs.iter_samples.Statement.{statement}
+use Rattle.render.proofs.iter_samples.Tie as tie
+
+is-valid-requires : tie.Need-is-valid-requires
+is-valid-requires c κs = search needs
+
+is-finite-requires : tie.Need-is-finite-requires
+is-finite-requires c κs = search needs
+
+is-finite-requires-2 : tie.Need-is-finite-requires-2
+is-finite-requires-2 c κs = search needs
+
+f64-to-u64-requires : tie.Need-f64-to-u64-requires
+f64-to-u64-requires c κs = search needs
+
+returns : tie.Need-returns
+returns c = sym (opened (c .before .before .before .before .before .before .before .args .points) (c .before .before .before .before .before .before .before .args .limits) (c .before .before .before .before .before .before .before .args .rate) (c .before .before .before .before .before .before .before .args .duration) (sym (c .before .before .before .before .before .before .is-valid .ensures) ∙ c .before .before .before .before .before .if1 .taken) (sym (and-both (c .before .before .before .before .is-finite .ensures) (c .before .before .before .is-finite2 .ensures)) ∙ c .before .before .if2 .taken) (c .before .f64-to-u64 .result) (c .before .f64-to-u64 .ensures) (c .if3 .taken))
+
+returns-2 : tie.Need-returns-2
+returns-2 c = sym (open-too-many (c .before .before .before .before .before .before .before .args .points) (c .before .before .before .before .before .before .before .args .limits) (c .before .before .before .before .before .before .before .args .rate) (c .before .before .before .before .before .before .before .args .duration) (sym (c .before .before .before .before .before .before .is-valid .ensures) ∙ c .before .before .before .before .before .if1 .taken) (sym (and-both (c .before .before .before .before .is-finite .ensures) (c .before .before .before .is-finite2 .ensures)) ∙ c .before .before .if2 .taken) (c .before .f64-to-u64 .result) (c .before .f64-to-u64 .ensures) (c .if3 .left))
+
+returns-3 : tie.Need-returns-3
+returns-3 c = sym (open-infinite (c .before .before .before .before .before .args .points) (c .before .before .before .before .before .args .limits) (c .before .before .before .before .before .args .rate) (c .before .before .before .before .before .args .duration) (sym (c .before .before .before .before .is-valid .ensures) ∙ c .before .before .before .if1 .taken) (sym (and-both (c .before .before .is-finite .ensures) (c .before .is-finite2 .ensures)) ∙ c .if2 .left))
+
+returns-4 : tie.Need-returns-4
+returns-4 c = sym (open-invalid (c .before .before .args .points) (c .before .before .args .limits) (c .before .before .args .rate) (c .before .before .args .duration) (sym (c .before .is-valid .ensures) ∙ c .if1 .left))
+
+pub iter-samples-spec : {M : Type 1} → statement M
+iter-samples-spec =
+    tie.close
+    (tie.spec
+    is-valid-requires
+    is-finite-requires
+    is-finite-requires-2
+    f64-to-u64-requires
+    returns
+    returns-2
+    returns-3
+    returns-4)

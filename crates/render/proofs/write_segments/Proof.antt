@@ -1,0 +1,238 @@
+-- `render::write_segments` meets its contract. Assumes nothing.
+use Prim.Native.Nat.{ℕ, _+_, _≤_, _-_}
+use mathlib.Core.Path.{_≡_, refl, ap, _∙_}
+use mathlib.Core.Bool.{true}
+use mathlib.Core.List.{_++_}
+use native.Mathlib.Omega.{arith}
+use lib.ListN.{length, take, drop, length-set}
+use Rattle.lookup.specs.LookupLaws.{valid-count}
+use Rattle.render.specs.Render.{sampleAt}
+use Rattle.lookup.specs.Runs.{run, run-turn, run-over, run-part, run-end, part-long}
+use Rattle.render.proofs.Writing.{search-inside, stretch-written, outside-sample}
+use Rattle.render.proofs.write_segments.Statement.{statement}
+use Rattle.render.proofs.write_segments.Tie as tie
+
+abbrev Inv-loop : tie.InvT-loop
+Inv-loop limits rate first out₀ points n ends keys end i₀ k₀ out i k = (i ≤ length out₀) × (length out ≡ length out₀) × (k ≡ first + i) × (out ≡ run (sampleAt points true limits rate) first i ++ drop i out₀)
+
+abbrev μ-loop : tie.MeasureT-loop
+μ-loop limits rate first out₀ points n ends keys end i₀ k₀ out i k = length out₀ - i
+
+element-copy-out-p : tie.Need-element-copy-out-p Inv-loop μ-loop
+element-copy-out-p c = omega arith
+
+sub-q : tie.Need-sub-q Inv-loop μ-loop
+sub-q c = omega arith
+
+mul-q : tie.Need-mul-q Inv-loop μ-loop
+mul-q c = omega (arith, valid-count (c .before .before .args .t1) (c .before .before .pre .0))
+
+element-copy-out-q : tie.Need-element-copy-out-q Inv-loop μ-loop
+element-copy-out-q c = omega (arith, valid-count (c .before .before .args .t1) (c .before .before .pre .0))
+
+apply-constraints-requires : tie.Need-apply-constraints-requires Inv-loop μ-loop
+apply-constraints-requires c κs = tt
+
+apply-constraints-requires-2 : tie.Need-apply-constraints-requires-2 Inv-loop μ-loop
+apply-constraints-requires-2 c κs = tt
+
+keys-requires : tie.Need-keys-requires Inv-loop μ-loop
+keys-requires c κs = tt
+
+loop-holds : tie.Need-loop-holds Inv-loop μ-loop
+unfolding run
+loop-holds c = (omega arith, refl, omega arith, refl)
+
+int-to-float-time : tie.Need-int-to-float-time Inv-loop μ-loop
+int-to-float-time c = tt
+
+order-key-requires : tie.Need-order-key-requires Inv-loop μ-loop
+order-key-requires c κs = tt
+
+search-requires : tie.Need-search-requires Inv-loop μ-loop
+search-requires c κs = tt
+
+sub-a : tie.Need-sub-a Inv-loop μ-loop
+sub-a c =
+    let a = c .before .before .before .before .before .before .before .before .before .before .before .before .before .before .before .args in
+    let h = c .before .before .before .before .before .before .before .before .loop in
+    let p = search-inside (a .t1) _ (c .before .before .before .before .before .before .before .before .before .before .before .before .before .before .before .good .0) (c .before .before .before .before .before .before .before .before .before .before .before .before .before .before .before .pre .0) (c .before .before .before .before .before .before .before .before .before .before .before .before .before .before .before .pre .1) (c .before .before .before .before .before .before .before .before .before .keys .result) (c .before .before .before .before .before .before .before .before .before .keys .ensures) (a .rate) (h .k) (c .before .before .before .if1 .taken) (c .before .before .order-key .result) (c .search .result) (c .before .before .order-key .ensures) (c .search .ensures) in
+    omega (arith, valid-count (a .t1) (c .before .before .before .before .before .before .before .before .before .before .before .before .before .before .before .pre .0))
+
+mul-a : tie.Need-mul-a Inv-loop μ-loop
+mul-a c =
+    let a = c .before .before .before .before .before .before .before .before .before .before .before .before .before .before .before .args in
+    let h = c .before .before .before .before .before .before .before .before .loop in
+    let p = search-inside (a .t1) _ (c .before .before .before .before .before .before .before .before .before .before .before .before .before .before .before .good .0) (c .before .before .before .before .before .before .before .before .before .before .before .before .before .before .before .pre .0) (c .before .before .before .before .before .before .before .before .before .before .before .before .before .before .before .pre .1) (c .before .before .before .before .before .before .before .before .before .keys .result) (c .before .before .before .before .before .before .before .before .before .keys .ensures) (a .rate) (h .k) (c .before .before .before .if1 .taken) (c .before .before .order-key .result) (c .search .result) (c .before .before .order-key .ensures) (c .search .ensures) in
+    omega (arith, valid-count (a .t1) (c .before .before .before .before .before .before .before .before .before .before .before .before .before .before .before .pre .0))
+
+element-copy-out-a : tie.Need-element-copy-out-a Inv-loop μ-loop
+element-copy-out-a c =
+    let a = c .before .before .before .before .before .before .before .before .before .before .before .before .before .before .before .args in
+    let h = c .before .before .before .before .before .before .before .before .loop in
+    let p = search-inside (a .t1) _ (c .before .before .before .before .before .before .before .before .before .before .before .before .before .before .before .good .0) (c .before .before .before .before .before .before .before .before .before .before .before .before .before .before .before .pre .0) (c .before .before .before .before .before .before .before .before .before .before .before .before .before .before .before .pre .1) (c .before .before .before .before .before .before .before .before .before .keys .result) (c .before .before .before .before .before .before .before .before .before .keys .ensures) (a .rate) (h .k) (c .before .before .before .if1 .taken) (c .before .before .order-key .result) (c .search .result) (c .before .before .order-key .ensures) (c .search .ensures) in
+    omega (arith, valid-count (a .t1) (c .before .before .before .before .before .before .before .before .before .before .before .before .before .before .before .pre .0))
+
+mul-b : tie.Need-mul-b Inv-loop μ-loop
+mul-b c =
+    let a = c .before .before .before .before .before .before .before .before .before .before .before .before .before .before .before .before .args in
+    let h = c .before .before .before .before .before .before .before .before .before .loop in
+    let p = search-inside (a .t1) _ (c .before .before .before .before .before .before .before .before .before .before .before .before .before .before .before .before .good .0) (c .before .before .before .before .before .before .before .before .before .before .before .before .before .before .before .before .pre .0) (c .before .before .before .before .before .before .before .before .before .before .before .before .before .before .before .before .pre .1) (c .before .before .before .before .before .before .before .before .before .before .keys .result) (c .before .before .before .before .before .before .before .before .before .before .keys .ensures) (a .rate) (h .k) (c .before .before .before .before .if1 .taken) (c .before .before .before .order-key .result) (c .before .search .result) (c .before .before .before .order-key .ensures) (c .before .search .ensures) in
+    omega (arith, valid-count (a .t1) (c .before .before .before .before .before .before .before .before .before .before .before .before .before .before .before .before .pre .0))
+
+element-copy-out-b : tie.Need-element-copy-out-b Inv-loop μ-loop
+element-copy-out-b c =
+    let a = c .before .before .before .before .before .before .before .before .before .before .before .before .before .before .before .before .args in
+    let h = c .before .before .before .before .before .before .before .before .before .loop in
+    let p = search-inside (a .t1) _ (c .before .before .before .before .before .before .before .before .before .before .before .before .before .before .before .before .good .0) (c .before .before .before .before .before .before .before .before .before .before .before .before .before .before .before .before .pre .0) (c .before .before .before .before .before .before .before .before .before .before .before .before .before .before .before .before .pre .1) (c .before .before .before .before .before .before .before .before .before .before .keys .result) (c .before .before .before .before .before .before .before .before .before .before .keys .ensures) (a .rate) (h .k) (c .before .before .before .before .if1 .taken) (c .before .before .before .order-key .result) (c .before .search .result) (c .before .before .before .order-key .ensures) (c .before .search .ensures) in
+    omega (arith, valid-count (a .t1) (c .before .before .before .before .before .before .before .before .before .before .before .before .before .before .before .before .pre .0))
+
+around-requires : tie.Need-around-requires Inv-loop μ-loop
+around-requires c κs = tt
+
+mul-write-stretch : tie.Need-mul-write-stretch Inv-loop μ-loop
+mul-write-stretch c = omega arith
+
+sub-write-stretch : tie.Need-sub-write-stretch Inv-loop μ-loop
+sub-write-stretch c = omega arith
+
+part-write-stretch-start : tie.Need-part-write-stretch-start Inv-loop μ-loop
+part-write-stretch-start c = omega arith
+
+part-write-stretch-end : tie.Need-part-write-stretch-end Inv-loop μ-loop
+part-write-stretch-end c = omega arith
+
+write-stretch-requires : tie.Need-write-stretch-requires Inv-loop μ-loop
+write-stretch-requires c κs =
+    let a = c .before .before .before .before .before .before .before .before .before .before .before .before .before .before .before .before .before .before .before .args in
+    let h = c .before .before .before .before .before .before .before .before .before .before .before .before .loop in
+    let l = part-long (h .i) (length (a .out .now)) (h .out) (h .inv .1) (h .inv .0) in
+    (omega arith, omega (arith, c .before .before .before .before .before .before .before .before .before .before .before .before .before .before .before .before .before .before .before .pre .2, h .inv .2))
+
+add-i : tie.Need-add-i Inv-loop μ-loop
+add-i c =
+    let a = c .before .before .before .before .before .before .before .before .before .before .before .before .before .before .before .before .before .before .before .before .before .before .args in
+    let h = c .before .before .before .before .before .before .before .before .before .before .before .before .before .before .before .loop in
+    let l = part-long (h .i) (length (a .out .now)) (h .out) (h .inv .1) (h .inv .0) in
+    let q = c .before .before .write-stretch .ensures .most in
+    omega (arith, c .before .before .before .before .before .before .before .before .before .before .before .before .before .before .before .before .before .before .before .before .before .before .pre .2, h .inv .2)
+
+cast-k : tie.Need-cast-k Inv-loop μ-loop
+cast-k c =
+    let a = c .before .before .before .before .before .before .before .before .before .before .before .before .before .before .before .before .before .before .before .before .before .before .args in
+    let h = c .before .before .before .before .before .before .before .before .before .before .before .before .before .before .before .loop in
+    let l = part-long (h .i) (length (a .out .now)) (h .out) (h .inv .1) (h .inv .0) in
+    let q = c .before .before .write-stretch .ensures .most in
+    omega (arith, c .before .before .before .before .before .before .before .before .before .before .before .before .before .before .before .before .before .before .before .before .before .before .pre .2, h .inv .2)
+
+add-k : tie.Need-add-k Inv-loop μ-loop
+add-k c =
+    let a = c .before .before .before .before .before .before .before .before .before .before .before .before .before .before .before .before .before .before .before .before .before .before .args in
+    let h = c .before .before .before .before .before .before .before .before .before .before .before .before .before .before .before .loop in
+    let l = part-long (h .i) (length (a .out .now)) (h .out) (h .inv .1) (h .inv .0) in
+    let q = c .before .before .write-stretch .ensures .most in
+    omega (arith, c .before .before .before .before .before .before .before .before .before .before .before .before .before .before .before .before .before .before .before .before .before .before .pre .2, h .inv .2)
+
+loop-less : tie.Need-loop-less Inv-loop μ-loop
+loop-less c =
+    let a = c .before .before .before .before .before .before .before .before .before .before .before .before .before .before .before .before .before .before .before .before .before .before .args in
+    let h = c .before .before .before .before .before .before .before .before .before .before .before .before .before .before .before .loop in
+    let l = part-long (h .i) (length (a .out .now)) (h .out) (h .inv .1) (h .inv .0) in
+    let q = c .before .before .write-stretch .ensures .most in
+    let z = c .before .before .write-stretch .ensures .some in
+    omega arith
+
+loop-again : tie.Need-loop-again Inv-loop μ-loop
+loop-again c =
+    let a = c .before .before .before .before .before .before .before .before .before .before .before .before .before .before .before .before .before .before .before .before .before .before .args in
+    let h = c .before .before .before .before .before .before .before .before .before .before .before .before .before .before .before .loop in
+    let o = a .out .now in
+    let f = sampleAt (a .t1) true (a .limits) (a .rate) in
+    let m = c .before .before .write-stretch .result in
+    let l = part-long (h .i) (length (a .out .now)) (h .out) (h .inv .1) (h .inv .0) in
+    let q = c .before .before .write-stretch .ensures .most in
+    let w = stretch-written (a .t1) _ (c .before .before .before .before .before .before .before .before .before .before .before .before .before .before .before .before .before .before .before .before .before .before .good .0) (c .before .before .before .before .before .before .before .before .before .before .before .before .before .before .before .before .before .before .before .before .before .before .pre .0) (c .before .before .before .before .before .before .before .before .before .before .before .before .before .before .before .before .before .before .before .before .before .before .pre .1) (c .before .before .before .before .before .before .before .before .before .before .before .before .before .before .before .before .keys .result) (c .before .before .before .before .before .before .before .before .before .before .before .before .before .before .before .before .keys .ensures) (a .rate) (h .k) (c .before .before .before .before .before .before .before .before .before .before .if1 .taken) (c .before .before .before .before .before .before .before .before .before .order-key .result) (c .before .before .before .before .before .before .before .search .result) (c .before .before .before .before .before .before .before .before .before .order-key .ensures) (c .before .before .before .before .before .before .before .search .ensures) (a .limits) (c .before .before .before .before .around .result) m _ _ (c .before .before .before .before .around .ensures) (c .before .before .write-stretch .ensures) in
+    let e = run-part f (a .first) (h .i) m o (h .out) _ (h .inv .0) (h .inv .3) (w ∙ ap (λ (n : ℕ). run f n m ++ drop m (take (length o - h .i) (drop (h .i) (h .out)))) (h .inv .2)) in
+    (omega arith, ap length e ∙ run-over f (a .first) (h .i + m) o (omega arith), omega arith, e)
+
+value-at-requires : tie.Need-value-at-requires Inv-loop μ-loop
+value-at-requires c κs = tt
+
+mul-out : tie.Need-mul-out Inv-loop μ-loop
+mul-out c = omega arith
+
+slice-write-out : tie.Need-slice-write-out Inv-loop μ-loop
+slice-write-out c = omega arith
+
+add-i-2 : tie.Need-add-i-2 Inv-loop μ-loop
+add-i-2 c = omega arith
+
+add-k-2 : tie.Need-add-k-2 Inv-loop μ-loop
+add-k-2 c = omega arith
+
+loop-less-2 : tie.Need-loop-less-2 Inv-loop μ-loop
+loop-less-2 c = omega arith
+
+loop-again-2 : tie.Need-loop-again-2 Inv-loop μ-loop
+loop-again-2 c =
+    let a = c .before .before .before .before .before .before .before .before .before .before .before .before .before .args in
+    let h = c .before .before .before .before .before .before .loop in
+    let f = sampleAt (a .t1) true (a .limits) (a .rate) in
+    let w = outside-sample (a .t1) _ (c .before .before .before .before .before .before .before .before .before .before .before .before .before .good .0) (c .before .before .before .before .before .before .before .before .before .before .before .before .before .pre .0) (c .before .before .before .before .before .before .before .before .before .before .before .before .before .pre .1) (a .rate) (h .k) (a .limits) (c .before .if1 .left) _ _ _ (c .before .before .before .before .before .before .before .before .before .apply-constraints .ensures) (c .before .before .before .before .before .before .before .before .apply-constraints2 .ensures) (c .value-at .ensures) in (
+      omega arith,
+      length-set (h .out) (h .i) (c .value-at .result) ∙ h .inv .1,
+      omega arith,
+      run-turn f (a .first) (h .i) (a .out .now) (h .out) (c .value-at .result) (omega arith) (h .inv .3) (w ∙ ap f (h .inv .2)),
+    )
+
+same-length : tie.Need-same-length Inv-loop μ-loop
+same-length c = c .before .loop .inv .1
+
+returns : tie.Need-returns Inv-loop μ-loop
+returns c =
+    let a = c .before .before .before .before .before .before .before .before .args in
+    let f = sampleAt (a .t1) true (a .limits) (a .rate) in
+    c .before .loop .inv .3 ∙ run-end f (a .first) (c .before .loop .i) (a .out .now) (omega arith)
+
+pub write-segments-spec : {M : Type 1} → statement M
+write-segments-spec =
+    tie.close
+    (tie.spec
+    Inv-loop
+    μ-loop
+    element-copy-out-p
+    sub-q
+    mul-q
+    element-copy-out-q
+    apply-constraints-requires
+    apply-constraints-requires-2
+    keys-requires
+    loop-holds
+    int-to-float-time
+    order-key-requires
+    search-requires
+    sub-a
+    mul-a
+    element-copy-out-a
+    mul-b
+    element-copy-out-b
+    around-requires
+    mul-write-stretch
+    sub-write-stretch
+    part-write-stretch-start
+    part-write-stretch-end
+    write-stretch-requires
+    add-i
+    cast-k
+    add-k
+    loop-less
+    loop-again
+    value-at-requires
+    mul-out
+    slice-write-out
+    add-i-2
+    add-k-2
+    loop-less-2
+    loop-again-2
+    same-length
+    returns)
