@@ -2,3 +2,5 @@
 pub mod Envelope
 pub mod Edit
 pub mod Typed
+-- Laws that the crates above cite too.
+pub mod EditLaws
