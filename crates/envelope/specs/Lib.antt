@@ -4,3 +4,5 @@ pub mod Edit
 pub mod Typed
 -- Laws that the crates above cite too.
 pub mod EditLaws
+pub mod TypedLists
+pub mod TypedLaws
