@@ -144,9 +144,14 @@ replaced-refused : (e : AutomationEnvelope) (n : Refusal) → Fair e (replaced e
 unfolding replaced
 replaced-refused e n = either (Fair e) (finiteLimits (limitsOf e)) (λ f. declines e (number n)) (declines e 1)
 
+-- an envelope of `new` with a valid list of points
+pub renews : (e : AutomationEnvelope) (l : List AutomationPoint) → validPoints (holding l) ≡ true → Fair e (record { said = gives tt; envelope = withPoints (new (e .target)) (holding l) })
+unfolding new
+renews e l v = accepts e (withPoints (new (e .target)) (holding l)) v refl
+
 replaced-accepted : (e : AutomationEnvelope) (l : List AutomationPoint) → validPoints (holding l) ≡ true → Fair e (replaced e (accepted l))
 unfolding replaced
-replaced-accepted e l v = either (Fair e) (finiteLimits (limitsOf e)) (λ f. accepts e (withPoints (new (e .target)) (holding l)) v refl) (declines e 1)
+replaced-accepted e l v = either (Fair e) (finiteLimits (limitsOf e)) (λ f. renews e l v) (declines e 1)
 
 setting-fair : (e : AutomationEnvelope) (ok : Bool) (f : AutomationEnvelope) → (validEnvelope e ≡ true → ok ≡ true → validEnvelope f ≡ true) → f .target ≡ e .target
     → Fair e (setting e ok f)
@@ -167,7 +172,7 @@ edit-fair (SetMin l) e = setting-fair e (finiteLimit l) _ (λ v k. let h = valid
 edit-fair (SetMax l) e = setting-fair e (finiteLimit l) _ (λ v k. let h = valid-parts e v in both (both (both (h .0) k) (h .2)) (h .3)) refl
 edit-fair (SetStep l) e = setting-fair e (finiteLimit l) _ (λ v k. let h = valid-parts e v in both (both (both (h .0) (h .1)) k) (h .3)) refl
 
-merge-fair : (e other : AutomationEnvelope) (offset : Float) → Fair e (mergeOf e other offset)
+pub merge-fair : (e other : AutomationEnvelope) (offset : Float) → Fair e (mergeOf e other offset)
 unfolding mergeOf
 merge-fair e other offset =
     either (Fair e) (finiteLimits (limitsOf other))

@@ -6,3 +6,4 @@ pub mod Typed
 pub mod EditLaws
 pub mod TypedLists
 pub mod TypedLaws
+pub mod TypedLookup

@@ -90,14 +90,14 @@ module _ (ps : Points) (t : typedPoints ps ≡ true) where
 -- ---- the envelope
 
 -- what an envelope in range has
-record Parts (e : AutomationEnvelope) : Type 0 where
-  target : ltb (e .target) 0x1_0000_0000 ≡ true
-  least : typedLimit (e .«min_value») ≡ true
-  greatest : typedLimit (e .«max_value») ≡ true
-  step : typedLimit (e .«step_size») ≡ true
-  points : typedPoints (e .points) ≡ true
+pub record Parts (e : AutomationEnvelope) : Type 0 where
+  pub target : ltb (e .target) 0x1_0000_0000 ≡ true
+  pub least : typedLimit (e .«min_value») ≡ true
+  pub greatest : typedLimit (e .«max_value») ≡ true
+  pub step : typedLimit (e .«step_size») ≡ true
+  pub points : typedPoints (e .points) ≡ true
 
-parted : (e : AutomationEnvelope) → typed e ≡ true → Parts e
+pub parted : (e : AutomationEnvelope) → typed e ≡ true → Parts e
 unfolding typed
 parted e t =
     let known = ltb (e .target) 0x1_0000_0000 in
@@ -140,13 +140,18 @@ pub new-valid : (target : ℕ) → validEnvelope (new target) ≡ true
 unfolding new
 new-valid target = holding-valid [] ∙ none-valid
 
-replaced-typed : (e : AutomationEnvelope) (r : EditedPoints) → typed e ≡ true → TypedResult r → TypedTold (replaced e r)
-unfolding replaced
-replaced-typed e r t h = either TypedTold (finiteLimits (limitsOf e)) (λ f. go (r .answer)) t
+-- an envelope of `new` where the edit is accepted
+pub renewed-typed : (e : AutomationEnvelope) (r : EditedPoints) → typed e ≡ true → typedPoints (r .points) ≡ true
+    → typed (ifAccepted (r .answer) (withPoints (new (e .target)) (r .points)) e) ≡ true
+renewed-typed e r t h = go (r .answer)
   where
     go : (a : Answer) → typed (ifAccepted a (withPoints (new (e .target)) (r .points)) e) ≡ true
     go Accepted = withPoints-typed (new (e .target)) (r .points) (new-typed (e .target) (parted e t .target)) h
     go (Refused n) = t
+
+replaced-typed : (e : AutomationEnvelope) (r : EditedPoints) → typed e ≡ true → TypedResult r → TypedTold (replaced e r)
+unfolding replaced
+replaced-typed e r t h = either TypedTold (finiteLimits (limitsOf e)) (λ f. renewed-typed e r t h) t
 
 setting-typed : (e : AutomationEnvelope) (ok : Bool) (f : AutomationEnvelope) → typed e ≡ true → typed f ≡ true → TypedTold (setting e ok f)
 unfolding setting

@@ -82,11 +82,6 @@ module _ {A : Type 0} (q : A → Bool) where
   every-sub (keep {x = x} {l = l} s) h = both (and-left (q x) (every q l) h) (every-sub s (and-right (q x) (every q l) h))
   every-sub (skip {x = x} {l = l} s) h = every-sub s (and-right (q x) (every q l) h)
 
-  pub every-map : (f : A → A) → ((x : A) → q x ≡ true → q (f x) ≡ true) → (l : List A) → every q l ≡ true → every q (map f l) ≡ true
-  unfolding every
-  every-map f k [] h = refl
-  every-map f k (x ∷ l) h = both (k x (and-left (q x) (every q l) h)) (every-map f k l (and-right (q x) (every q l) h))
-
   every-onto : (l r : List A) → every q l ≡ true → every q r ≡ true → every q (reverseAux l r) ≡ true
   unfolding every
   every-onto [] r h k = k
@@ -108,6 +103,11 @@ module _ {A : Type 0} (q : A → Bool) where
   every-fold f k l [] h g = h
   every-fold f k l (x ∷ new) h g = every-fold f k (f l x) new (k l x h (and-left (q x) (every q new) g)) (and-right (q x) (every q new) g)
 
+pub every-map : {A B : Type 0} (q : A → Bool) (r : B → Bool) (f : A → B) → ((x : A) → q x ≡ true → r (f x) ≡ true) → (l : List A) → every q l ≡ true → every r (map f l) ≡ true
+unfolding every
+every-map q r f k [] h = refl
+every-map q r f k (x ∷ l) h = both (k x (and-left (q x) (every q l) h)) (every-map q r f k l (and-right (q x) (every q l) h))
+
 pub every-insert : (q : AutomationPoint → Bool) (p : AutomationPoint) → q p ≡ true → (l : List AutomationPoint) → every q l ≡ true → every q (insertPoint p l) ≡ true
 unfolding every insertPoint
 every-insert q p k [] h = both k refl
@@ -121,7 +121,7 @@ every-insert q p k (x ∷ l) h =
 abbrev pub TypedList : List AutomationPoint → Type 0
 TypedList l = every typedPoint l ≡ true
 
-point-parts : (p : AutomationPoint) → typedPoint p ≡ true
+pub point-parts : (p : AutomationPoint) → typedPoint p ≡ true
     → (fits binary64 (p .time) ≡ true) × (typedPosition (p .«sample_position») ≡ true) × (fits binary32 (p .value) ≡ true) × (typedCurve (p .curve) ≡ true)
 point-parts p t = parts (fits binary64 (p .time)) (typedPosition (p .«sample_position»)) (fits binary32 (p .value)) (typedCurve (p .curve)) t
 
@@ -179,7 +179,7 @@ changed-typed (Gate threshold) p b t = withValue-typed p _ t (value-or p (lt (p 
 changed-typed (Compress threshold ratio) p b t = withValue-typed p _ t (value-or p (lt threshold (p .value)) _ t (add-fits binary32 _ _))
 
 pub each : (c : Change) → clampFits c ≡ true → (l : List AutomationPoint) → TypedList l → TypedList (map (changed c) l)
-each c b l h = every-map typedPoint (changed c) (λ p t. changed-typed c p b t) l h
+each c b l h = every-map typedPoint typedPoint (changed c) (λ p t. changed-typed c p b t) l h
 
 -- ---- what each edit makes of a list of such points
 
@@ -224,7 +224,7 @@ list-none : TypedList []
 unfolding every
 list-none = refl
 
-pointWith-typed : (time value : Float) (c : CurveType) → T (fits binary64 time) → T (fits binary32 value) → typedCurve c ≡ true → typedPoint (pointWith time value c) ≡ true
+pub pointWith-typed : (time value : Float) (c : CurveType) → T (fits binary64 time) → T (fits binary32 value) → typedCurve c ≡ true → typedPoint (pointWith time value c) ≡ true
 pointWith-typed time value c t v k = both (both (both (is-true (fits binary64 time) t) refl) (is-true (fits binary32 value) v)) k
 
 pub rampList-typed : (duration start end : Float) (c : CurveType) → T (fits binary64 duration) → T (fits binary32 start) → T (fits binary32 end) → typedCurve c ≡ true
