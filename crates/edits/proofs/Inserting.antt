@@ -200,7 +200,7 @@ rising-all l (p ∷ new) r = rising-all (insertPoint p l) new (rising-insert p l
 
 -- ---- points whose times rise go behind each other
 
-rising-prefix : (xs ys : List AutomationPoint) → rising (xs ++ ys) ≡ true → rising xs ≡ true
+pub rising-prefix : (xs ys : List AutomationPoint) → rising (xs ++ ys) ≡ true → rising xs ≡ true
 unfolding risingBy
 rising-prefix [] ys r = refl
 rising-prefix (x ∷ []) ys r = refl
@@ -215,12 +215,12 @@ rising-last x (y ∷ xs) p r =
     let first = ltb (timeKey x) (timeKey y) in
     lt-trans (ltb-true (timeKey x) (timeKey y) (and-left first (rising (y ∷ (xs ++ (p ∷ [])))) r)) (rising-last y xs p (and-right first (rising (y ∷ (xs ++ (p ∷ [])))) r))
 
-rising-tail : (x : AutomationPoint) (l : List AutomationPoint) → rising (x ∷ l) ≡ true → rising l ≡ true
+pub rising-tail : (x : AutomationPoint) (l : List AutomationPoint) → rising (x ∷ l) ≡ true → rising l ≡ true
 unfolding risingBy
 rising-tail x [] r = refl
 rising-tail x (y ∷ l) r = and-right (ltb (timeKey x) (timeKey y)) (rising (y ∷ l)) r
 
-insert-last : (xs : List AutomationPoint) (p : AutomationPoint) → rising (xs ++ (p ∷ [])) ≡ true → insertPoint p xs ≡ xs ++ (p ∷ [])
+pub insert-last : (xs : List AutomationPoint) (p : AutomationPoint) → rising (xs ++ (p ∷ [])) ≡ true → insertPoint p xs ≡ xs ++ (p ∷ [])
 unfolding insertPoint
 insert-last [] p r = refl
 insert-last (x ∷ xs) p r =

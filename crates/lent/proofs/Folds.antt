@@ -1,0 +1,181 @@
+-- The fold of `merge_points` is what 01 says.
+use Prim.Native.Nat.{ℕ, suc, _+_, _≤_}
+use mathlib.Core.Path.{_≡_, refl, sym, ap, subst, _∙_}
+use mathlib.Core.Bool.{Bool, true, false, cond, not, _&&_, _||_, true≢false}
+use mathlib.Core.List.{List, [], _∷_, _++_, append-nil, append-assoc}
+use native.Mathlib.Omega.{arith}
+use lib.ListN.{length, length-append}
+use lib.Dec.{leb, ltb}
+use lib.Ieee.{Float}
+use borrow.Author.Tests.{le-leb, leb-true}
+use Rattle.points.specs.Point.{finitePoint}
+use Rattle.points.specs.Points.{every, risingBy, rising, timeKey, listOf, holding, validPoints}
+use Rattle.points.specs.Laws.{and-true, and-false, and-left, and-right, every-append, every-one}
+use Rattle.points.specs.ValidLaws.{listOf-holding, holding-valid}
+use Rattle.points.specs.declared.refusal.Refusal.the-variants.{NotValid, NotFinite}
+use Rattle.points.specs.declared.refusal.Answer.the-variants.{Accepted}
+use Rattle.points.specs.declared.AutomationPoint.{AutomationPoint}
+use Rattle.points.specs.declared.Points.{Points}
+use Rattle.edits.specs.Settle.{refused, settle, editPoints}
+use Rattle.edits.specs.Insert.{insertPoint}
+use Rattle.edits.specs.declared.EditedPoints.{EditedPoints}
+use Rattle.edits.proofs.Inserting.{insert-last, rising-prefix}
+use Rattle.envelope.specs.Envelope.{new}
+use Rattle.envelope.specs.Edit.{EditTold, withPoints, mergeOf, declined}
+use Rattle.envelope.specs.declared.AutomationEnvelope.{AutomationEnvelope}
+use Rattle.lent.specs.Merge.{validList, mergeListOf, isAccepted, mergeStart, addedTo, mergeStep, mergeEnd, foldOf}
+use Rattle.lent.specs.declared.Merging.{Merging}
+
+-- the time of p comes after those of l
+abbrev Later : Merging → List AutomationPoint → Type 0
+Later m l = (p : AutomationPoint) → (not (m .begun) || ltb (m .last) (timeKey p)) ≡ rising (l ++ (p ∷ []))
+
+rising-two : (l : List AutomationPoint) (q p : AutomationPoint) → rising (l ++ (q ∷ [])) ≡ true → ltb (timeKey q) (timeKey p) ≡ rising ((l ++ (q ∷ [])) ++ (p ∷ []))
+unfolding risingBy
+rising-two [] q p r = sym (and-true (ltb (timeKey q) (timeKey p)))
+rising-two (x ∷ []) q p r =
+    rw (and-left (ltb (timeKey x) (timeKey q)) true r) (sym (and-true (ltb (timeKey q) (timeKey p))))
+rising-two (x ∷ (y ∷ l)) q p r =
+    let first = ltb (timeKey x) (timeKey y) in
+    rw (and-left first (rising ((y ∷ l) ++ (q ∷ []))) r) (rising-two (y ∷ l) q p (and-right first (rising ((y ∷ l) ++ (q ∷ []))) r))
+
+-- what the fold ends with, for the list l
+abbrev Ends : Merging → List AutomationPoint → Type 0
+Ends r l = (r .good ≡ validList l) × (r .good ≡ true → r .gathered ≡ holding l)
+
+-- once bad, always bad
+bad : (m : Merging) (ps : List AutomationPoint) → m .good ≡ false → foldOf m ps .good ≡ false
+unfolding mergeStep
+bad m [] h = h
+bad m (p ∷ ps) h = bad (mergeStep m p) ps (ap (λ (b : Bool). (b && (not (m .begun) || ltb (m .last) (timeKey p))) && isAccepted (addedTo m p .answer)) h)
+
+ends-bad : (m : Merging) (ps l : List AutomationPoint) → m .good ≡ false → validList l ≡ false → Ends (foldOf m ps) l
+ends-bad m ps l h v =
+    let b = bad m ps h in
+    (b ∙ sym v, λ t. absurd (true≢false (sym t ∙ b)))
+
+-- one more point, after the others
+added-last : (m : Merging) (l : List AutomationPoint) (p : AutomationPoint) → m .gathered ≡ holding l → every finitePoint l ≡ true → rising l ≡ true → finitePoint p ≡ true
+    → rising (l ++ (p ∷ [])) ≡ true → length (l ++ (p ∷ [])) ≤ 256 → addedTo m p ≡ record { answer = Accepted; points = holding (l ++ (p ∷ [])) }
+unfolding editPoints settle
+added-last m l p g f r fp rp n =
+    let all : every finitePoint (l ++ (p ∷ [])) ≡ true = every-append finitePoint l (p ∷ []) ∙ (λ i. f i && (every-one finitePoint p ∙ fp) i) in
+    let len : length l ≤ 256 = omega (arith, n, length-append l (p ∷ [])) in
+    let valid : validPoints (holding l) ≡ true = holding-valid l ∙ (λ i. le-leb (length l) 256 len i && (f i && r i)) in
+    let made : insertPoint p (listOf (holding l)) ≡ l ++ (p ∷ []) = ap (insertPoint p) (listOf-holding l) ∙ insert-last l p rp in
+    ap (λ (ps : Points). editPoints ps (finitePoint p) (insertPoint p (listOf ps))) g
+    ∙ rw (valid, fp, made, all, rp, le-leb (length (l ++ (p ∷ []))) 256 n)
+
+-- a list that is too long is none of a valid envelope's
+too-long : (l : List AutomationPoint) → leb (length l) 256 ≡ false → validList l ≡ false
+unfolding validList
+too-long l h = ap (λ (b : Bool). b && every finitePoint l && rising l) h
+
+not-finite : (l ps : List AutomationPoint) (p : AutomationPoint) → finitePoint p ≡ false → validList (l ++ (p ∷ ps)) ≡ false
+unfolding validList every
+not-finite l ps p h =
+    let none : every finitePoint (l ++ (p ∷ ps)) ≡ false = every-append finitePoint l (p ∷ ps) ∙ ap (λ (b : Bool). every finitePoint l && (b && every finitePoint ps)) h ∙ and-false (every finitePoint l) in
+    ap (λ (b : Bool). leb (length (l ++ (p ∷ ps))) 256 && b && rising (l ++ (p ∷ ps))) none ∙ ap (λ (b : Bool). b && rising (l ++ (p ∷ ps))) (and-false (leb (length (l ++ (p ∷ ps))) 256))
+
+not-rising : (l ps : List AutomationPoint) (p : AutomationPoint) → rising (l ++ (p ∷ [])) ≡ false → validList (l ++ (p ∷ ps)) ≡ false
+unfolding validList
+not-rising l ps p h = go (rising (l ++ (p ∷ ps))) refl
+  where
+    go : (b : Bool) → rising (l ++ (p ∷ ps)) ≡ b → (leb (length (l ++ (p ∷ ps))) 256 && every finitePoint (l ++ (p ∷ ps)) && b) ≡ false
+    go false e = and-false (leb (length (l ++ (p ∷ ps))) 256 && every finitePoint (l ++ (p ∷ ps)))
+    go true e = absurd (true≢false (sym (rising-prefix (l ++ (p ∷ [])) ps (ap rising (append-assoc l (p ∷ []) ps) ∙ e)) ∙ h))
+
+-- ---- a turn
+
+step-gathered : (m : Merging) (p : AutomationPoint) (ps : Points) → addedTo m p ≡ record { answer = Accepted; points = ps } → mergeStep m p .gathered ≡ ps
+unfolding mergeStep
+step-gathered m p ps h = ap (λ (e : EditedPoints). e .points) h
+
+step-good : (m : Merging) (p : AutomationPoint) (a b : Bool) → m .good ≡ true → (not (m .begun) || ltb (m .last) (timeKey p)) ≡ a → isAccepted (addedTo m p .answer) ≡ b → mergeStep m p .good ≡ (a && b)
+unfolding mergeStep
+step-good m p a b ok x y = λ i. (ok i && x i) && y i
+
+step-later : (m : Merging) (l : List AutomationPoint) (p : AutomationPoint) → rising (l ++ (p ∷ [])) ≡ true → Later (mergeStep m p) (l ++ (p ∷ []))
+unfolding mergeStep
+step-later m l p r = λ q. rising-two l p q r
+
+refused-point : (m : Merging) (p : AutomationPoint) → finitePoint p ≡ false → isAccepted (addedTo m p .answer) ≡ false
+unfolding editPoints
+refused-point m p h = ap (λ (b : Bool). isAccepted (editPoints (m .gathered) b (insertPoint p (listOf (m .gathered))) .answer)) h ∙ go (validPoints (m .gathered))
+  where
+    go : (v : Bool) → isAccepted (cond v (refused (m .gathered) NotFinite) (refused (m .gathered) NotValid) .answer) ≡ false
+    go true = refl
+    go false = refl
+
+-- ps after the points l that m has gathered
+abbrev Gathers : List AutomationPoint → List AutomationPoint → Merging → Type 0
+Gathers ps l m = m .gathered ≡ holding l → m .good ≡ true → Later m l → every finitePoint l ≡ true → rising l ≡ true → length (l ++ ps) ≤ 256 → Ends (foldOf m ps) (l ++ ps)
+
+gathers : (ps l : List AutomationPoint) (m : Merging) → Gathers ps l m
+unfolding validList
+gathers [] l m g ok later f r n =
+    let e = append-nil l in
+    (ok ∙ sym (rw (e, le-leb (length l) 256 (omega (arith, n, ap length e)), f, r)), λ t. g ∙ ap holding (sym e))
+gathers (p ∷ ps) l m g ok later f r n = go (gathers ps (l ++ (p ∷ [])) (mergeStep m p)) (finitePoint p) refl (rising (l ++ (p ∷ []))) refl
+  where
+    same : (l ++ (p ∷ [])) ++ ps ≡ l ++ (p ∷ ps)
+    same = append-assoc l (p ∷ []) ps
+
+    all : length ((l ++ (p ∷ [])) ++ ps) ≤ 256
+    all = subst (λ (x : List AutomationPoint). length x ≤ 256) (sym same) n
+
+    go : Gathers ps (l ++ (p ∷ [])) (mergeStep m p) → (a : Bool) → finitePoint p ≡ a → (b : Bool) → rising (l ++ (p ∷ [])) ≡ b → Ends (foldOf (mergeStep m p) ps) (l ++ (p ∷ ps))
+    go rest true fp true rp =
+        let few : length (l ++ (p ∷ [])) ≤ 256 = omega (arith, all, length-append (l ++ (p ∷ [])) ps) in
+        let made = added-last m l p g f r fp rp few in
+        subst (λ (x : List AutomationPoint). Ends (foldOf (mergeStep m p) ps) x) same
+        (rest (step-gathered m p (holding (l ++ (p ∷ []))) made)
+        (step-good m p true true ok (later p ∙ rp) (ap (λ (e : EditedPoints). isAccepted (e .answer)) made)) (step-later m l p rp)
+        (every-append finitePoint l (p ∷ []) ∙ (λ i. f i && (every-one finitePoint p ∙ fp) i)) rp all)
+    go rest true fp false rp = ends-bad (mergeStep m p) ps (l ++ (p ∷ ps)) (step-good m p false (isAccepted (addedTo m p .answer)) ok (later p ∙ rp) refl) (not-rising l ps p rp)
+    go rest false fp b rp =
+        ends-bad (mergeStep m p) ps (l ++ (p ∷ ps))
+        (step-good m p (rising (l ++ (p ∷ []))) false ok (later p) (refused-point m p fp) ∙ and-false (rising (l ++ (p ∷ [])))) (not-finite l ps p fp)
+
+-- ---- the whole
+
+begins : (e : AutomationEnvelope) (ps : List AutomationPoint) (d : Float) → Ends (foldOf (mergeStart e (length ps) d) ps) ps
+unfolding mergeStart every risingBy
+begins e ps d = go (leb (length ps) 256) refl
+  where
+    go : (b : Bool) → leb (length ps) 256 ≡ b → Ends (foldOf (mergeStart e (length ps) d) ps) ps
+    go true h = gathers ps [] (mergeStart e (length ps) d) refl h (λ p. refl) refl refl (leb-true (length ps) 256 h)
+    go false h = ends-bad (mergeStart e (length ps) d) ps ps h (too-long ps h)
+
+fold-before : (m : Merging) (ps : List AutomationPoint) → foldOf m ps .before ≡ m .before
+unfolding mergeStep
+fold-before m [] = refl
+fold-before m (p ∷ ps) = fold-before (mergeStep m p) ps
+
+fold-offset : (m : Merging) (ps : List AutomationPoint) → foldOf m ps .offset ≡ m .offset
+unfolding mergeStep
+fold-offset m [] = refl
+fold-offset m (p ∷ ps) = fold-offset (mergeStep m p) ps
+
+pub folded : (e : AutomationEnvelope) (ps : List AutomationPoint) (d : Float) → mergeEnd (foldOf (mergeStart e (length ps) d) ps) ≡ mergeListOf e ps d
+unfolding mergeEnd mergeListOf mergeStart
+folded e ps d = go (validList ps) refl
+  where
+    r : Merging
+    r = foldOf (mergeStart e (length ps) d) ps
+
+    go : (v : Bool) → validList ps ≡ v → cond (r .good) (mergeOf (r .before) (withPoints (new 0) (r .gathered)) (r .offset)) (declined (r .before) 1) ≡ cond v (mergeOf e (withPoints (new 0) (holding ps)) d) (declined e 1)
+    go true h =
+        let ok = begins e ps d .0 ∙ h in
+        let held = begins e ps d .1 ok in
+        λ i. cond (ok i) (mergeOf (fold-before (mergeStart e (length ps) d) ps i) (withPoints (new 0) (held i)) (fold-offset (mergeStart e (length ps) d) ps i)) (declined (fold-before (mergeStart e (length ps) d) ps i) 1)
+    go false h =
+        rw (begins e ps d .0 ∙ h) (ap (λ (x : AutomationEnvelope). declined x 1) (fold-before (mergeStart e (length ps) d) ps))
+
+-- ---- the end
+
+pub end-good : (m : Merging) (none : AutomationEnvelope) → none ≡ new 0 → m .good ≡ true → mergeOf (m .before) (withPoints none (m .gathered)) (m .offset) ≡ mergeEnd m
+unfolding mergeEnd
+end-good m none n h =
+    ap (λ (x : AutomationEnvelope). mergeOf (m .before) (withPoints x (m .gathered)) (m .offset)) n
+    ∙ sym (ap (λ (b : Bool). cond b (mergeOf (m .before) (withPoints (new 0) (m .gathered)) (m .offset)) (declined (m .before) 1)) h)

@@ -1,0 +1,22 @@
+use mathlib.Core.Path.{ap}
+use Rattle.points.specs.declared.Points.{Points}
+use Rattle.lent.specs.declared.Merging.{Merging}
+use Rattle.lent.specs.Merge.{mergeStart}
+use borrow.Author.Needs.{needs}
+use Rattle.lent.proofs.merge_start.Statement.{statement}
+use Rattle.lent.proofs.merge_start.Tie as tie
+use Rattle.lent.proofs.merge_start.Reads as reads
+use Rattle.lent.proofs.merge_start.Lts as lts
+use Rattle.points.proofs.list.none.Reads as none-reads
+
+-- src/lib.rt:37:9
+none-requires : tie.Need-none-requires
+none-requires c κs = search needs
+
+-- src/lib.rt:34:1
+returns : tie.Need-returns
+unfolding mergeStart
+returns c = cc
+
+pub merge-start-spec : {M : Type 1} → statement M
+merge-start-spec = tie.close (tie.spec none-requires returns)

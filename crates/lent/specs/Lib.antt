@@ -1,0 +1,2 @@
+-- Merge with the other points as a lent list.
+pub mod Merge

@@ -1,0 +1,59 @@
+-- 01, "Edits": "Merge can also take the other points as a lent list. One that isn't a valid envelope's points gives 1."
+use Prim.Native.Nat.{ℕ}
+use mathlib.Core.Bool.{Bool, true, false, cond, not, _&&_, _||_}
+use mathlib.Core.List.{List, [], _∷_}
+use lib.ListN.{length}
+use lib.Dec.{leb, ltb}
+use lib.Ieee.{Float}
+use Rattle.points.specs.Point.{finitePoint}
+use Rattle.points.specs.Points.{every, rising, timeKey, listOf, holding}
+use Rattle.points.specs.declared.AutomationPoint.{AutomationPoint}
+use Rattle.points.specs.declared.refusal.Answer.{Answer}
+use Rattle.points.specs.declared.refusal.Answer.the-variants.{Accepted, Refused}
+use Rattle.edits.specs.Settle.{editPoints}
+use Rattle.edits.specs.Insert.{insertPoint}
+use Rattle.edits.specs.declared.EditedPoints.{EditedPoints}
+use Rattle.envelope.specs.Envelope.{new}
+use Rattle.envelope.specs.Edit.{EditTold, withPoints, mergeOf, declined}
+use Rattle.envelope.specs.declared.AutomationEnvelope.{AutomationEnvelope}
+use Rattle.lent.specs.declared.Merging.{Merging}
+
+-- the points of a valid envelope
+unfoldable pub validList : List AutomationPoint → Bool
+validList l = leb (length l) 256 && every finitePoint l && rising l
+
+-- the merge with an envelope that has these points, or 1
+unfoldable pub mergeListOf : AutomationEnvelope → List AutomationPoint → Float → EditTold
+unfolding new
+mergeListOf e l offset = cond (validList l) (mergeOf e (withPoints (new 0) (holding l)) offset) (declined e 1)
+
+-- ---- for the code's own use: its fold
+
+abbrev pub isAccepted : Answer → Bool
+isAccepted Accepted = true
+isAccepted (Refused r) = false
+
+unfoldable pub mergeStart : AutomationEnvelope → ℕ → Float → Merging
+mergeStart e n offset = record { before = e; offset = offset; gathered = holding []; good = leb n 256; begun = false; last = 0 }
+
+-- a point is added to those before it; it is good if its time comes after theirs
+abbrev pub addedTo : Merging → AutomationPoint → EditedPoints
+addedTo m p = editPoints (m .gathered) (finitePoint p) (insertPoint p (listOf (m .gathered)))
+
+unfoldable pub mergeStep : Merging → AutomationPoint → Merging
+mergeStep m p = record {
+  before = m .before;
+  offset = m .offset;
+  gathered = addedTo m p .points;
+  good = (m .good && (not (m .begun) || ltb (m .last) (timeKey p))) && isAccepted (addedTo m p .answer);
+  begun = true;
+  last = timeKey p;
+}
+
+unfoldable pub mergeEnd : Merging → EditTold
+unfolding new
+mergeEnd m = cond (m .good) (mergeOf (m .before) (withPoints (new 0) (m .gathered)) (m .offset)) (declined (m .before) 1)
+
+abbrev pub foldOf : Merging → List AutomationPoint → Merging
+foldOf m [] = m
+foldOf m (p ∷ ps) = foldOf (mergeStep m p) ps
