@@ -33,7 +33,7 @@ pub struct Controls {
 }
 
 // Rust's `t.clamp(0.0, 1.0)`: a NaN stays.
-fn clamp(t: f32) -> f32
+pub fn clamp(t: f32) -> f32
     ensures { λ r. ⌜ r ≡ clamped t ⌝ }
 {
     if t < 0.0 {

@@ -20,6 +20,9 @@ use Rattle.edits.specs.declared.EditedPoints.{EditedPoints}
 use Rattle.edits.specs.declared.each.Change.the-variants as change
 use Rattle.lookup.specs.Limits.{finiteLimit, finiteLimits}
 use Rattle.lookup.specs.declared.Limits.{Limits}
+use Rattle.combine.specs.Combine.{combinedPoints}
+use Rattle.combine.specs.declared.Operation.{Operation}
+use Rattle.combine.specs.declared.Side.{Side}
 use Rattle.envelope.specs.Envelope.{new, limitsOf, validEnvelope}
 use Rattle.envelope.specs.declared.AutomationEnvelope.{AutomationEnvelope}
 use Rattle.envelope.specs.declared.Edited.{Edited}
@@ -29,6 +32,8 @@ use Rattle.envelope.specs.declared.edit.Replacement.{Replacement}
 use Rattle.envelope.specs.declared.edit.Replacement.the-variants.{FadeIn, FadeOut, Pulse, Ramp}
 use Rattle.envelope.specs.declared.edit.Edit.{Edit}
 use Rattle.envelope.specs.declared.edit.Edit.the-variants.{OfPoints, Replace, SetEnabled, SetMin, SetMax, SetStep}
+use Rattle.envelope.specs.declared.edit.Join.{Join}
+use Rattle.envelope.specs.declared.edit.Join.the-variants.{Merge, Combine}
 
 -- "the envelope goes in and its changed successor comes back"
 pub record EditTold : Type 0 where
@@ -118,3 +123,21 @@ editOf (SetStep l) e = setting e (finiteLimit l) (withSettings e (e .enabled) (r
 unfoldable pub mergeOf : AutomationEnvelope → AutomationEnvelope → Float → EditTold
 unfolding edited
 mergeOf e other offset = cond (finiteLimits (limitsOf other)) (edited e (mergedPoints (e .points) (other .points) offset)) (declined e 1)
+
+-- what a combination takes of an envelope
+abbrev pub sideOf : AutomationEnvelope → Side
+sideOf e = record { points = e .points; enabled = e .enabled; limits = limitsOf e }
+
+-- what 000's `combine` makes of two envelopes: "no constraints, is enabled, .. and keeps the first target"
+unfoldable pub combined : AutomationEnvelope → EditedPoints → EditTold
+unfolding new
+combined e r = record { said = said (r .answer); envelope = ifAccepted (r .answer) (withPoints (new (e .target)) (r .points)) e }
+
+unfoldable pub combineOf : Operation → AutomationEnvelope → AutomationEnvelope → EditTold
+unfolding combined
+combineOf op e other = combined e (combinedPoints op (sideOf e) (sideOf other))
+
+-- ---- 01's edits that take a second envelope, the envelope first, then the other
+unfoldable pub joinOf : Join → AutomationEnvelope → AutomationEnvelope → EditTold
+joinOf (Merge offset) e other = mergeOf e other offset
+joinOf (Combine op) e other = combineOf op e other

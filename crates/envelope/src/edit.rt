@@ -3,6 +3,7 @@ ghost use mathlib.Core.Path.{_≡_};
 ghost use Rattle.envelope.specs.Edit.{toldEdit, pointsEdited, replacedPoints, edited, replaced, setting, editOf, withPoints, withSettings, refusedEdit};
 use crate::AutomationEnvelope;
 use crate::Edited;
+use combine::Operation;
 use curve::CurveType;
 use edits::EditedPoints;
 use lookup::Limit;
@@ -49,6 +50,12 @@ pub enum Edit {
     SetMin(Limit),
     SetMax(Limit),
     SetStep(Limit),
+}
+
+// The edits that take a second envelope.
+pub enum Join {
+    Merge(f64),
+    Combine(Operation),
 }
 
 impl PointsEdit {
