@@ -54,7 +54,7 @@ mergeFrom a rest (b ∷ bs) =
 unfoldable pub mergeTimes : List Float → List Float → List Float
 unfolding mergeFrom
 mergeTimes [] bs = bs
-mergeTimes (a ∷ as) bs = mergeFrom a (mergeTimes as) bs
+mergeTimes (a ∷ rest) bs = mergeFrom a (mergeTimes rest) bs
 
 -- ---- the combination of two sides
 

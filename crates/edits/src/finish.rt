@@ -7,7 +7,7 @@ use points::Points;
 use points::refusal::Answer;
 use points::refusal::Refusal;
 
-pub(crate) fn refuse(points: Points, refusal: Refusal) -> EditedPoints
+pub fn refuse(points: Points, refusal: Refusal) -> EditedPoints
     ensures { λ r. ⌜ r ≡ refused points refusal ⌝ }
 {
     EditedPoints {

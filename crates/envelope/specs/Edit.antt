@@ -94,13 +94,14 @@ abbrev pub ifAccepted : {A : Type 0} → Answer → A → A → A
 ifAccepted Accepted x y = x
 ifAccepted (Refused r) x y = y
 
--- "replacement by fade_in, fade_out, pulse or ramp, given the target the envelope has": what 000's constructor makes
+-- what 000's constructors and its `combine` make: an envelope of `new`, with the target the envelope has
+abbrev pub renewed : AutomationEnvelope → EditedPoints → EditTold
+renewed e r = record { said = said (r .answer); envelope = ifAccepted (r .answer) (withPoints (new (e .target)) (r .points)) e }
+
+-- "replacement by fade_in, fade_out, pulse or ramp, given the target the envelope has"
 unfoldable pub replaced : AutomationEnvelope → EditedPoints → EditTold
 unfolding new
-replaced e r =
-    cond (finiteLimits (limitsOf e))
-    (record { said = said (r .answer); envelope = ifAccepted (r .answer) (withPoints (new (e .target)) (r .points)) e })
-    (declined e 1)
+replaced e r = cond (finiteLimits (limitsOf e)) (renewed e r) (declined e 1)
 
 -- "the setting of enabled, and of minimum, maximum and step (each a number or none)": 1, then 3
 unfoldable pub setting : AutomationEnvelope → Bool → AutomationEnvelope → EditTold
@@ -128,14 +129,10 @@ mergeOf e other offset = cond (finiteLimits (limitsOf other)) (edited e (mergedP
 abbrev pub sideOf : AutomationEnvelope → Side
 sideOf e = record { points = e .points; enabled = e .enabled; limits = limitsOf e }
 
--- what 000's `combine` makes of two envelopes: "no constraints, is enabled, .. and keeps the first target"
-unfoldable pub combined : AutomationEnvelope → EditedPoints → EditTold
-unfolding new
-combined e r = record { said = said (r .answer); envelope = ifAccepted (r .answer) (withPoints (new (e .target)) (r .points)) e }
-
+-- "A combination has no constraints, is enabled, .. and keeps the first target": 1 for either envelope is among `combinedPoints`' refusals
 unfoldable pub combineOf : Operation → AutomationEnvelope → AutomationEnvelope → EditTold
-unfolding combined
-combineOf op e other = combined e (combinedPoints op (sideOf e) (sideOf other))
+unfolding new
+combineOf op e other = renewed e (combinedPoints op (sideOf e) (sideOf other))
 
 -- ---- 01's edits that take a second envelope, the envelope first, then the other
 unfoldable pub joinOf : Join → AutomationEnvelope → AutomationEnvelope → EditTold

@@ -1,18 +1,21 @@
 // The Bench's edits, by 000's names: the envelope goes in and its changed successor comes back.
 ghost use mathlib.Core.Path.{_≡_};
-ghost use Rattle.envelope.specs.Edit.{toldEdit, editOf, mergeOf};
+ghost use Rattle.envelope.specs.Edit.{toldEdit, editOf, joinOf};
 ghost use Rattle.envelope.specs.declared.edit.Edit.the-variants.{OfPoints, Replace, SetEnabled, SetMin, SetMax, SetStep};
 ghost use Rattle.envelope.specs.declared.edit.PointsEdit.the-variants.{AddPoint, RemovePointAt, ShiftPoints, ScaleTime, Trim, Reverse, InvertValues, QuantizeTime, Simplify, Normalize, Scale, Offset, ClampValues, ApplyFadeIn, ApplyFadeOut, ApplyFades, ApplyGate, ApplyCompression};
 ghost use Rattle.envelope.specs.declared.edit.Replacement.the-variants.{FadeIn, FadeOut, Pulse, Ramp};
+ghost use Rattle.envelope.specs.declared.edit.Join.the-variants.{Merge, Combine};
+ghost use Rattle.combine.specs.declared.Operation.the-variants.{Blend, Add, Multiply, Min, Max, Subtract};
 use crate::AutomationEnvelope;
 use crate::Edited;
 use crate::edit::Edit;
+use crate::edit::Join;
 use crate::edit::PointsEdit;
 use crate::edit::Replacement;
+use combine::Operation;
 use curve::CurveType;
 use lookup::Limit;
 use points::AutomationPoint;
-use points::refusal::Refusal;
 
 impl AutomationEnvelope {
     pub fn add_point(mut self, p: AutomationPoint) -> Edited
@@ -171,17 +174,47 @@ impl AutomationEnvelope {
         self.edit(Edit::SetStep(step))
     }
 
+    // Blends this envelope with another: 0.0 is this one, 1.0 the other.
+    pub fn blend(mut self, other: AutomationEnvelope, factor: f32) -> Edited
+        ensures { λ r. ⌜ toldEdit r ≡ joinOf (Combine (Blend factor)) self other ⌝ }
+    {
+        self.join(Join::Combine(Operation::Blend(factor)), other)
+    }
+
     // The other's points, each at its time plus the offset.
     pub fn merge(mut self, other: AutomationEnvelope, offset: f64) -> Edited
-        ensures { λ r. ⌜ toldEdit r ≡ mergeOf self other offset ⌝ }
+        ensures { λ r. ⌜ toldEdit r ≡ joinOf (Merge offset) self other ⌝ }
     {
-        let limits = other.limits();
-        if limits.is_finite() {
-            let points = self.points;
-            let others = other.points;
-            self.settle(edits::insert::merge(points, others, offset))
-        } else {
-            self.refuse(Refusal::NotValid)
-        }
+        self.join(Join::Merge(offset), other)
+    }
+
+    pub fn add(mut self, other: AutomationEnvelope) -> Edited
+        ensures { λ r. ⌜ toldEdit r ≡ joinOf (Combine Add) self other ⌝ }
+    {
+        self.join(Join::Combine(Operation::Add), other)
+    }
+
+    pub fn multiply(mut self, other: AutomationEnvelope) -> Edited
+        ensures { λ r. ⌜ toldEdit r ≡ joinOf (Combine Multiply) self other ⌝ }
+    {
+        self.join(Join::Combine(Operation::Multiply), other)
+    }
+
+    pub fn min(mut self, other: AutomationEnvelope) -> Edited
+        ensures { λ r. ⌜ toldEdit r ≡ joinOf (Combine Min) self other ⌝ }
+    {
+        self.join(Join::Combine(Operation::Min), other)
+    }
+
+    pub fn max(mut self, other: AutomationEnvelope) -> Edited
+        ensures { λ r. ⌜ toldEdit r ≡ joinOf (Combine Max) self other ⌝ }
+    {
+        self.join(Join::Combine(Operation::Max), other)
+    }
+
+    pub fn subtract(mut self, other: AutomationEnvelope) -> Edited
+        ensures { λ r. ⌜ toldEdit r ≡ joinOf (Combine Subtract) self other ⌝ }
+    {
+        self.join(Join::Combine(Operation::Subtract), other)
     }
 }

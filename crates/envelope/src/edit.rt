@@ -1,9 +1,10 @@
 // 01's edits as data, and what each makes of an envelope.
 ghost use mathlib.Core.Path.{_≡_};
-ghost use Rattle.envelope.specs.Edit.{toldEdit, pointsEdited, replacedPoints, edited, replaced, setting, editOf, withPoints, withSettings, refusedEdit};
+ghost use Rattle.envelope.specs.Edit.{toldEdit, pointsEdited, replacedPoints, edited, renewed, replaced, setting, editOf, sideOf, mergeOf, combineOf, joinOf, withPoints, withSettings, refusedEdit};
 use crate::AutomationEnvelope;
 use crate::Edited;
 use combine::Operation;
+use combine::Side;
 use curve::CurveType;
 use edits::EditedPoints;
 use lookup::Limit;
@@ -166,24 +167,31 @@ impl AutomationEnvelope {
         }
     }
 
-    // What a replacement makes of it: the settings are new too.
+    // The target, and the points with new settings.
+    fn renew(self, r: EditedPoints) -> Edited
+        ensures { λ t. ⌜ toldEdit t ≡ renewed self r ⌝ }
+    {
+        let answer = r.answer;
+        let points = r.points;
+        match answer {
+            Answer::Accepted => {
+                let fresh = AutomationEnvelope::new(self.target);
+                Edited {
+                    answer: Answer::Accepted,
+                    envelope: fresh.with_points(points),
+                }
+            }
+            Answer::Refused(refusal) => self.refuse(refusal),
+        }
+    }
+
+    // What a replacement makes of it.
     fn replace(self, r: EditedPoints) -> Edited
         ensures { λ t. ⌜ toldEdit t ≡ replaced self r ⌝ }
     {
         let limits = self.limits();
         if limits.is_finite() {
-            let answer = r.answer;
-            let points = r.points;
-            match answer {
-                Answer::Accepted => {
-                    let fresh = AutomationEnvelope::new(self.target);
-                    Edited {
-                        answer: Answer::Accepted,
-                        envelope: fresh.with_points(points),
-                    }
-                }
-                Answer::Refused(refusal) => self.refuse(refusal),
-            }
+            self.renew(r)
         } else {
             self.refuse(Refusal::NotValid)
         }
@@ -291,6 +299,52 @@ impl AutomationEnvelope {
                     ),
                 )
             }
+        }
+    }
+}
+
+impl AutomationEnvelope {
+    // What a combination takes of it.
+    fn side(self) -> Side
+        ensures { λ r. ⌜ r ≡ sideOf self ⌝ }
+    {
+        let points = self.points;
+        let limits = self.limits();
+        Side {
+            points,
+            enabled: self.enabled,
+            limits,
+        }
+    }
+
+    // The other's points, each at its time plus the offset.
+    fn merge_with(self, other: AutomationEnvelope, offset: f64) -> Edited
+        ensures { λ r. ⌜ toldEdit r ≡ mergeOf self other offset ⌝ }
+    {
+        let limits = other.limits();
+        if limits.is_finite() {
+            let points = self.points;
+            let others = other.points;
+            self.settle(edits::insert::merge(points, others, offset))
+        } else {
+            self.refuse(Refusal::NotValid)
+        }
+    }
+
+    // The operation on both values, at every time of either.
+    fn combine_with(self, other: AutomationEnvelope, operation: Operation) -> Edited
+        ensures { λ r. ⌜ toldEdit r ≡ combineOf operation self other ⌝ }
+    {
+        self.renew(combine::combine(operation, self.side(), other.side()))
+    }
+
+    // Any of 01's edits that take a second envelope.
+    pub fn join(mut self, join: Join, other: AutomationEnvelope) -> Edited
+        ensures { λ r. ⌜ toldEdit r ≡ joinOf join self other ⌝ }
+    {
+        match join {
+            Join::Merge(offset) => self.merge_with(other, offset),
+            Join::Combine(operation) => self.combine_with(other, operation),
         }
     }
 }
