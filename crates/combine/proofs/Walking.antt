@@ -1,5 +1,5 @@
 -- The ordered walk of two lists of points: what one turn does, and what the turns have done. Assumes nothing.
-use Prim.Native.Nat.{ℕ, zero, suc, _+_, _-_, _≤_, _<_}
+use Prim.Native.Nat.{ℕ, _+_, _-_, _≤_, _<_, min}
 use mathlib.Core.Path.{_≡_, refl, sym, ap, subst, _∙_}
 use mathlib.Core.Bool.{Bool, true, false, cond, _&&_}
 use mathlib.Core.List.{List, [], _∷_, _++_, map, append-assoc, append-nil}
@@ -10,22 +10,27 @@ use lib.Dec.{ltb, leb, eqb}
 use lib.ListN.{length, take, drop, getD, set, length-append, length-map, length-take, drop-of-length-le, List·getD-map}
 use lib.Seq.{drop-cons, getD-take, length-take-le, take-all, take-append-le}
 use lib.Ieee.{Float}
-use borrow.Author.Tests.{ltb-true, ltb-false, leb-true, leb-false, eqb-true, eqb-false}
+use borrow.Author.Tests.{ltb-true, ltb-false, leb-true, leb-false, le-leb, lt-leb, eqb-true, eqb-false}
 use Rattle.numbers.specs.Order.{orderKey}
 use Rattle.points.specs.Point.{anyPoint, finitePoint}
-use Rattle.points.specs.Points.{every, rising, timeKey, listOf, holding}
+use Rattle.curve.specs.declared.CurveType.the-variants.{Linear}
+use Rattle.points.specs.Points.{every, rising, timeKey, listOf, holding, validPoints}
 use Rattle.points.specs.Laws.{every-append, every-one}
 use Rattle.points.specs.Search.{placeBy, place-at, rising-at, lower-up-to}
+use Rattle.points.specs.ValidLaws.{valid-count, valid-rising}
 use Rattle.points.specs.declared.AutomationPoint.{AutomationPoint}
 use Rattle.points.specs.declared.Points.{Points}
+use Rattle.edits.specs.Insert.{pointWith}
 use Rattle.edits.proofs.Ends.{pushed}
 use Rattle.lookup.specs.Lookup.{pointAt}
-use Rattle.combine.specs.Combine.{mergeFrom, mergeTimes, timeOf, timesOf, combinedPoint, combinedList}
-use Rattle.combine.specs.Walk.{nextOf, walked}
+use Rattle.combine.specs.Combine.{applied, mergeFrom, mergeTimes, timeOf, timesOf, sideAt, combinedPoint, combinedList}
+use Rattle.combine.specs.Walk.{endsOf, sideWith, nearAt, nextOf, walked}
 use Rattle.combine.specs.declared.Operation.{Operation}
 use Rattle.combine.specs.declared.Side.{Side}
+use Rattle.combine.specs.declared.Ends.{Ends}
 use Rattle.combine.specs.declared.Next.{Next}
 use Rattle.combine.specs.declared.Walked.{Walked}
+use Rattle.combine.proofs.Near.{near-is}
 
 -- ---- a step of the merge, by what stands first in each list
 module _ (P Q : List Float) where
@@ -301,6 +306,43 @@ module _ (op : Operation) (a b : Side) (out : Points) (ok : Bool) (total i j : �
   pub turn-full : 256 ≤ out .count → out′ ≡ out → Done op a b out′ (ok && t) (total + 1) (x .i) (x .j)
   turn-full h o = turned (o ∙ push-full out (map f (d .times)) p (d .out-is) h)
 
+-- ---- a turn of the code, over what it has read at the places i0, i1, j0 and j1
+
+at-place : (l : List AutomationPoint) (i k n : ℕ) → k ≡ min i 255 → n ≤ 256 → i < n → pointAt l k ≡ pointAt l i
+at-place l i k n e f h = let w : k ≡ i = omega arith in ap (pointAt l) w
+
+module _ (op : Operation) (a b : Points) (left right : Ends) (va : validPoints a ≡ true) (vb : validPoints b ≡ true) (fa : a .count ≤ length (a .places)) (fb : b .count ≤ length (b .places))
+    (ea : left ≡ endsOf (sideWith a left)) (eb : right ≡ endsOf (sideWith b right))
+    (i j i0 i1 j0 j1 : ℕ) (ai : i0 ≡ i - 1) (bi : i1 ≡ min i 255) (aj : j0 ≡ j - 1) (bj : j1 ≡ min j 255) where
+  abbrev first : Side
+  first = sideWith a left
+
+  abbrev other : Side
+  other = sideWith b right
+
+  pub stepped : (x : Next) → i ≤ a .count → j ≤ b .count → sidesApart first other i j → i + j < a .count + b .count
+      → x ≡ nextOf (a .count) (b .count) i j (pointAt (a .places) i1 .time) (pointAt (b .places) j1 .time) → Step first other i j x
+  stepped x h k apart more e =
+      subst (λ (y : Next). Step first other i j y) (sym e)
+      (step first other i j fa fb (valid-rising a va) (valid-rising b vb) h k apart more (pointAt (a .places) i1) (pointAt (b .places) j1)
+      (at-place (a .places) i i1 (a .count) bi (valid-count a va)) (at-place (b .places) j j1 (b .count) bj (valid-count b vb)))
+
+  pub made-is : (x : Next) (u v w : Float) (p : AutomationPoint) → Step first other i j x
+      → u ≡ nearAt left i (pointAt (a .places) i0) (pointAt (a .places) i1) (x .time) → v ≡ nearAt right j (pointAt (b .places) j0) (pointAt (b .places) j1) (x .time)
+      → w ≡ applied op u v → p ≡ pointWith (x .time) w Linear → p ≡ combinedPoint op first other (x .time)
+  made-is x u v w p s hu hv hw hp =
+      hp ∙ ap (λ (z : Float). pointWith (x .time) z Linear) (hw ∙ λ n. applied op (u-is n) (v-is n))
+    where
+      u-is : u ≡ sideAt first (x .time)
+      u-is =
+          hu ∙ ap (λ (e : Ends). nearAt e i (pointAt (a .places) i0) (pointAt (a .places) i1) (x .time)) ea
+          ∙ near-is first (x .time) i (pointAt (a .places) i0) (pointAt (a .places) i1) fa (s .place) (ap (pointAt (a .places)) ai) (at-place (a .places) i i1 (a .count) bi (valid-count a va))
+      v-is : v ≡ sideAt other (x .time)
+      v-is =
+          hv ∙ ap (λ (e : Ends). nearAt e j (pointAt (b .places) j0) (pointAt (b .places) j1) (x .time)) eb
+          ∙ near-is other (x .time) j (pointAt (b .places) j0) (pointAt (b .places) j1) fb (s .place′) (ap (pointAt (b .places)) aj) (at-place (b .places) j j1 (b .count) bj (valid-count b vb))
+
+-- ---- where the walk ends
 pub ended : (op : Operation) (a b : Side) (out : Points) (ok : Bool) (total i j : ℕ) → a .points .count ≤ length (a .points .places) → b .points .count ≤ length (b .points .places)
     → a .points .count ≤ i → b .points .count ≤ j → Done op a b out ok total i j → _≡_ {A = Walked} (record { ok = ok; total = total; points = out }) (walked op a b)
 unfolding walked mergeTimes
@@ -313,3 +355,34 @@ ended op a b out ok total i j fa fb h k d =
       total = (d .total-is ∙ ap length at ∙ sym (length-map (mergeTimes (timesOf a) (timesOf b)) f)) n;
       points = (d .out-is ∙ ap (λ (l : List Float). holding (take 256 (map f l))) at) n;
     }
+
+-- ---- the walk's answer, over the sides that the code has taken apart
+
+pub ends-own : (s : Side) (e : Ends) → e ≡ endsOf s → e ≡ endsOf (sideWith (s .points) e)
+ends-own s e h = subst (λ (x : Ends). x ≡ endsOf (sideWith (s .points) x)) (sym h) refl
+
+side-own : (s : Side) (e : Ends) → e ≡ endsOf s → sideWith (s .points) e ≡ s
+side-own s e h = subst (λ (x : Ends). sideWith (s .points) x ≡ s) (sym h) refl
+
+module _ (op : Operation) (a b : Side) (left right : Ends) (ha : left ≡ endsOf a) (hb : right ≡ endsOf b) (w : Walked)
+    (h : w ≡ walked op (sideWith (a .points) left) (sideWith (b .points) right)) where
+  walk-is : w ≡ walked op a b
+  walk-is = h ∙ λ i. walked op (side-own a left ha i) (side-own b right hb i)
+
+  pub ok-is : w .ok ≡ every finitePoint (combinedList op a b)
+  unfolding walked
+  ok-is = ap (λ (x : Walked). x .ok) walk-is
+
+  total-is : w .total ≡ length (combinedList op a b)
+  unfolding walked
+  total-is = ap (λ (x : Walked). x .total) walk-is
+
+  pub few-is : w .total ≤ 256 → leb (length (combinedList op a b)) 256 ≡ true
+  few-is k = le-leb (length (combinedList op a b)) 256 (subst (λ (n : ℕ). n ≤ 256) total-is k)
+
+  pub many-is : 256 < w .total → leb (length (combinedList op a b)) 256 ≡ false
+  many-is k = lt-leb (length (combinedList op a b)) 256 (subst (λ (n : ℕ). 256 < n) total-is k)
+
+  pub points-are : w .total ≤ 256 → w .points ≡ holding (combinedList op a b)
+  unfolding walked
+  points-are k = ap (λ (x : Walked). x .points) walk-is ∙ ap holding (take-all 256 (combinedList op a b) (omega (arith, total-is)))
