@@ -7,3 +7,4 @@ pub mod EditLaws
 pub mod TypedLists
 pub mod TypedLaws
 pub mod TypedLookup
+pub mod JoinLaws

@@ -1,0 +1,106 @@
+-- The edits that take a second envelope: accepted they leave a valid envelope, refused they change nothing, the target stays, and the numbers stay in range of their types. Assumes nothing.
+use Prim.Native.Nat.{ℕ}
+use mathlib.Core.Path.{_≡_}
+use mathlib.Core.Bool.{true, _&&_}
+use mathlib.Core.Option.{Option, none, some, Option·getD}
+use lib.Dec.{T}
+use lib.Ieee.{Float, binary32, binary64, fits}
+use lib.Ieee.Bits.{ofBits-fits}
+use lib.Ieee.Fits.{add-fits, sub-fits, mul-fits}
+use Rattle.numbers.specs.Tests.{yes as passes}
+use Rattle.curve.specs.F32.{f0}
+use Rattle.curve.specs.declared.CurveType.the-variants.{Linear}
+use Rattle.points.specs.Refusal.{gives, refuses, number}
+use Rattle.points.specs.Points.{every, listOf, holding, validPoints}
+use Rattle.points.specs.ValidLaws.{valid-count}
+use Rattle.points.specs.declared.refusal.Refusal.{Refusal}
+use Rattle.points.specs.declared.refusal.Refusal.the-variants.{NotValid}
+use Rattle.edits.specs.Settle.{refused}
+use Rattle.edits.specs.declared.EditedPoints.{EditedPoints}
+use Rattle.lookup.specs.Lookup.{valueAt}
+use Rattle.combine.specs.Combine.{finiteOperation, applied, mergeTimes, timeOf, timesOf, validSide, sideAt, combinedPoint, combinedList, combinedPoints}
+use Rattle.combine.specs.Times.{merged-every}
+use Rattle.combine.specs.declared.Operation.{Operation}
+use Rattle.combine.specs.declared.Operation.the-variants.{Blend, Add, Multiply, Min, Max, Subtract}
+use Rattle.combine.specs.declared.Side.{Side}
+use Rattle.envelope.specs.Envelope.{limitsOf, validEnvelope}
+use Rattle.envelope.specs.Edit.{renewed, sideOf, combineOf, joinOf}
+use Rattle.envelope.specs.Typed.{typedPoint, typedPoints, typed}
+use Rattle.envelope.specs.EditLaws.{either, accepted, edit-either, Fair, declines, renews, merge-fair}
+use Rattle.envelope.specs.TypedLists.{TypedList, every-map, point-parts, linear-typed, pointWith-typed, listOf-typed, holding-typed}
+use Rattle.envelope.specs.TypedLookup.{FitsIf, maxNum-fits, minNum-fits, valueAt-fits}
+use Rattle.envelope.specs.TypedLaws.{parted, renewed-typed, merge-typed}
+use Rattle.envelope.specs.declared.AutomationEnvelope.{AutomationEnvelope}
+use Rattle.envelope.specs.declared.edit.Join.{Join}
+use Rattle.envelope.specs.declared.edit.Join.the-variants.{Merge, Combine}
+
+-- ---- a combination either refuses and keeps the first one's points, or holds a list that gives valid ones
+combine-either : (P : EditedPoints → Type 0) (op : Operation) (a b : Side) → ((n : Refusal) → P (refused (a .points) n))
+    → (validPoints (holding (combinedList op a b)) ≡ true → P (accepted (combinedList op a b))) → P (combinedPoints op a b)
+unfolding combinedPoints
+combine-either P op a b refusing holds =
+    either P (validSide a && validSide b) (λ v. edit-either P (a .points) refusing (finiteOperation op) (combinedList op a b) holds) (refusing NotValid)
+
+combine-fair : (op : Operation) (e other : AutomationEnvelope) → Fair e (combineOf op e other)
+unfolding combineOf
+combine-fair op e other =
+    combine-either (λ (r : EditedPoints). Fair e (renewed e r)) op (sideOf e) (sideOf other) (λ n. declines e (number n)) (λ v. renews e (combinedList op (sideOf e) (sideOf other)) v)
+
+join-fair : (j : Join) (e other : AutomationEnvelope) → Fair e (joinOf j e other)
+unfolding joinOf
+join-fair (Merge offset) e other = merge-fair e other offset
+join-fair (Combine op) e other = combine-fair op e other
+
+-- an accepted edit leaves a valid envelope
+pub join-valid : (j : Join) (e other : AutomationEnvelope) → joinOf j e other .said ≡ gives tt → validEnvelope (joinOf j e other .envelope) ≡ true
+join-valid j e other h = join-fair j e other .valid h
+
+-- "A refusal returns its number .. and changes nothing."
+pub join-refused : (j : Join) (e other : AutomationEnvelope) (n : ℕ) → joinOf j e other .said ≡ refuses n → joinOf j e other .envelope ≡ e
+join-refused j e other n h = join-fair j e other .kept n h
+
+-- "keeps the first target"
+pub join-target : (j : Join) (e other : AutomationEnvelope) → joinOf j e other .envelope .target ≡ e .target
+join-target j e other = join-fair j e other .target
+
+-- ---- numbers in range: the values are results of f32 arithmetic, or one of the two; the times are times of either
+
+applied-fits : (op : Operation) (x y : Float) → T (fits binary32 x) → T (fits binary32 y) → T (fits binary32 (applied op x y))
+applied-fits (Blend factor) x y h k = add-fits binary32 _ _
+applied-fits Add x y h k = add-fits binary32 x y
+applied-fits Multiply x y h k = mul-fits binary32 x y
+applied-fits Min x y h k = minNum-fits x y h k
+applied-fits Max x y h k = maxNum-fits x y h k
+applied-fits Subtract x y h k = sub-fits binary32 x y
+
+-- 0.0 where there is none
+or-zero : (v : Option Float) → FitsIf v → T (fits binary32 (Option·getD v f0))
+or-zero none h = ofBits-fits binary32 0
+or-zero (some v) h = h
+
+module _ (e : AutomationEnvelope) (t : typed e ≡ true) where
+  side-fits : (time : Float) → T (fits binary32 (sideAt (sideOf e) time))
+  side-fits time =
+      let p = parted e t in
+      or-zero (valueAt (e .points) (e .enabled) (limitsOf e) time) (valueAt-fits (limitsOf e) (p .least) (p .greatest) (e .points) (e .enabled) time (listOf-typed (e .points) (p .points)))
+
+  times-fit : every (fits binary64) (timesOf (sideOf e)) ≡ true
+  times-fit = every-map typedPoint (fits binary64) timeOf (λ p u. point-parts p u .0) (listOf (e .points)) (listOf-typed (e .points) (parted e t .points))
+
+combinedList-typed : (op : Operation) (e other : AutomationEnvelope) → typed e ≡ true → typed other ≡ true → TypedList (combinedList op (sideOf e) (sideOf other))
+combinedList-typed op e other t u =
+    every-map (fits binary64) typedPoint (combinedPoint op (sideOf e) (sideOf other))
+    (λ time h. pointWith-typed time (applied op (sideAt (sideOf e) time) (sideAt (sideOf other) time)) Linear (passes h) (applied-fits op _ _ (side-fits e t time) (side-fits other u time)) linear-typed)
+    (mergeTimes (timesOf (sideOf e)) (timesOf (sideOf other)))
+    (merged-every (fits binary64) (timesOf (sideOf e)) (timesOf (sideOf other)) (times-fit e t) (times-fit other u))
+
+combinedPoints-typed : (op : Operation) (e other : AutomationEnvelope) → typed e ≡ true → typed other ≡ true → typedPoints (combinedPoints op (sideOf e) (sideOf other) .points) ≡ true
+combinedPoints-typed op e other t u =
+    let l = combinedList op (sideOf e) (sideOf other) in
+    combine-either (λ (r : EditedPoints). typedPoints (r .points) ≡ true) op (sideOf e) (sideOf other) (λ n. parted e t .points)
+    (λ v. holding-typed l (valid-count (holding l) v) (combinedList-typed op e other t u))
+
+pub join-typed : (j : Join) (e other : AutomationEnvelope) → typed e ≡ true → typed other ≡ true → typed (joinOf j e other .envelope) ≡ true
+unfolding joinOf combineOf
+join-typed (Merge offset) e other t u = merge-typed e other offset t u
+join-typed (Combine op) e other t u = renewed-typed e (combinedPoints op (sideOf e) (sideOf other)) t (combinedPoints-typed op e other t u)
