@@ -21,8 +21,9 @@ use Rattle.edits.specs.Insert.{insertPoint}
 use Rattle.edits.specs.declared.EditedPoints.{EditedPoints}
 use Rattle.edits.proofs.Inserting.{insert-last, rising-prefix}
 use Rattle.envelope.specs.Envelope.{new}
-use Rattle.envelope.specs.Edit.{EditTold, withPoints, mergeOf, declined}
+use Rattle.envelope.specs.Edit.{EditTold, withPoints, joinOf, declined}
 use Rattle.envelope.specs.declared.AutomationEnvelope.{AutomationEnvelope}
+use Rattle.envelope.specs.declared.edit.Join.the-variants.{Merge}
 use Rattle.lent.specs.Merge.{validList, mergeListOf, isAccepted, mergeStart, addedTo, mergeStep, mergeEnd, foldOf}
 use Rattle.lent.specs.declared.Merging.{Merging}
 
@@ -164,18 +165,18 @@ folded e ps d = go (validList ps) refl
     r : Merging
     r = foldOf (mergeStart e (length ps) d) ps
 
-    go : (v : Bool) → validList ps ≡ v → cond (r .good) (mergeOf (r .before) (withPoints (new 0) (r .gathered)) (r .offset)) (declined (r .before) 1) ≡ cond v (mergeOf e (withPoints (new 0) (holding ps)) d) (declined e 1)
+    go : (v : Bool) → validList ps ≡ v → cond (r .good) (joinOf (Merge (r .offset)) (r .before) (withPoints (new 0) (r .gathered))) (declined (r .before) 1) ≡ cond v (joinOf (Merge d) e (withPoints (new 0) (holding ps))) (declined e 1)
     go true h =
         let ok = begins e ps d .0 ∙ h in
         let held = begins e ps d .1 ok in
-        λ i. cond (ok i) (mergeOf (fold-before (mergeStart e (length ps) d) ps i) (withPoints (new 0) (held i)) (fold-offset (mergeStart e (length ps) d) ps i)) (declined (fold-before (mergeStart e (length ps) d) ps i) 1)
+        λ i. cond (ok i) (joinOf (Merge (fold-offset (mergeStart e (length ps) d) ps i)) (fold-before (mergeStart e (length ps) d) ps i) (withPoints (new 0) (held i))) (declined (fold-before (mergeStart e (length ps) d) ps i) 1)
     go false h =
         rw (begins e ps d .0 ∙ h) (ap (λ (x : AutomationEnvelope). declined x 1) (fold-before (mergeStart e (length ps) d) ps))
 
 -- ---- the end
 
-pub end-good : (m : Merging) (none : AutomationEnvelope) → none ≡ new 0 → m .good ≡ true → mergeOf (m .before) (withPoints none (m .gathered)) (m .offset) ≡ mergeEnd m
+pub end-good : (m : Merging) (none : AutomationEnvelope) → none ≡ new 0 → m .good ≡ true → joinOf (Merge (m .offset)) (m .before) (withPoints none (m .gathered)) ≡ mergeEnd m
 unfolding mergeEnd
 end-good m none n h =
-    ap (λ (x : AutomationEnvelope). mergeOf (m .before) (withPoints x (m .gathered)) (m .offset)) n
-    ∙ sym (ap (λ (b : Bool). cond b (mergeOf (m .before) (withPoints (new 0) (m .gathered)) (m .offset)) (declined (m .before) 1)) h)
+    ap (λ (x : AutomationEnvelope). joinOf (Merge (m .offset)) (m .before) (withPoints x (m .gathered))) n
+    ∙ sym (ap (λ (b : Bool). cond b (joinOf (Merge (m .offset)) (m .before) (withPoints (new 0) (m .gathered))) (declined (m .before) 1)) h)

@@ -14,8 +14,9 @@ use Rattle.edits.specs.Settle.{editPoints}
 use Rattle.edits.specs.Insert.{insertPoint}
 use Rattle.edits.specs.declared.EditedPoints.{EditedPoints}
 use Rattle.envelope.specs.Envelope.{new}
-use Rattle.envelope.specs.Edit.{EditTold, withPoints, mergeOf, declined}
+use Rattle.envelope.specs.Edit.{EditTold, withPoints, joinOf, declined}
 use Rattle.envelope.specs.declared.AutomationEnvelope.{AutomationEnvelope}
+use Rattle.envelope.specs.declared.edit.Join.the-variants.{Merge}
 use Rattle.lent.specs.declared.Merging.{Merging}
 
 -- the points of a valid envelope
@@ -25,7 +26,7 @@ validList l = leb (length l) 256 && every finitePoint l && rising l
 -- the merge with an envelope that has these points, or 1
 unfoldable pub mergeListOf : AutomationEnvelope → List AutomationPoint → Float → EditTold
 unfolding new
-mergeListOf e l offset = cond (validList l) (mergeOf e (withPoints (new 0) (holding l)) offset) (declined e 1)
+mergeListOf e l offset = cond (validList l) (joinOf (Merge offset) e (withPoints (new 0) (holding l))) (declined e 1)
 
 -- ---- for the code's own use: its fold
 
@@ -52,7 +53,7 @@ mergeStep m p = record {
 
 unfoldable pub mergeEnd : Merging → EditTold
 unfolding new
-mergeEnd m = cond (m .good) (mergeOf (m .before) (withPoints (new 0) (m .gathered)) (m .offset)) (declined (m .before) 1)
+mergeEnd m = cond (m .good) (joinOf (Merge (m .offset)) (m .before) (withPoints (new 0) (m .gathered))) (declined (m .before) 1)
 
 abbrev pub foldOf : Merging → List AutomationPoint → Merging
 foldOf m [] = m
