@@ -44,7 +44,7 @@ const AROUND_ZERO: [f64; 12] = [
     3.0,
 ];
 
-const NOT_FINITE: [f64; 3] = [f64::NAN, f64::INFINITY, f64::NEG_INFINITY];
+pub const NOT_FINITE: [f64; 3] = [f64::NAN, f64::INFINITY, f64::NEG_INFINITY];
 
 impl Random {
     fn times(&mut self, count: u64) -> Times {
@@ -107,10 +107,15 @@ impl Random {
     }
 
     pub fn envelope(&mut self) -> Envelope {
+        self.envelope_of(Random::number_of_points)
+    }
+
+    /// An envelope with about as many points as the function says.
+    pub fn envelope_of(&mut self, number_of_points: fn(&mut Random) -> u64) -> Envelope {
         let target = self.one_of(&[0, 1, 2, 3, 4, 4_294_967_295]);
         let mut e = Envelope::new(target);
         e.enabled = !self.once_in(12);
-        let count = self.number_of_points();
+        let count = number_of_points(self);
         let (times, values) = (self.times(count), self.values());
         for _ in 0..4 * count {
             if e.points.len() as u64 == count {
@@ -416,6 +421,22 @@ impl Random {
         }
     }
 
+    /// The last sample of a range: mostly not before the first, and now and then where the place
+    /// after it just passes 2^64 - 1 or just doesn't.
+    pub fn last_sample(&mut self, e: &Envelope, from: u64) -> u64 {
+        let x = self.lookup_sample(e);
+        match self.below(12) {
+            0 => x,
+            1 => u64::MAX - self.below(3),
+            2 => {
+                let about = u64::MAX - (u64::MAX - from) / 101;
+                about.saturating_add(self.below(200)).saturating_sub(100)
+            }
+            3..=6 => from.saturating_add(self.below(700)),
+            _ => x.max(from),
+        }
+    }
+
     // ---- rates and durations
 
     /// A rate of samples.
@@ -461,7 +482,7 @@ impl Random {
 }
 
 /// In order of time, without times that are bit for bit the same.
-fn sort(e: &mut Envelope) {
+pub fn sort(e: &mut Envelope) {
     e.points.sort_by(|a, b| a.time.total_cmp(&b.time));
     e.points.dedup_by_key(|p| p.time.to_bits());
 }

@@ -3,6 +3,7 @@
 mod calls;
 mod domain;
 mod edges;
+mod edits;
 mod envelopes;
 mod random;
 mod records;

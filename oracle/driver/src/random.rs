@@ -1,6 +1,7 @@
 //! Random calls. The same seed gives the same calls, on any machine.
 use crate::domain::MOST;
 use crate::edges;
+use crate::edits;
 use crate::records::{curve_of, AutomationPoint, CurveType};
 use crate::text::{signature, Arg, OPERATIONS};
 
@@ -123,7 +124,8 @@ impl Random {
     fn count(&mut self, op: &str, before: &[Arg]) -> u64 {
         use Arg::*;
         match (op, before) {
-            ("peaks" | "valleys", _) => self.one_of(&[0, 1, 2, 300, 300, 300]),
+            ("peaks", [E(e), ..]) => self.length(e.find_peaks().len() as u64),
+            ("valleys", [E(e), ..]) => self.length(e.find_valleys().len() as u64),
             ("sheet", _) => self.one_of(&[100, 150, 20000, 20000]),
             ("render", [E(e), D(rate)]) => self.first_sample(e, *rate, MOST),
             ("render", [_, _, _, N(count), N(place)]) => self.length(place + count),
@@ -171,28 +173,13 @@ impl Random {
         match (kind, first) {
             ('T', Some(e)) => Arg::D(self.lookup_time(e)),
             ('D' | 'T', _) => Arg::D(self.number(op, near.as_ref(), before)),
-            ('F' | 'G', _) => Arg::F(match near {
-                _ if self.once_in(30) => self.one_of(&[f32::INFINITY, f32::NEG_INFINITY, f32::NAN]),
-                Some(p) if self.once_in(2) => p.value,
-                _ => self.single(),
+            ('U', Some(e)) => Arg::U(match before.get(1) {
+                Some(Arg::U(from)) => self.last_sample(e, *from),
+                _ if op == "range_samples" && self.once_in(12) => u64::MAX - self.below(1000),
+                _ => self.lookup_sample(e),
             }),
-            ('U', Some(e)) => {
-                let x = self.lookup_sample(e);
-                Arg::U(match before.get(1) {
-                    Some(Arg::U(s)) if self.once_in(2) => s.saturating_add(self.below(700)),
-                    Some(Arg::U(s)) if !self.once_in(5) => x.max(*s),
-                    _ => x,
-                })
-            }
             ('U', None) => Arg::U(self.word()),
             ('N', _) => Arg::N(self.count(op, before)),
-            ('B', _) => Arg::B(self.once_in(2)),
-            ('O', _) => Arg::O(if self.once_in(30) {
-                Some(f32::NAN)
-            } else {
-                self.optional()
-            }),
-            ('C', _) => Arg::C(self.curve()),
             ('P', _) => {
                 let q = match before.first() {
                     Some(Arg::P(q)) => Some(q),
@@ -214,8 +201,10 @@ impl Random {
     /// A call of an operation.
     pub fn call(&mut self, op: &str) -> Vec<Arg> {
         let (kinds, group) = signature(op).unwrap_or_else(|| panic!("no operation {op}"));
-        if group == 'n' {
-            return edges::arguments(self, op);
+        match group {
+            'n' => return edges::arguments(self, op),
+            'e' | 'c' => return edits::arguments(self, op),
+            _ => {}
         }
         let mut a = vec![];
         for kind in kinds.chars() {
