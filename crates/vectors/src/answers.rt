@@ -8,7 +8,7 @@ use crate::text::Place;
 use crate::text::Word;
 use crate::text::after;
 use crate::text::answers_single_as;
-use crate::text::decimal_at;
+use crate::text::decimal_after;
 use crate::text::ended;
 use envelope::Edited;
 use lookup::Lookup;
@@ -38,10 +38,7 @@ fn number(why: Refusal) -> u32
 }
 
 fn says_refusal(s: &[u8], at: usize, why: Refusal) -> Place {
-    let Place::At(start) = after(s, at, b" => refuse") else {
-        return Place::Nowhere;
-    };
-    let Word::Is(n, next) = decimal_at(s, start) else {
+    let Word::Is(n, next) = decimal_after(s, at, b" => refuse ") else {
         return Place::Nowhere;
     };
     if n == number(why) as u64 {

@@ -6,8 +6,7 @@ use crate::answers::answers_refusal;
 use crate::text::Outcome;
 use crate::text::Place;
 use crate::text::Word;
-use crate::text::after;
-use crate::text::decimal_at;
+use crate::text::decimal_after;
 use crate::text::ended;
 use crate::text::same_single;
 use crate::text::says_single;
@@ -34,8 +33,9 @@ pub fn marked() -> [f32; 1024]
     buffer
 }
 
-fn unchanged(buffer: &[f32]) -> bool {
-    let mut i: usize = 0;
+// Whether the places from one on hold what they held before.
+pub fn unchanged(buffer: &[f32], from: usize) -> bool {
+    let mut i = from;
     while i < buffer.len() {
         if same_single(buffer[i], mark(i)) {
             i += 1;
@@ -60,10 +60,7 @@ fn says_buffer(s: &[u8], at: usize, buffer: &[f32]) -> Place {
 }
 
 fn answers_filled(s: &[u8], at: usize, buffer: &[f32]) -> Outcome {
-    let Place::At(start) = after(s, at, b" => ok buffer") else {
-        return Outcome::Differs;
-    };
-    let Word::Is(n, next) = decimal_at(s, start) else {
+    let Word::Is(n, next) = decimal_after(s, at, b" => ok buffer ") else {
         return Outcome::Differs;
     };
     if n == buffer.len() as u64 {
@@ -77,7 +74,7 @@ pub fn answers_buffer(s: &[u8], at: usize, answer: Answer, buffer: &[f32]) -> Ou
     match answer {
         Answer::Accepted => answers_filled(s, at, buffer),
         Answer::Refused(why) => {
-            if unchanged(buffer) {
+            if unchanged(buffer, 0) {
                 return answers_refusal(s, at, why);
             }
             Outcome::Differs

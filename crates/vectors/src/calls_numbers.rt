@@ -1,8 +1,10 @@
 // The calls of the numbers: each reads its arguments, and holds what `numbers` gives against the
 // line's answer. A line is `NAME ARGUMENTS => ok ANSWER`; `at` is the place after the name.
 use crate::text::Double;
+use crate::text::Doubles;
 use crate::text::Outcome;
 use crate::text::Single;
+use crate::text::Singles;
 use crate::text::Word;
 use crate::text::after;
 use crate::text::answers_double;
@@ -12,14 +14,10 @@ use crate::text::double_at;
 use crate::text::ended;
 use crate::text::is;
 use crate::text::single_at;
+use crate::text::two_doubles_at;
+use crate::text::two_singles_at;
 use crate::text::word_at;
 use numbers::order::Ordering;
-
-// Two numbers, and the place after them.
-enum Pair {
-    Bad,
-    Are(f32, f32, usize),
-}
 
 pub fn run(s: &[u8], at: usize) -> Outcome {
     if is(s, at, b"roundf") {
@@ -105,10 +103,7 @@ fn f64_to_u64(s: &[u8], at: usize) -> Outcome {
 }
 
 fn total_cmp(s: &[u8], at: usize) -> Outcome {
-    let Double::Is(x, second) = double_at(s, at) else {
-        return Outcome::Differs;
-    };
-    let Double::Is(y, next) = double_at(s, second) else {
+    let Doubles::Are(x, y, next) = two_doubles_at(s, at) else {
         return Outcome::Differs;
     };
     match numbers::order::total_cmp(x, y) {
@@ -118,25 +113,15 @@ fn total_cmp(s: &[u8], at: usize) -> Outcome {
     }
 }
 
-fn pair_at(s: &[u8], at: usize) -> Pair {
-    let Single::Is(x, second) = single_at(s, at) else {
-        return Pair::Bad;
-    };
-    let Single::Is(y, next) = single_at(s, second) else {
-        return Pair::Bad;
-    };
-    Pair::Are(x, y, next)
-}
-
 fn fmax(s: &[u8], at: usize) -> Outcome {
-    let Pair::Are(x, y, next) = pair_at(s, at) else {
+    let Singles::Are(x, y, next) = two_singles_at(s, at) else {
         return Outcome::Differs;
     };
     answers_single(s, next, numbers::order::max(x, y))
 }
 
 fn fmin(s: &[u8], at: usize) -> Outcome {
-    let Pair::Are(x, y, next) = pair_at(s, at) else {
+    let Singles::Are(x, y, next) = two_singles_at(s, at) else {
         return Outcome::Differs;
     };
     answers_single(s, next, numbers::order::min(x, y))

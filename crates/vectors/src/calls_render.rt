@@ -4,12 +4,14 @@ use crate::buffers::answers_buffer;
 use crate::buffers::marked;
 use crate::records::envelope_at;
 use crate::text::Double;
+use crate::text::Doubles;
 use crate::text::Outcome;
 use crate::text::Place;
 use crate::text::Word;
 use crate::text::decimal_at;
 use crate::text::double_at;
 use crate::text::is;
+use crate::text::two_doubles_at;
 use envelope::AutomationEnvelope;
 
 // The stated place of a buffer, and the buffer's length.
@@ -124,13 +126,10 @@ fn to_buffer(s: &[u8], at: usize) -> Outcome {
     let Place::At(second) = end else {
         return Outcome::Differs;
     };
-    let Double::Is(rate, third) = double_at(s, second) else {
+    let Doubles::Are(rate, duration, third) = two_doubles_at(s, second) else {
         return Outcome::Differs;
     };
-    let Double::Is(duration, fourth) = double_at(s, third) else {
-        return Outcome::Differs;
-    };
-    let Lent::At(place, length, next) = lent_at(s, fourth) else {
+    let Lent::At(place, length, next) = lent_at(s, third) else {
         return Outcome::Differs;
     };
     buffered(s, next, envelope, rate, duration, place, length)

@@ -6,10 +6,15 @@ use libc::STDOUT_FILENO;
 
 mod answers;
 mod buffers;
+mod calls_analysis;
 mod calls_curve;
+mod calls_edit;
 mod calls_numbers;
 mod calls_player;
 mod calls_render;
+mod calls_walk;
+mod edit_fields;
+mod lists;
 mod records;
 mod replay;
 mod text;

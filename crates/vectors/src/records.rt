@@ -31,7 +31,12 @@ enum PositionField {
     Is(SamplePosition, usize),
 }
 
-enum LimitField {
+pub enum SwitchField {
+    Bad,
+    Is(bool, usize),
+}
+
+pub enum LimitField {
     Bad,
     Is(Limit, usize),
 }
@@ -163,7 +168,7 @@ fn points_at(s: &[u8], at: usize, count: usize) -> PointsField {
     }
 }
 
-fn limit_at(s: &[u8], at: usize) -> LimitField {
+pub fn limit_at(s: &[u8], at: usize) -> LimitField {
     if let Place::At(next) = after(s, at, b" -") {
         return LimitField::Is(Limit::None, next);
     }
@@ -193,6 +198,16 @@ fn limits_at(s: &[u8], at: usize) -> LimitsField {
     )
 }
 
+pub fn switch_at(s: &[u8], at: usize) -> SwitchField {
+    if let Place::At(next) = after(s, at, b" 1") {
+        return SwitchField::Is(true, next);
+    }
+    let Place::At(next) = after(s, at, b" 0") else {
+        return SwitchField::Bad;
+    };
+    SwitchField::Is(false, next)
+}
+
 fn head_at(s: &[u8], at: usize) -> HeadField {
     let Place::At(first) = after(s, at, b" {") else {
         return HeadField::Bad;
@@ -203,13 +218,10 @@ fn head_at(s: &[u8], at: usize) -> HeadField {
     if 4294967295 < target {
         return HeadField::Bad;
     }
-    if let Place::At(next) = after(s, second, b" 1") {
-        return HeadField::Is(target as u32, true, next);
-    }
-    let Place::At(next) = after(s, second, b" 0") else {
+    let SwitchField::Is(enabled, next) = switch_at(s, second) else {
         return HeadField::Bad;
     };
-    HeadField::Is(target as u32, false, next)
+    HeadField::Is(target as u32, enabled, next)
 }
 
 fn no_envelope() -> EnvelopeField {

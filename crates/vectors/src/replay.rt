@@ -4,10 +4,13 @@ ghost use mathlib.Core.Path.{_≡_};
 ghost use Prim.Native.Nat.{_-_, _≤_, _<_};
 ghost use lib.ListN.{length};
 ghost use Rattle.io.specs.Counts.{Counts};
+use crate::calls_analysis;
 use crate::calls_curve;
+use crate::calls_edit;
 use crate::calls_numbers;
 use crate::calls_player;
 use crate::calls_render;
+use crate::calls_walk;
 use crate::text::Outcome;
 use crate::text::find;
 use libc::STDIN_FILENO;
@@ -58,6 +61,23 @@ fn counted(t: Tally, differs: bool) -> Tally {
     Tally { run, differ }
 }
 
+// The same among the calls on envelopes but the Player's.
+fn outcome_on_envelopes(s: &[u8], name: usize) -> Outcome {
+    let render = calls_render::run(s, name);
+    let Outcome::Unknown = render else {
+        return render;
+    };
+    let walk = calls_walk::run(s, name);
+    let Outcome::Unknown = walk else {
+        return walk;
+    };
+    let analysis = calls_analysis::run(s, name);
+    let Outcome::Unknown = analysis else {
+        return analysis;
+    };
+    calls_edit::run(s, name)
+}
+
 // What the first module gives that knows the call. `name` is the place after its name.
 fn outcome(s: &[u8], name: usize) -> Outcome {
     let numbers = calls_numbers::run(s, name);
@@ -72,7 +92,7 @@ fn outcome(s: &[u8], name: usize) -> Outcome {
     let Outcome::Unknown = player else {
         return player;
     };
-    calls_render::run(s, name)
+    outcome_on_envelopes(s, name)
 }
 
 // A call that no module knows counts as one that differs.

@@ -29,6 +29,16 @@ pub enum Double {
     Is(f64, usize),
 }
 
+pub enum Doubles {
+    Bad,
+    Are(f64, f64, usize),
+}
+
+pub enum Singles {
+    Bad,
+    Are(f32, f32, usize),
+}
+
 // What a line comes to: our answer is the line's, or another, or the call is none that we have.
 pub enum Outcome {
     Same,
@@ -76,6 +86,21 @@ pub fn is(s: &[u8], end: usize, w: &[u8]) -> bool {
     match after(s, 0, w) {
         Place::At(next) => next == end,
         Place::Nowhere => false,
+    }
+}
+
+// A name in the line, from a place up to another.
+pub struct Name {
+    pub from: usize,
+    pub to: usize,
+}
+
+impl Name {
+    pub fn is(self, s: &[u8], w: &[u8]) -> bool {
+        match after(s, self.from, w) {
+            Place::At(next) => next == self.to,
+            Place::Nowhere => false,
+        }
     }
 }
 
@@ -129,11 +154,11 @@ fn hexadecimal(s: &[u8], at: usize, n: usize) -> Word
     Word::Is(v, start + n)
 }
 
-// A space and decimal digits, as far as they go. A number of 2^53 or more is bad.
-pub fn decimal_at(s: &[u8], at: usize) -> Word
+// The bytes w and decimal digits, as far as they go. A number of 2^53 or more is bad.
+pub fn decimal_after(s: &[u8], at: usize, w: &[u8]) -> Word
     ensures { λ r. ⌜ Below (2 ^ 53) r ⌝ }
 {
-    let Place::At(start) = after(s, at, b" ") else {
+    let Place::At(start) = after(s, at, w) else {
         return Word::Bad;
     };
     let mut v: u64 = 0;
@@ -153,6 +178,13 @@ pub fn decimal_at(s: &[u8], at: usize) -> Word
         return Word::Bad;
     }
     Word::Is(v, i)
+}
+
+// A field of a count.
+pub fn decimal_at(s: &[u8], at: usize) -> Word
+    ensures { λ r. ⌜ Below (2 ^ 53) r ⌝ }
+{
+    decimal_after(s, at, b" ")
 }
 
 // The number of a pattern; every NaN's pattern gives the one NaN.
@@ -195,6 +227,26 @@ pub fn double_at(s: &[u8], at: usize) -> Double {
     }
 }
 
+pub fn two_doubles_at(s: &[u8], at: usize) -> Doubles {
+    let Double::Is(x, second) = double_at(s, at) else {
+        return Doubles::Bad;
+    };
+    let Double::Is(y, next) = double_at(s, second) else {
+        return Doubles::Bad;
+    };
+    Doubles::Are(x, y, next)
+}
+
+pub fn two_singles_at(s: &[u8], at: usize) -> Singles {
+    let Single::Is(x, second) = single_at(s, at) else {
+        return Singles::Bad;
+    };
+    let Single::Is(y, next) = single_at(s, second) else {
+        return Singles::Bad;
+    };
+    Singles::Are(x, y, next)
+}
+
 // Whether two numbers are the same: a NaN is like any NaN, and 0.0 is not -0.0.
 pub fn same_single(x: f32, y: f32) -> bool
     ensures { λ r. ⌜ (r ≡ true → x ≡ y) × (x ≡ y → r ≡ true) ⌝ }
@@ -208,7 +260,7 @@ pub fn same_single(x: f32, y: f32) -> bool
     f32::to_bits(x) == f32::to_bits(y)
 }
 
-fn same_double(x: f64, y: f64) -> bool
+pub fn same_double(x: f64, y: f64) -> bool
     ensures { λ r. ⌜ (r ≡ true → x ≡ y) × (x ≡ y → r ≡ true) ⌝ }
 {
     if x != x {

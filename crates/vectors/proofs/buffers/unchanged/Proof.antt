@@ -7,10 +7,10 @@ use Rattle.vectors.proofs.buffers.unchanged.Statement.{statement}
 use Rattle.vectors.proofs.buffers.unchanged.Tie as tie
 
 abbrev Inv-loop : tie.InvT-loop
-Inv-loop buffer i₀ i = (i ≤ length buffer)
+Inv-loop buffer from i₀ i = (from ≤ i)
 
 abbrev μ-loop : tie.MeasureT-loop
-μ-loop buffer i₀ i = length buffer - i
+μ-loop buffer from i₀ i = length buffer - i
 
 loop-holds : tie.Need-loop-holds Inv-loop μ-loop
 loop-holds c = search needs

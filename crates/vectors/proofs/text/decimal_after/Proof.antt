@@ -1,20 +1,17 @@
--- `vectors::text::decimal_at` meets its contract: the number stays below 2 ^ 53, so that another digit fits.
+-- `vectors::text::decimal_after` meets its contract: the number stays below 2 ^ 53, so that another digit fits.
 -- Assumes nothing.
 use Prim.Native.Nat.{_-_, _^_, _≤_, _<_}
 use native.Mathlib.Omega.{arith}
 use lib.ListN.{length}
 use borrow.Author.Needs.{needs}
-use Rattle.vectors.proofs.text.decimal_at.Statement.{statement}
-use Rattle.vectors.proofs.text.decimal_at.Tie as tie
+use Rattle.vectors.proofs.text.decimal_after.Statement.{statement}
+use Rattle.vectors.proofs.text.decimal_after.Tie as tie
 
 abbrev Inv-loop : tie.InvT-loop
-Inv-loop s at start v₀ i₀ v i = (start ≤ i) × (i ≤ length s) × (v < 2 ^ 53)
+Inv-loop s at w start v₀ i₀ v i = (start ≤ i) × (i ≤ length s) × (v < 2 ^ 53)
 
 abbrev μ-loop : tie.MeasureT-loop
-μ-loop s at start v₀ i₀ v i = length s - i
-
-slice-aggregate-after : tie.Need-slice-aggregate-after Inv-loop μ-loop
-slice-aggregate-after c = search needs
+μ-loop s at w start v₀ i₀ v i = length s - i
 
 after-requires : tie.Need-after-requires Inv-loop μ-loop
 after-requires c κs = search needs
@@ -61,13 +58,12 @@ returns-3 c = search needs
 returns-4 : tie.Need-returns-4 Inv-loop μ-loop
 returns-4 c = search needs
 
-pub decimal-at-spec : {M : Type 1} → statement M
-decimal-at-spec =
+pub decimal-after-spec : {M : Type 1} → statement M
+decimal-after-spec =
     tie.close
     (tie.spec
     Inv-loop
     μ-loop
-    slice-aggregate-after
     after-requires
     enum-known-start
     enum-told
