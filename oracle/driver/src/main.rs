@@ -35,7 +35,7 @@ fn main() -> Result<()> {
                 panic_usage();
             };
             match mode {
-                "--sessions" => random_session(&mut out, seed, count, rest.first())?,
+                "--sessions" => random_sessions(&mut out, seed, count, rest.first())?,
                 _ => random_calls(&mut out, seed, count, rest.first(), mode == "--vectors")?,
             }
         }
@@ -71,21 +71,22 @@ fn random_calls(
     Ok(())
 }
 
-fn random_session(out: &mut impl Write, seed: u64, count: u64, words: Option<&&str>) -> Result<()> {
+/// One session after the other, each of some tens of calls.
+fn random_sessions(out: &mut impl Write, seed: u64, count: u64, words: Option<&&str>) -> Result<()> {
     let mut r = Random(seed);
-    let words: u64 = match words.map(|w| w.parse()) {
-        None => r.one_of(&[0, 1027, 1028, 2056, 3084, 5140, 10280 + 1027]),
-        Some(Ok(words)) => words,
-        Some(Err(_)) => panic_usage(),
-    };
+    let words: Option<u64> = words.map(|w| w.parse().unwrap_or_else(|_| panic_usage()));
     let mut sessions = Sessions::new();
-    let mut line = format!("s open {} {words}", r.one_of(&[0, 7, u32::MAX]));
+    let (mut line, mut length) = r.opening(words);
     for _ in 0..count {
         let call: Vec<&str> = line.split(' ').collect();
         let answer = session(&mut sessions, &Registers::new(), &call);
         writeln!(out, "session {line} => {}", answer.expect("a call made here"))?;
-        let (call, a) = r.session_call(words);
-        line = format!("s {call}{}", arguments(&a));
+        if r.once_in(40) {
+            (line, length) = r.opening(words);
+        } else {
+            let (call, a) = r.session_call(length);
+            line = format!("s {call}{}", arguments(&a));
+        }
     }
     Ok(())
 }

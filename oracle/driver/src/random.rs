@@ -214,9 +214,16 @@ impl Random {
         a
     }
 
-    /// A call of a session, and the words that follow its name: an edit without its first
-    /// envelope, or a step. `words` is the step memory's length.
-    pub fn session_call(&mut self, words: u64) -> (String, Vec<Arg>) {
+    /// The opening of a session, and the words of its step memory.
+    pub fn opening(&mut self, words: Option<u64>) -> (String, u64) {
+        let lengths = [0, 1027, 1028, 1029, 2056, 2056, 3000, 5140, 5141, 10280 + 1027, 16384];
+        let words = words.unwrap_or_else(|| self.one_of(&lengths));
+        let target = self.one_of(&[0, 7, u32::MAX]);
+        (format!("s open {target} {words}"), words)
+    }
+
+    /// An edit of a session without its first envelope: its name and arguments.
+    fn session_edit(&mut self) -> (&'static str, Vec<Arg>) {
         let edits: Vec<&str> = OPERATIONS
             .iter()
             .filter(|o| "ec".contains(o.2))
@@ -227,17 +234,27 @@ impl Random {
         } else {
             self.one_of(&edits)
         };
-        let a = self.call(op)[1..].to_vec();
+        (op, self.call(op)[1..].to_vec())
+    }
+
+    /// A call of a session, and the words that follow its name. `words` is the step memory's length.
+    pub fn session_call(&mut self, words: u64) -> (String, Vec<Arg>) {
+        let (op, a) = self.session_edit();
         match self.below(100) {
             0..=24 => ("back".into(), vec![]),
             25..=41 => ("forward".into(), vec![]),
             42..=43 => {
-                let other = words + self.one_of(&[1, 1028]);
+                let other = self.one_of(&[words + 1, words + 1028, words.saturating_sub(1), 0]);
                 match self.below(3) {
                     0 => (format!("len {other} back"), vec![]),
                     1 => (format!("len {other} forward"), vec![]),
                     _ => (format!("len {other} edit {op}"), a),
                 }
+            }
+            44..=45 if words >= 1028 => {
+                let point = 4 + 4 * self.below(256);
+                let word = self.one_of(&[0, 1, 2, 3, point, point + 3]);
+                (format!("damage {} {word}", self.below(words / 1028)), vec![])
             }
             _ => (format!("edit {op}"), a),
         }

@@ -10,12 +10,14 @@ pub type Sessions = HashMap<String, Session>;
 const STATE: u64 = 1028;
 
 /// The edits that count, each as the envelope after it; a mark among them; how many are kept.
+/// Beside 01's state, which stored states a `damage` has spoiled: edit number k has slot k mod D.
 pub struct Session {
     target: u32,
     words: u64,
     edits: Vec<Envelope>,
     mark: usize,
     kept: u64,
+    damaged: Vec<bool>,
 }
 
 impl Session {
@@ -35,9 +37,16 @@ impl Session {
         )
     }
 
+    fn slot(&self, edit: usize) -> usize {
+        edit % self.damaged.len()
+    }
+
     fn back(&mut self) -> Option<u32> {
         if self.kept == 0 {
             return Some(10);
+        }
+        if self.damaged[self.slot(self.mark - 1)] {
+            return Some(12);
         }
         self.mark -= 1;
         self.kept -= 1;
@@ -48,48 +57,78 @@ impl Session {
         if self.mark == self.edits.len() {
             return Some(10);
         }
+        if self.damaged[self.slot(self.mark)] {
+            return Some(12);
+        }
         self.mark += 1;
         self.kept += 1;
         None
     }
 
     fn accept(&mut self, e: Envelope) {
+        if !self.damaged.is_empty() {
+            let slot = self.slot(self.mark);
+            self.damaged[slot] = false;
+        }
         self.edits.truncate(self.mark);
         self.edits.push(e);
         self.mark += 1;
-        self.kept = (self.kept + 1).min(self.words / STATE);
+        self.kept = (self.kept + 1).min(self.damaged.len() as u64);
+    }
+
+    /// All bits of a word are set: one of the settings, or the first or last word of a point, where
+    /// no stored state has them all.
+    fn damage(&mut self, slot: u64, word: u64) -> Read<()> {
+        let damaged = self.damaged.get_mut(slot as usize).ok_or("no such slot")?;
+        if word >= STATE || (word >= 4 && matches!(word % 4, 1 | 2)) {
+            return Err("not a word whose damage shows".into());
+        }
+        *damaged = true;
+        Ok(())
     }
 
     /// One call, with a step memory of `lent` words.
     fn run(&mut self, lent: u64, what: &str, mut words: Words) -> Read<String> {
+        if what == "damage" {
+            let (slot, word) = (words.decimal()?, words.decimal()?);
+            self.damage(slot, word)?;
+            return Ok(self.answer());
+        }
         if what == "show" {
             return Ok(self.answer());
         }
-        if lent != self.words {
-            return Ok("refuse 11".into());
-        }
+        let other = lent != self.words;
         let refusal = match what {
+            "back" if other => Some(11),
+            "forward" if other => Some(11),
             "back" => self.back(),
             "forward" => self.forward(),
-            "edit" => {
-                let op = words.word()?;
-                let Some((kinds, 'e' | 'c')) = signature(op) else {
-                    return Err("not an edit".into());
-                };
-                let mut a = vec![Arg::E(self.envelope())];
-                for k in kinds.chars().skip(1) {
-                    a.push(words.argument(k)?);
-                }
-                let answer = call(op, &a, false);
-                let Some(e) = answer.envelope else {
-                    return Ok(answer.text);
-                };
-                self.accept(e);
-                None
-            }
-            _ => return Err("session NAME open|edit|back|forward|show".into()),
+            "edit" => return self.edit(other, words),
+            _ => return Err("session NAME open|edit|back|forward|show|damage".into()),
         };
         Ok(refusal.map_or_else(|| self.answer(), |n| format!("refuse {n}")))
+    }
+
+    /// An edit, with a step memory of an `other` length or the right one. A second envelope that is
+    /// not valid comes before that.
+    fn edit(&mut self, other: bool, mut words: Words) -> Read<String> {
+        let op = words.word()?;
+        let Some((kinds, 'e' | 'c')) = signature(op) else {
+            return Err("not an edit".into());
+        };
+        let mut a = vec![Arg::E(self.envelope())];
+        for k in kinds.chars().skip(1) {
+            a.push(words.argument(k)?);
+        }
+        let answer = call(op, &a, false);
+        if other && answer.text != "refuse 1" {
+            return Ok("refuse 11".into());
+        }
+        if let Some(e) = answer.envelope {
+            self.accept(e);
+            return Ok(self.answer());
+        }
+        Ok(answer.text)
     }
 }
 
@@ -106,6 +145,7 @@ pub fn session(all: &mut Sessions, registers: &Registers, line: &[&str]) -> Read
             edits: vec![],
             mark: 0,
             kept: 0,
+            damaged: vec![false; (length / STATE) as usize],
         };
         let answer = s.answer();
         all.insert(name.into(), s);
