@@ -384,7 +384,7 @@ fn count_middles(points: Points, valley: bool) -> usize
     ensures { λ r. ⌜ r ≡ length (middlesOf valley points) ⌝ }
 {
     let n = points.used();
-    let mut k: usize = 0;
+    let mut count: usize = 0;
     let mut i: usize = 2;
     while i < n {
         let a = points.places[i - 2];
@@ -392,10 +392,10 @@ fn count_middles(points: Points, valley: bool) -> usize
         let c = points.places[i];
         i += 1;
         if is_middle(a, b, c, valley) {
-            k += 1;
+            count += 1;
         }
     }
-    k
+    count
 }
 
 // Their times and their values, from the start of the two lists.

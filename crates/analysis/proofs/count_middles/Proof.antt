@@ -12,10 +12,10 @@ use Rattle.analysis.proofs.count_middles.Statement.{statement}
 use Rattle.analysis.proofs.count_middles.Tie as tie
 
 abbrev Inv-loop : tie.InvT-loop
-Inv-loop valley points n k₀ i₀ k i = (2 ≤ i) × (i ≤ max 2 n) × (k ≤ i) × (k ≡ length (middles (middleTest valley) (take i (points .places))))
+Inv-loop valley points n count₀ i₀ count i = (2 ≤ i) × (i ≤ max 2 n) × (count ≤ i) × (count ≡ length (middles (middleTest valley) (take i (points .places))))
 
 abbrev μ-loop : tie.MeasureT-loop
-μ-loop valley points n k₀ i₀ k i = n - i
+μ-loop valley points n count₀ i₀ count i = n - i
 
 used-requires : tie.Need-used-requires Inv-loop μ-loop
 used-requires c κs = tt
@@ -53,8 +53,8 @@ add-i c = omega arith
 is-middle-requires : tie.Need-is-middle-requires Inv-loop μ-loop
 is-middle-requires c κs = tt
 
-add-k : tie.Need-add-k Inv-loop μ-loop
-add-k c = omega arith
+add-count : tie.Need-add-count Inv-loop μ-loop
+add-count c = omega arith
 
 loop-less : tie.Need-loop-less Inv-loop μ-loop
 loop-less c = omega arith
@@ -95,7 +95,7 @@ count-middles-spec =
     element-copy-out-c
     add-i
     is-middle-requires
-    add-k
+    add-count
     loop-less
     loop-again
     loop-less-2

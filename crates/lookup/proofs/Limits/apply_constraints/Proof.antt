@@ -1,5 +1,6 @@
 -- `lookup::Limits::apply_constraints` meets its contract. Assumes nothing.
-use Rattle.lookup.specs.Limits.{constrained}
+use mathlib.Core.Path.{ap, _∙_}
+use Rattle.lookup.specs.Limits.{atMost, toStep, constrained}
 use borrow.Author.Needs.{needs}
 use Rattle.lookup.proofs.Limits.apply_constraints.Statement.{statement}
 use Rattle.lookup.proofs.Limits.apply_constraints.Tie as tie
@@ -15,7 +16,9 @@ to-step-requires c κs = search needs
 
 returns : tie.Need-returns
 unfolding constrained
-returns c = cc
+returns c =
+    let l = c .before .before .before .args .self in
+    c .to-step .ensures ∙ ap (toStep (l .«step_size»)) (c .before .at-most .ensures ∙ ap (atMost (l .«max_value»)) (c .before .before .at-least .ensures))
 
 pub apply-constraints-spec : {M : Type 1} → statement M
 apply-constraints-spec =
