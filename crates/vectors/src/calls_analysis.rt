@@ -16,7 +16,7 @@ use crate::text::is;
 use crate::text::says_single;
 use crate::text::two_doubles_at;
 use crate::text::word_at;
-use lookup::analysis::Range;
+use analysis::Range;
 
 pub fn run(s: &[u8], at: usize) -> Outcome {
     if is(s, at, b"slope_at") {
@@ -52,7 +52,7 @@ fn slope_at(s: &[u8], at: usize) -> Outcome {
     answers_lookup(
         s,
         next,
-        lookup::analysis::get_slope_at(points, envelope.enabled, limits, time),
+        analysis::get_slope_at(points, envelope.enabled, limits, time),
     )
 }
 
@@ -89,7 +89,7 @@ fn range(s: &[u8], at: usize) -> Outcome {
     answers_range(
         s,
         next,
-        lookup::analysis::get_range(points, envelope.enabled, limits, from, to),
+        analysis::get_range(points, envelope.enabled, limits, from, to),
     )
 }
 
@@ -111,7 +111,7 @@ fn range_samples(s: &[u8], at: usize) -> Outcome {
     answers_range(
         s,
         next,
-        lookup::analysis::get_range_samples(points, envelope.enabled, limits, from, to),
+        analysis::get_range_samples(points, envelope.enabled, limits, from, to),
     )
 }
 

@@ -15,9 +15,9 @@ use crate::text::says_single;
 use crate::text::two_doubles_at;
 use envelope::AutomationEnvelope;
 use lookup::Lookup;
-use lookup::render::SampleIterator;
-use lookup::render::SampleStep;
-use lookup::render::Walk;
+use render::SampleIterator;
+use render::SampleStep;
+use render::Walk;
 
 pub fn run(s: &[u8], at: usize) -> Outcome {
     if is(s, at, b"walk") {
@@ -105,7 +105,7 @@ fn walk(s: &[u8], at: usize) -> Outcome {
         return Outcome::Differs;
     };
     let points = envelope.points;
-    match lookup::render::iter_samples(points, envelope.limits(), rate, duration) {
+    match render::iter_samples(points, envelope.limits(), rate, duration) {
         Walk::Over(walk) => answers_steps(s, next, envelope, walk, calls),
         Walk::Refused(why) => answers_refusal(s, next, why),
     }

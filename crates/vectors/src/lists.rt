@@ -13,8 +13,8 @@ use crate::text::ended;
 use crate::text::same_double;
 use crate::text::says_double;
 use crate::text::says_single;
+use analysis::Found;
 use envelope::AutomationEnvelope;
-use lookup::analysis::Found;
 
 // What each place of the times holds before the call.
 const BEFORE: f64 = -1.25;
@@ -85,9 +85,9 @@ fn find(
     let points = envelope.points;
     let limits = envelope.limits();
     if valley {
-        return lookup::analysis::find_valleys(points, limits, times, values);
+        return analysis::find_valleys(points, limits, times, values);
     }
-    lookup::analysis::find_peaks(points, limits, times, values)
+    analysis::find_peaks(points, limits, times, values)
 }
 
 // The call on lists of these lengths.
