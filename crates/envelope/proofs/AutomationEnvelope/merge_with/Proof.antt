@@ -4,52 +4,45 @@ use Rattle.lookup.specs.declared.Limits.{Limits}
 use Rattle.edits.specs.declared.EditedPoints.{EditedPoints}
 use Rattle.envelope.specs.Edit.{toldEdit, edited, mergeOf}
 use borrow.Author.Needs.{needs}
-use Rattle.envelope.proofs.AutomationEnvelope.merge.Statement.{statement}
-use Rattle.envelope.proofs.AutomationEnvelope.merge.Tie as tie
-use Rattle.envelope.proofs.AutomationEnvelope.merge.Reads as reads
-use Rattle.envelope.proofs.AutomationEnvelope.merge.Lts as lts
+use Rattle.envelope.proofs.AutomationEnvelope.merge_with.Statement.{statement}
+use Rattle.envelope.proofs.AutomationEnvelope.merge_with.Tie as tie
+use Rattle.envelope.proofs.AutomationEnvelope.merge_with.Reads as reads
+use Rattle.envelope.proofs.AutomationEnvelope.merge_with.Lts as lts
 use Rattle.edits.proofs.insert.merge.Reads as merge-reads
 use Rattle.envelope.proofs.AutomationEnvelope.limits.Reads as limits-reads
 use Rattle.envelope.proofs.AutomationEnvelope.refuse.Reads as refuse-reads
 use Rattle.envelope.proofs.AutomationEnvelope.settle.Reads as settle-reads
 use Rattle.lookup.proofs.Limits.is_finite.Reads as is-finite-reads
 
--- src/bench.rt:178:13
 limits-requires : tie.Need-limits-requires
 limits-requires c κs = search needs
 
--- src/bench.rt:179:12
 is-finite-requires : tie.Need-is-finite-requires
 is-finite-requires c κs = search needs
 
--- src/bench.rt:182:25
 merge-requires : tie.Need-merge-requires
 merge-requires c κs = search needs
 
--- src/bench.rt:182:13
 settle-requires : tie.Need-settle-requires
 settle-requires c κs = search needs
 
--- src/bench.rt:184:13
 refuse-requires : tie.Need-refuse-requires
 refuse-requires c κs = search needs
 
--- src/bench.rt:175:5
 returns : tie.Need-returns
 unfolding mergeOf
 returns c =
     let f = sym (c .before .before .before .before .before .is-finite .ensures ∙ ap (λ (l : Limits). finiteLimits l) (c .before .before .before .before .before .before .limits .ensures)) ∙ c .before .before .before .before .if1 .taken in
     rw f (c .settle .ensures ∙ ap (λ (r : EditedPoints). edited (c .before .before .before .before .before .before .before .args .self) r) (c .before .merge .ensures))
 
--- src/bench.rt:175:5
 returns-2 : tie.Need-returns-2
 unfolding mergeOf
 returns-2 c =
     let f = sym (c .before .before .is-finite .ensures ∙ ap (λ (l : Limits). finiteLimits l) (c .before .before .before .limits .ensures)) ∙ c .before .if1 .left in
     rw f (ap toldEdit (c .refuse .ensures))
 
-pub merge-spec : {M : Type 1} → statement M
-merge-spec =
+pub merge-with-spec : {M : Type 1} → statement M
+merge-with-spec =
     tie.close
     (tie.spec
     limits-requires
