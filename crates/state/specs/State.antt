@@ -1,0 +1,149 @@
+-- 01, the session: "A stored state is 1,028 words (4 of settings, 4 a point), packed one-to-one as docs/ records." docs/STATE.md has the layout.
+use Prim.Native.Nat.{ℕ, zero, suc, _+_, _*_, _/_, _%_}
+use mathlib.Core.Bool.{Bool, true, false, cond, _&&_}
+use mathlib.Core.List.{List, [], _∷_, _++_}
+use mathlib.Core.Option.{Option, none, some}
+use lib.Dec.{ltb, eqb}
+use lib.ListN.{length, getD, drop}
+use lib.Ieee.{binary32, binary64, ofBits, toBits}
+use Rattle.curve.specs.Curve.{code, controls, curveOf}
+use Rattle.points.specs.Refusal.{Said, refuses, gives}
+use Rattle.points.specs.Points.{everyPair}
+use Rattle.points.specs.declared.AutomationPoint.{AutomationPoint}
+use Rattle.points.specs.declared.SamplePosition.{SamplePosition}
+use Rattle.points.specs.declared.SamplePosition.the-variants as position
+use Rattle.lookup.specs.declared.Limit.{Limit}
+use Rattle.lookup.specs.declared.Limit.the-variants as limit
+use Rattle.envelope.specs.Envelope.{new, validEnvelope}
+use Rattle.envelope.specs.Edit.{EditTold, declined}
+use Rattle.envelope.specs.declared.AutomationEnvelope.{AutomationEnvelope}
+
+-- "1,028 words": 4 + 4 * 256
+abbrev pub stateWords : ℕ
+stateWords = 1028
+
+-- ---- a word of two halves of 32 bits
+
+abbrev pub halves : ℕ → ℕ → ℕ
+halves high low = high * 0x1_0000_0000 + low
+
+abbrev pub high : ℕ → ℕ
+high w = w / 0x1_0000_0000
+
+abbrev pub low : ℕ → ℕ
+low w = w % 0x1_0000_0000
+
+-- ---- a flag, and the bit of worth d in a number
+
+abbrev pub flag : Bool → ℕ
+flag b = cond b 1 0
+
+abbrev pub bit : ℕ → ℕ → Bool
+bit d n = eqb (n / d % 2) 1
+
+-- ---- a number or none: a flag, and the number's bits or 0
+
+abbrev pub hasLimit : Limit → Bool
+hasLimit limit.None = false
+hasLimit (limit.Number x) = true
+
+abbrev pub limitBits : Limit → ℕ
+limitBits limit.None = 0
+limitBits (limit.Number x) = toBits binary32 x
+
+abbrev pub limitOf : Bool → ℕ → Limit
+limitOf has bits = cond has (limit.Number (ofBits binary32 bits)) limit.None
+
+abbrev pub hasPosition : SamplePosition → Bool
+hasPosition position.None = false
+hasPosition (position.At n) = true
+
+abbrev pub positionWord : SamplePosition → ℕ
+positionWord position.None = 0
+positionWord (position.At n) = n
+
+abbrev pub positionOf : Bool → ℕ → SamplePosition
+positionOf has n = cond has (position.At n) position.None
+
+-- ---- "4 of settings": the flags and the target; the count; the maximum and the minimum; the step
+
+abbrev pub flags : AutomationEnvelope → ℕ
+flags e = flag (e .enabled) + 2 * flag (hasLimit (e .«min_value»)) + 4 * flag (hasLimit (e .«max_value»)) + 8 * flag (hasLimit (e .«step_size»))
+
+unfoldable pub packSettings : AutomationEnvelope → List ℕ
+packSettings e =
+    halves (flags e) (e .target)
+    ∷ e .points .count
+    ∷ halves (limitBits (e .«max_value»)) (limitBits (e .«min_value»))
+    ∷ limitBits (e .«step_size»)
+    ∷ []
+
+-- ---- "4 a point": the time; the position; the second control and the first (0.0 each where the curve has none); the curve's number with the position's flag, and the value
+
+unfoldable pub packPoint : AutomationPoint → List ℕ
+packPoint p =
+    toBits binary64 (p .time)
+    ∷ positionWord (p .«sample_position»)
+    ∷ halves (toBits binary32 (controls (p .curve) .cp2)) (toBits binary32 (controls (p .curve) .cp1))
+    ∷ halves (code (p .curve) * 2 + flag (hasPosition (p .«sample_position»))) (toBits binary32 (p .value))
+    ∷ []
+
+unfoldable pub pointOf : List ℕ → AutomationPoint
+pointOf w = record {
+  time = ofBits binary64 (getD w 0 0);
+  «sample_position» = positionOf (bit 1 (high (getD w 3 0))) (getD w 1 0);
+  value = ofBits binary32 (low (getD w 3 0));
+  curve = curveOf (high (getD w 3 0) / 2) (ofBits binary32 (low (getD w 2 0))) (ofBits binary32 (high (getD w 2 0)));
+}
+
+unfoldable pub packPoints : List AutomationPoint → List ℕ
+packPoints [] = []
+packPoints (p ∷ l) = packPoint p ++ packPoints l
+
+unfoldable pub pointsOf : ℕ → List ℕ → List AutomationPoint
+pointsOf zero w = []
+pointsOf (suc n) w = pointOf w ∷ pointsOf n (drop 4 w)
+
+-- ---- the whole state; the places past the count are packed too
+
+unfoldable pub pack : AutomationEnvelope → List ℕ
+pack e = packSettings e ++ packPoints (e .points .places)
+
+-- what stands in the words, whatever they are
+unfoldable pub stateOf : List ℕ → AutomationEnvelope
+stateOf w = record {
+  target = low (getD w 0 0);
+  points = record { count = getD w 1 0; places = pointsOf 256 (drop 4 w) };
+  enabled = bit 1 (high (getD w 0 0));
+  «min_value» = limitOf (bit 2 (high (getD w 0 0))) (low (getD w 2 0));
+  «max_value» = limitOf (bit 4 (high (getD w 0 0))) (high (getD w 2 0));
+  «step_size» = limitOf (bit 8 (high (getD w 0 0))) (low (getD w 3 0));
+}
+
+abbrev pub ifTest : {A : Type 0} → Bool → A → Option A
+ifTest b x = cond b (some x) none
+
+-- the valid envelope that packs to these very words, if there is one
+unfoldable pub unpacked : List ℕ → Option AutomationEnvelope
+unpacked w = ifTest (validEnvelope (stateOf w) && everyPair eqb (pack (stateOf w)) w) (stateOf w)
+
+-- ---- the calls
+
+-- the answer of reading: 12, "stored state doesn't pack a valid envelope", with an empty envelope beside it
+abbrev pub readAs : Option AutomationEnvelope → EditTold
+readAs none = declined (new 0) 12
+readAs (some e) = record { said = gives tt; envelope = e }
+
+unfoldable pub readState : List ℕ → EditTold
+readState w = readAs (unpacked w)
+
+-- the answer of writing, and the lent words after it: 8, "the answer needs more places than the lent part has"; else the state from the start, and the words after it stay
+pub record WordsTold : Type 0 where
+  pub said : Said (Unit {0})
+  pub words : List ℕ
+
+unfoldable pub writeState : AutomationEnvelope → List ℕ → WordsTold
+writeState e w =
+    cond (ltb (length w) stateWords)
+    (record { said = refuses 8; words = w })
+    (record { said = gives tt; words = pack e ++ drop stateWords w })
