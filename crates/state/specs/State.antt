@@ -7,6 +7,7 @@ use lib.Dec.{ltb, eqb}
 use lib.ListN.{length, getD, drop}
 use lib.Ieee.{binary32, binary64, ofBits, toBits}
 use Rattle.curve.specs.Curve.{code, controls, curveOf}
+use Rattle.curve.specs.declared.CurveType.{CurveType}
 use Rattle.points.specs.Refusal.{Said, refuses, gives}
 use Rattle.points.specs.Points.{everyPair}
 use Rattle.points.specs.declared.AutomationPoint.{AutomationPoint}
@@ -14,7 +15,8 @@ use Rattle.points.specs.declared.SamplePosition.{SamplePosition}
 use Rattle.points.specs.declared.SamplePosition.the-variants as position
 use Rattle.lookup.specs.declared.Limit.{Limit}
 use Rattle.lookup.specs.declared.Limit.the-variants as limit
-use Rattle.envelope.specs.Envelope.{new, validEnvelope}
+use Rattle.lookup.specs.declared.Limits.{Limits}
+use Rattle.envelope.specs.Envelope.{new, limitsOf, validEnvelope}
 use Rattle.envelope.specs.Edit.{EditTold, declined}
 use Rattle.envelope.specs.declared.AutomationEnvelope.{AutomationEnvelope}
 
@@ -67,26 +69,26 @@ positionOf has n = cond has (position.At n) position.None
 
 -- ---- "4 of settings": the flags and the target; the count; the maximum and the minimum; the step
 
-abbrev pub flags : AutomationEnvelope → ℕ
-flags e = flag (e .enabled) + 2 * flag (hasLimit (e .«min_value»)) + 4 * flag (hasLimit (e .«max_value»)) + 8 * flag (hasLimit (e .«step_size»))
+abbrev pub flags : Bool → Limits → ℕ
+flags enabled l = flag enabled + 2 * flag (hasLimit (l .«min_value»)) + 4 * flag (hasLimit (l .«max_value»)) + 8 * flag (hasLimit (l .«step_size»))
+
+abbrev pub boundsWord : Limits → ℕ
+boundsWord l = halves (limitBits (l .«max_value»)) (limitBits (l .«min_value»))
 
 unfoldable pub packSettings : AutomationEnvelope → List ℕ
-packSettings e =
-    halves (flags e) (e .target)
-    ∷ e .points .count
-    ∷ halves (limitBits (e .«max_value»)) (limitBits (e .«min_value»))
-    ∷ limitBits (e .«step_size»)
-    ∷ []
+packSettings e = halves (flags (e .enabled) (limitsOf e)) (e .target) ∷ e .points .count ∷ boundsWord (limitsOf e) ∷ limitBits (e .«step_size») ∷ []
 
--- ---- "4 a point": the time; the position; the second control and the first (0.0 each where the curve has none); the curve's number with the position's flag, and the value
+-- ---- "4 a point": the time; the position; the controls, the second in the upper half; the curve's number with the position's flag, and the value
+
+-- 0.0 stands for each control that a curve does not have, so the word is 0
+abbrev pub controlsWord : CurveType → ℕ
+controlsWord c = halves (toBits binary32 (controls c .cp2)) (toBits binary32 (controls c .cp1))
+
+abbrev pub valueWord : AutomationPoint → ℕ
+valueWord p = halves (code (p .curve) * 2 + flag (hasPosition (p .«sample_position»))) (toBits binary32 (p .value))
 
 unfoldable pub packPoint : AutomationPoint → List ℕ
-packPoint p =
-    toBits binary64 (p .time)
-    ∷ positionWord (p .«sample_position»)
-    ∷ halves (toBits binary32 (controls (p .curve) .cp2)) (toBits binary32 (controls (p .curve) .cp1))
-    ∷ halves (code (p .curve) * 2 + flag (hasPosition (p .«sample_position»))) (toBits binary32 (p .value))
-    ∷ []
+packPoint p = toBits binary64 (p .time) ∷ positionWord (p .«sample_position») ∷ controlsWord (p .curve) ∷ valueWord p ∷ []
 
 unfoldable pub pointOf : List ℕ → AutomationPoint
 pointOf w = record {

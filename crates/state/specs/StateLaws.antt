@@ -24,7 +24,7 @@ use Rattle.points.specs.declared.SamplePosition.{SamplePosition}
 use Rattle.points.specs.declared.SamplePosition.the-variants as position
 use Rattle.lookup.specs.declared.Limit.{Limit}
 use Rattle.lookup.specs.declared.Limit.the-variants as limit
-use Rattle.envelope.specs.Envelope.{validEnvelope}
+use Rattle.envelope.specs.Envelope.{limitsOf, validEnvelope}
 use Rattle.envelope.specs.Typed.{typedCurve, typedPosition, typedPoint, typedPoints, typedLimit, typed}
 use Rattle.envelope.specs.declared.AutomationEnvelope.{AutomationEnvelope}
 use Rattle.state.specs.State.{stateWords, halves, high, low, flag, bit, hasLimit, limitBits, limitOf, hasPosition, positionWord, positionOf, flags, packSettings, packPoint, pointOf, packPoints, pointsOf, pack, stateOf, ifTest, unpacked}
@@ -171,10 +171,10 @@ unfolding stateOf pack packSettings four
 stateOf-pack e t =
     let s = settings-typings e t in
     let min-lt : limitBits (e .«min_value») < 0x1_0000_0000 = limit-lt (e .«min_value») (s .1) in
-    let flags-are : high (halves (flags e) (e .target)) ≡ flags e = high-halves (flags e) (target-lt e t) in
+    let flags-are : high (halves (flags (e .enabled) (limitsOf e)) (e .target)) ≡ flags (e .enabled) (limitsOf e) = high-halves (flags (e .enabled) (limitsOf e)) (target-lt e t) in
     let bits = bits-of-four (e .enabled) (hasLimit (e .«min_value»)) (hasLimit (e .«max_value»)) (hasLimit (e .«step_size»)) in
     λ i. record {
-      target = low-halves (flags e) (target-lt e t) i;
+      target = low-halves (flags (e .enabled) (limitsOf e)) (target-lt e t) i;
       points = record {
         count = e .points .count;
         places = (
@@ -248,7 +248,7 @@ settings-words : (e : AutomationEnvelope) → typed e ≡ true → word (e .poin
 unfolding packSettings every
 settings-words e t n =
     let s = settings-typings e t in
-    let flags-lt : flags e < 0x1_0000_0000 = omega (arith, flag-lt (e .enabled), flag-lt (hasLimit (e .«min_value»)), flag-lt (hasLimit (e .«max_value»)), flag-lt (hasLimit (e .«step_size»))) in
+    let flags-lt : flags (e .enabled) (limitsOf e) < 0x1_0000_0000 = omega (arith, flag-lt (e .enabled), flag-lt (hasLimit (e .«min_value»)), flag-lt (hasLimit (e .«max_value»)), flag-lt (hasLimit (e .«step_size»))) in
     let step-lt : limitBits (e .«step_size») < 0x1_0000_0000 = limit-lt (e .«step_size») (s .3) in
     and-both (halves-word _ _ flags-lt (target-lt e t))
     (and-both n

@@ -1,13 +1,16 @@
 // Packing an envelope into lent words.
 ghost use mathlib.Core.Path.{_≡_};
+ghost use mathlib.Core.List.{_++_};
 ghost use Prim.Native.Nat.{_+_, _<_, _≤_};
-ghost use lib.ListN.{length};
+ghost use lib.ListN.{length, drop};
 ghost use lib.Seq.{sets};
 ghost use lib.Ieee.{binary32, binary64, toBits};
 ghost use Rattle.points.specs.Refusal.{said};
-ghost use Rattle.state.specs.State.{flag, hasLimit, limitBits, hasPosition, positionWord, flags, packSettings, packPoint, pack, writeState};
+ghost use Rattle.state.specs.State.{halves, flag, hasLimit, limitBits, hasPosition, positionWord, flags, boundsWord, controlsWord, valueWord, packSettings, packPoint, pack, writeState};
+use curve::CurveType;
 use envelope::AutomationEnvelope;
 use lookup::Limit;
+use lookup::Limits;
 use points::AutomationPoint;
 use points::SamplePosition;
 use points::refusal::Answer;
@@ -52,7 +55,7 @@ fn limit_flag(l: Limit) -> u64
     }
 }
 
-fn limit_bits(l: Limit) -> u64
+pub(crate) fn limit_bits(l: Limit) -> u64
     ensures { λ r. ⌜ r ≡ limitBits l ⌝ }
     ensures { λ r. ⌜ r < 0x1_0000_0000 ⌝ }
 {
@@ -72,11 +75,105 @@ fn position_flag(p: SamplePosition) -> u64
     }
 }
 
-fn position_word(p: SamplePosition) -> u64
+pub(crate) fn position_word(p: SamplePosition) -> u64
     ensures { λ r. ⌜ r ≡ positionWord p ⌝ }
 {
     match p {
         SamplePosition::None => 0,
         SamplePosition::At(n) => n,
     }
+}
+
+// ---- the words
+
+// The flags, and the target.
+pub(crate) fn flags_word(target: u32, enabled: bool, limits: Limits) -> u64
+    ensures { λ r. ⌜ r ≡ halves (flags enabled limits) target ⌝ }
+{
+    let min = limits.min_value;
+    let max = limits.max_value;
+    let step = limits.step_size;
+    (flag(enabled) + 2 * limit_flag(min) + 4 * limit_flag(max) + 8 * limit_flag(step))
+        * 0x1_0000_0000
+        + target as u64
+}
+
+// The maximum and the minimum.
+pub(crate) fn bounds_word(limits: Limits) -> u64
+    ensures { λ r. ⌜ r ≡ boundsWord limits ⌝ }
+{
+    let min = limits.min_value;
+    let max = limits.max_value;
+    limit_bits(max) * 0x1_0000_0000 + limit_bits(min)
+}
+
+// The control numbers of a Bezier curve.
+pub(crate) fn controls_word(curve: CurveType) -> u64
+    ensures { λ r. ⌜ r ≡ controlsWord curve ⌝ }
+{
+    let c = curve.controls();
+    bits32(c.cp2) * 0x1_0000_0000 + bits32(c.cp1)
+}
+
+// The curve's number, whether there is a position, and the value.
+pub(crate) fn value_word(p: AutomationPoint) -> u64
+    ensures { λ r. ⌜ r ≡ valueWord p ⌝ }
+{
+    let curve = p.curve;
+    let position = p.sample_position;
+    ((curve.code() as u64) * 2 + position_flag(position)) * 0x1_0000_0000 + bits32(p.value)
+}
+
+// ---- the stores
+
+fn put_settings(envelope: AutomationEnvelope, words: &mut [u64])
+    requires { ⌜ 4 ≤ length (now words) ⌝ }
+    ensures { λ _. ⌜ now (words .exit) ≡ sets (now (words .entry)) 0 (packSettings envelope) ⌝ }
+{
+    let limits = envelope.limits();
+    let step = envelope.step_size;
+    let points = envelope.points;
+    words[0] = flags_word(envelope.target, envelope.enabled, limits);
+    words[1] = points.count as u64;
+    words[2] = bounds_word(limits);
+    words[3] = limit_bits(step);
+}
+
+// A point, from the place `at`.
+fn put_point(p: AutomationPoint, words: &mut [u64], at: usize)
+    requires { ⌜ at + 4 ≤ length (now words) ⌝ }
+    ensures { λ _. ⌜ now (words .exit) ≡ sets (now (words .entry)) at (packPoint p) ⌝ }
+{
+    let position = p.sample_position;
+    let curve = p.curve;
+    words[at] = bits64(p.time);
+    words[at + 1] = position_word(position);
+    words[at + 2] = controls_word(curve);
+    words[at + 3] = value_word(p);
+}
+
+fn put_state(envelope: AutomationEnvelope, words: &mut [u64])
+    requires { ⌜ 1028 ≤ length (now words) ⌝ }
+    ensures { λ _. ⌜ now (words .exit) ≡ pack envelope ++ drop 1028 (now (words .entry)) ⌝ }
+{
+    put_settings(envelope, &mut *words);
+    let points = envelope.points;
+    let mut i: usize = 0;
+    while i < 256 {
+        let p = points.places[i];
+        put_point(p, &mut *words, 4 + 4 * i);
+        i += 1;
+    }
+}
+
+// The envelope's state from the start of the lent words; the words after it stay.
+pub fn write_state(envelope: AutomationEnvelope, words: &mut [u64]) -> Answer
+    ensures { λ r. ⌜ said r ≡ writeState envelope (now (words .entry)) .said ⌝ }
+    ensures { λ _. ⌜ now (words .exit) ≡ writeState envelope (now (words .entry)) .words ⌝ }
+{
+    if words.len() < 1028 {
+        return Answer::Refused(Refusal::NoRoom);
+    }
+    put_state(envelope, &mut *words);
+    Answer::Accepted
 }

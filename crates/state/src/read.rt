@@ -1,0 +1,186 @@
+// Reading an envelope from lent words.
+ghost use mathlib.Core.Path.{_≡_};
+ghost use mathlib.Core.Bool.{_&&_};
+ghost use Prim.Native.Nat.{_+_, _<_, _≤_};
+ghost use lib.Dec.{eqb};
+ghost use lib.ListN.{length, take, drop};
+ghost use lib.Ieee.{binary32, binary64, ofBits};
+ghost use Rattle.points.specs.Points.{everyPair};
+ghost use Rattle.points.specs.declared.refusal.Refusal.the-variants.{StoredState};
+ghost use Rattle.envelope.specs.Envelope.{new};
+ghost use Rattle.envelope.specs.Edit.{toldEdit, refusedEdit};
+ghost use Rattle.state.specs.State.{bit, limitOf, positionOf, packSettings, packPoint, pointOf, packPoints, pointsOf, stateOf, readState};
+use curve::CurveType;
+use envelope::AutomationEnvelope;
+use envelope::Edited;
+use lookup::Limit;
+use points::AutomationPoint;
+use points::Points;
+use points::SamplePosition;
+use points::refusal::Answer;
+use points::refusal::Refusal;
+
+// The float of a pattern, whatever NaN it is.
+fn float64(b: u64) -> f64
+    ensures { λ r. ⌜ r ≡ ofBits binary64 b ⌝ }
+{
+    if 0x7FF0_0000_0000_0000 < b % 0x8000_0000_0000_0000 {
+        0.0 / 0.0
+    } else {
+        f64::from_bits(b)
+    }
+}
+
+fn float32(b: u64) -> f32
+    requires { ⌜ b < 0x1_0000_0000 ⌝ }
+    ensures { λ r. ⌜ r ≡ ofBits binary32 b ⌝ }
+{
+    if 0x7F80_0000 < b % 0x8000_0000 {
+        0.0 / 0.0
+    } else {
+        f32::from_bits(b as u32)
+    }
+}
+
+fn limit_of(has: bool, bits: u64) -> Limit
+    requires { ⌜ bits < 0x1_0000_0000 ⌝ }
+    ensures { λ r. ⌜ r ≡ limitOf has bits ⌝ }
+{
+    if has {
+        Limit::Number(float32(bits))
+    } else {
+        Limit::None
+    }
+}
+
+fn position_of(has: bool, n: u64) -> SamplePosition
+    ensures { λ r. ⌜ r ≡ positionOf has n ⌝ }
+{
+    if has {
+        SamplePosition::At(n)
+    } else {
+        SamplePosition::None
+    }
+}
+
+// The point whose words start at the place `at`.
+fn read_point(words: &[u64], at: usize) -> AutomationPoint
+    requires { ⌜ at + 4 ≤ length (now words) ⌝ }
+    ensures { λ r. ⌜ r ≡ pointOf (drop at (now (words .entry))) ⌝ }
+{
+    let controls = words[at + 2];
+    let tag = words[at + 3] / 0x1_0000_0000;
+    AutomationPoint {
+        time: float64(words[at]),
+        sample_position: position_of(tag / 1 % 2 == 1, words[at + 1]),
+        value: float32(words[at + 3] % 0x1_0000_0000),
+        curve: CurveType::from_code(
+            (tag / 2) as u32,
+            float32(controls % 0x1_0000_0000),
+            float32(controls / 0x1_0000_0000),
+        ),
+    }
+}
+
+// Whether the words from the place `at` on are the point's.
+fn same_point(p: AutomationPoint, words: &[u64], at: usize) -> bool
+    requires { ⌜ at + 4 ≤ length (now words) ⌝ }
+    ensures { λ r. ⌜ r ≡ everyPair eqb (packPoint p) (take 4 (drop at (now (words .entry)))) ⌝ }
+{
+    let position = p.sample_position;
+    let curve = p.curve;
+    (crate::write::bits64(p.time) == words[at])
+        & ((crate::write::position_word(position) == words[at + 1])
+            & ((crate::write::controls_word(curve) == words[at + 2])
+                & (crate::write::value_word(p) == words[at + 3])))
+}
+
+// The places of a state, and whether they pack to the same words.
+struct Places {
+    same: bool,
+    places: [AutomationPoint; 256],
+}
+
+fn read_places(words: &[u64]) -> Places
+    requires { ⌜ length (now words) ≡ 1028 ⌝ }
+    ensures { λ r. ⌜ r .places ≡ pointsOf 256 (drop 4 (now (words .entry))) ⌝ }
+    ensures { λ r. ⌜ r .same ≡ everyPair eqb (packPoints (pointsOf 256 (drop 4 (now (words .entry))))) (drop 4 (now (words .entry))) ⌝ }
+{
+    let unused = points::point::unused();
+    let mut places = [unused; 256];
+    let mut same = true;
+    let mut i: usize = 0;
+    while i < 256 {
+        let at = 4 + 4 * i;
+        let p = read_point(words, at);
+        same = same & same_point(p, words, at);
+        places[i] = p;
+        i += 1;
+    }
+    Places { same, places }
+}
+
+// The envelope that stands in the words, with its places read before.
+fn with_places(words: &[u64], places: [AutomationPoint; 256]) -> AutomationEnvelope
+    requires { ⌜ length (now words) ≡ 1028 ⌝ }
+    requires { ⌜ places ≡ pointsOf 256 (drop 4 (now words)) ⌝ }
+    ensures { λ r. ⌜ r ≡ stateOf (now (words .entry)) ⌝ }
+{
+    let flags = words[0] / 0x1_0000_0000;
+    let bounds = words[2];
+    let points = Points {
+        count: words[1] as usize,
+        places,
+    };
+    AutomationEnvelope {
+        target: (words[0] % 0x1_0000_0000) as u32,
+        points,
+        enabled: flags / 1 % 2 == 1,
+        min_value: limit_of(flags / 2 % 2 == 1, bounds % 0x1_0000_0000),
+        max_value: limit_of(flags / 4 % 2 == 1, bounds / 0x1_0000_0000),
+        step_size: limit_of(flags / 8 % 2 == 1, words[3] % 0x1_0000_0000),
+    }
+}
+
+// Whether the first words are the envelope's settings.
+fn same_settings(envelope: AutomationEnvelope, words: &[u64]) -> bool
+    requires { ⌜ 4 ≤ length (now words) ⌝ }
+    ensures { λ r. ⌜ r ≡ everyPair eqb (packSettings envelope) (take 4 (now (words .entry))) ⌝ }
+{
+    let limits = envelope.limits();
+    let step = envelope.step_size;
+    let points = envelope.points;
+    (crate::write::flags_word(envelope.target, envelope.enabled, limits) == words[0])
+        & ((points.count as u64 == words[1])
+            & ((crate::write::bounds_word(limits) == words[2])
+                & (crate::write::limit_bits(step) == words[3])))
+}
+
+fn no_state() -> Edited
+    ensures { λ r. ⌜ r ≡ refusedEdit (new 0) StoredState ⌝ }
+{
+    Edited {
+        answer: Answer::Refused(Refusal::StoredState),
+        envelope: AutomationEnvelope::new(0),
+    }
+}
+
+// The envelope of a stored state.
+pub fn read_state(words: &[u64]) -> Edited
+    ensures { λ r. ⌜ toldEdit r ≡ readState (now (words .entry)) ⌝ }
+{
+    if words.len() != 1028 {
+        return no_state();
+    }
+    let read = read_places(words);
+    let places = read.places;
+    let envelope = with_places(words, places);
+    if envelope.is_valid() & (same_settings(envelope, words) & read.same) {
+        Edited {
+            answer: Answer::Accepted,
+            envelope,
+        }
+    } else {
+        no_state()
+    }
+}
