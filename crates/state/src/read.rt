@@ -9,7 +9,7 @@ ghost use Rattle.points.specs.Points.{everyPair};
 ghost use Rattle.points.specs.declared.refusal.Refusal.the-variants.{StoredState};
 ghost use Rattle.envelope.specs.Envelope.{new};
 ghost use Rattle.envelope.specs.Edit.{toldEdit, refusedEdit};
-ghost use Rattle.state.specs.State.{bit, limitOf, positionOf, packSettings, packPoint, pointOf, packPoints, pointsOf, stateOf, readState};
+ghost use Rattle.state.specs.State.{high, low, bit, limitOf, positionOf, packSettings, packPoint, pointOf, packPoints, pointsOf, stateOf, readState};
 use curve::CurveType;
 use envelope::AutomationEnvelope;
 use envelope::Edited;
@@ -29,6 +29,29 @@ fn float64(b: u64) -> f64
     } else {
         f64::from_bits(b)
     }
+}
+
+// The halves of a word.
+fn high(w: u64) -> u64
+    ensures { λ r. ⌜ r ≡ high w ⌝ }
+    ensures { λ r. ⌜ r < 0x1_0000_0000 ⌝ }
+{
+    w / 0x1_0000_0000
+}
+
+fn low(w: u64) -> u64
+    ensures { λ r. ⌜ r ≡ low w ⌝ }
+    ensures { λ r. ⌜ r < 0x1_0000_0000 ⌝ }
+{
+    w % 0x1_0000_0000
+}
+
+// The bit of worth d.
+fn bit(d: u64, n: u64) -> bool
+    requires { ⌜ 0 < d ⌝ }
+    ensures { λ r. ⌜ r ≡ bit d n ⌝ }
+{
+    n / d % 2 == 1
 }
 
 fn float32(b: u64) -> f32
@@ -69,16 +92,15 @@ fn read_point(words: &[u64], at: usize) -> AutomationPoint
     ensures { λ r. ⌜ r ≡ pointOf (drop at (now (words .entry))) ⌝ }
 {
     let controls = words[at + 2];
-    let tag = words[at + 3] / 0x1_0000_0000;
+    let value = words[at + 3];
+    let tag = high(value);
+    let cp1 = float32(low(controls));
+    let cp2 = float32(high(controls));
     AutomationPoint {
         time: float64(words[at]),
-        sample_position: position_of(tag / 1 % 2 == 1, words[at + 1]),
-        value: float32(words[at + 3] % 0x1_0000_0000),
-        curve: CurveType::from_code(
-            (tag / 2) as u32,
-            float32(controls % 0x1_0000_0000),
-            float32(controls / 0x1_0000_0000),
-        ),
+        sample_position: position_of(bit(1, tag), words[at + 1]),
+        value: float32(low(value)),
+        curve: CurveType::from_code((tag / 2) as u32, cp1, cp2),
     }
 }
 
@@ -126,19 +148,20 @@ fn with_places(words: &[u64], places: [AutomationPoint; 256]) -> AutomationEnvel
     requires { ⌜ places ≡ pointsOf 256 (drop 4 (now words)) ⌝ }
     ensures { λ r. ⌜ r ≡ stateOf (now (words .entry)) ⌝ }
 {
-    let flags = words[0] / 0x1_0000_0000;
+    let first = words[0];
+    let flags = high(first);
     let bounds = words[2];
     let points = Points {
         count: words[1] as usize,
         places,
     };
     AutomationEnvelope {
-        target: (words[0] % 0x1_0000_0000) as u32,
+        target: low(first) as u32,
         points,
-        enabled: flags / 1 % 2 == 1,
-        min_value: limit_of(flags / 2 % 2 == 1, bounds % 0x1_0000_0000),
-        max_value: limit_of(flags / 4 % 2 == 1, bounds / 0x1_0000_0000),
-        step_size: limit_of(flags / 8 % 2 == 1, words[3] % 0x1_0000_0000),
+        enabled: bit(1, flags),
+        min_value: limit_of(bit(2, flags), low(bounds)),
+        max_value: limit_of(bit(4, flags), high(bounds)),
+        step_size: limit_of(bit(8, flags), low(words[3])),
     }
 }
 

@@ -1,0 +1,176 @@
+-- The words of a state, as the loops write and read them. Assumes nothing.
+use Prim.Native.Nat.{ℕ, zero, suc, _+_, _*_, _≤_, _<_}
+use mathlib.Core.Path.{_≡_, refl, sym, ap, _∙_}
+use mathlib.Core.Bool.{Bool, true, _&&_}
+use mathlib.Core.List.{List, [], _∷_, _++_, append-assoc, append-nil}
+use native.Mathlib.Nat.{add-zero, not-suc-le-zero, le-of-suc-le-suc}
+use native.Mathlib.Numerals.{add-one}
+use native.Mathlib.Omega.{arith}
+use lib.Dec.{eqb}
+use lib.ListN.{length, getD, take, drop, set, length-append, length-drop, take-append-drop}
+use lib.Seq.{sets, sets-eq, take-suc-set, take-all, take-add, take-length, drop-cons, drop-drop, getD-drop, length-take-le}
+use Rattle.points.specs.Points.{everyPair}
+use Rattle.points.specs.Laws.{and-true, and-assoc, and-both}
+use Rattle.points.specs.declared.AutomationPoint.{AutomationPoint}
+use Rattle.envelope.specs.declared.AutomationEnvelope.{AutomationEnvelope}
+use Rattle.state.specs.State.{packSettings, packPoint, pointOf, packPoints, pointsOf, pack, stateOf}
+use Rattle.state.specs.StateLaws.{length-settings, length-point, length-points, length-places, length-pointsOf}
+
+-- ---- runs of stores
+
+-- one run after another
+sets-append : (l : List ℕ) (i : ℕ) (us vs : List ℕ) → sets l i (us ++ vs) ≡ sets (sets l i us) (i + length us) vs
+sets-append l i [] vs = ap (λ (k : ℕ). sets l k vs) (sym (add-zero i))
+sets-append l i (a ∷ us) vs =
+    let k : suc i + length us ≡ i + suc (length us) = omega arith in
+    sets-append (set l i a) (suc i) us vs ∙ ap (λ (n : ℕ). sets (sets (set l i a) (suc i) us) n vs) k
+
+-- four stores from a place on
+pub four-stores : (l : List ℕ) (at a b c d : ℕ) → set (set (set (set l at a) (at + 1) b) (at + 2) c) (at + 3) d ≡ sets l at (a ∷ b ∷ c ∷ d ∷ [])
+four-stores l at a b c d =
+    let one : at + 1 ≡ suc at = omega arith in
+    let two : at + 2 ≡ suc (suc at) = omega arith in
+    let three : at + 3 ≡ suc (suc (suc at)) = omega arith in
+    λ i. set (set (set (set l at a) (one i) b) (two i) c) (three i) d
+
+-- ---- four words from a place on
+
+pub point-at : (w : List ℕ) (at : ℕ) → pointOf (getD w at 0 ∷ getD w (at + 1) 0 ∷ getD w (at + 2) 0 ∷ getD w (at + 3) 0 ∷ []) ≡ pointOf (drop at w)
+unfolding pointOf
+point-at w at = rw (getD-drop, add-zero)
+
+take-four : (w : List ℕ) (at : ℕ) → at + 4 ≤ length w → take 4 (drop at w) ≡ getD w at 0 ∷ getD w (at + 1) 0 ∷ getD w (at + 2) 0 ∷ getD w (at + 3) 0 ∷ []
+take-four w at h =
+    let one : suc at ≡ at + 1 = omega arith in
+    let two : suc (at + 1) ≡ at + 2 = omega arith in
+    let three : suc (at + 2) ≡ at + 3 = omega arith in
+    let d₀ : drop at w ≡ getD w at 0 ∷ drop (at + 1) w = drop-cons w at 0 (omega arith) ∙ ap (λ (k : ℕ). getD w at 0 ∷ drop k w) one in
+    let d₁ : drop (at + 1) w ≡ getD w (at + 1) 0 ∷ drop (at + 2) w = drop-cons w (at + 1) 0 (omega arith) ∙ ap (λ (k : ℕ). getD w (at + 1) 0 ∷ drop k w) two in
+    let d₂ : drop (at + 2) w ≡ getD w (at + 2) 0 ∷ drop (at + 3) w = drop-cons w (at + 2) 0 (omega arith) ∙ ap (λ (k : ℕ). getD w (at + 2) 0 ∷ drop k w) three in
+    let d₃ : drop (at + 3) w ≡ getD w (at + 3) 0 ∷ drop (suc (at + 3)) w = drop-cons w (at + 3) 0 (omega arith) in
+    ap (take 4) d₀
+    ∙ ap (λ (l : List ℕ). getD w at 0 ∷ take 3 l) d₁
+    ∙ ap (λ (l : List ℕ). getD w at 0 ∷ getD w (at + 1) 0 ∷ take 2 l) d₂
+    ∙ ap (λ (l : List ℕ). getD w at 0 ∷ getD w (at + 1) 0 ∷ getD w (at + 2) 0 ∷ take 1 l) d₃
+
+-- a comparison with each of them
+pub same-four : (w : List ℕ) (at a b c d : ℕ) → at + 4 ≤ length w
+    → (eqb a (getD w at 0) && (eqb b (getD w (at + 1) 0) && (eqb c (getD w (at + 2) 0) && eqb d (getD w (at + 3) 0)))) ≡ everyPair eqb (a ∷ b ∷ c ∷ d ∷ []) (take 4 (drop at w))
+unfolding everyPair
+same-four w at a b c d h =
+    ap (λ (t : Bool). eqb a (getD w at 0) && (eqb b (getD w (at + 1) 0) && (eqb c (getD w (at + 2) 0) && t))) (sym (and-true (eqb d (getD w (at + 3) 0))))
+    ∙ ap (everyPair eqb (a ∷ b ∷ c ∷ d ∷ [])) (sym (take-four w at h))
+
+-- ---- the loop that writes the places
+
+pack-more : (l : List AutomationPoint) (i : ℕ) (d : AutomationPoint) → i < length l → packPoints (take (suc i) l) ≡ packPoints (take i l) ++ packPoint (getD l i d)
+unfolding packPoints
+pack-more [] i d h = absurd (not-suc-le-zero h)
+pack-more (p ∷ l) zero d h = append-nil (packPoint p)
+pack-more (p ∷ l) (suc i) d h = ap (λ (m : List ℕ). packPoint p ++ m) (pack-more l i d (le-of-suc-le-suc h)) ∙ sym (append-assoc (packPoint p) _ _)
+
+pub put-none : (w : List ℕ) → w ≡ sets w 4 (packPoints [])
+unfolding packPoints
+put-none w = refl
+
+pub put-turn : (w x y : List ℕ) (l : List AutomationPoint) (i : ℕ) (d : AutomationPoint) → i < length l
+    → x ≡ sets w 4 (packPoints (take i l)) → y ≡ sets x (4 + 4 * i) (packPoint (getD l i d)) → y ≡ sets w 4 (packPoints (take (i + 1) l))
+put-turn w x y l i d h inv is =
+    let n : 4 + length (packPoints (take i l)) ≡ 4 + 4 * i = omega (arith, length-points (take i l), length-take-le i l (omega arith)) in
+    is
+    ∙ ap (λ (v : List ℕ). sets v (4 + 4 * i) (packPoint (getD l i d))) inv
+    ∙ ap (λ (k : ℕ). sets (sets w 4 (packPoints (take i l))) k (packPoint (getD l i d))) (sym n)
+    ∙ sym (sets-append w 4 (packPoints (take i l)) (packPoint (getD l i d)))
+    ∙ ap (sets w 4) (sym (pack-more l i d h) ∙ ap (λ (k : ℕ). packPoints (take k l)) (sym (add-one i)))
+
+pub put-all : (e : AutomationEnvelope) (w v x : List ℕ) (i : ℕ) → length (e .points .places) ≡ 256 → 1028 ≤ length w → i ≡ 256
+    → v ≡ sets w 0 (packSettings e) → x ≡ sets v 4 (packPoints (take i (e .points .places))) → x ≡ pack e ++ drop 1028 w
+unfolding pack
+put-all e w v x i len room k first inv =
+    let places = e .points .places in
+    let all : take i places ≡ places = take-all i places (omega arith) in
+    let n : length (packSettings e ++ packPoints places) ≡ 1028 = length-places e len in
+    inv
+    ∙ ap (λ (l : List AutomationPoint). sets v 4 (packPoints l)) all
+    ∙ ap (λ (u : List ℕ). sets u 4 (packPoints places)) first
+    ∙ ap (λ (m : ℕ). sets (sets w 0 (packSettings e)) m (packPoints places)) (sym (length-settings e))
+    ∙ sym (sets-append w 0 (packSettings e) (packPoints places))
+    ∙ sets-eq (packSettings e ++ packPoints places) w 0 (omega arith)
+    ∙ ap (λ (m : ℕ). (packSettings e ++ packPoints places) ++ drop m w) n
+
+-- ---- the loop that reads the places
+
+points-more : (n : ℕ) (w : List ℕ) → pointsOf (suc n) w ≡ pointsOf n w ++ (pointOf (drop (4 * n) w) ∷ [])
+unfolding pointsOf
+points-more zero w = refl
+points-more (suc n) w =
+    let e : 4 + 4 * n ≡ 4 * suc n = omega arith in
+    ap (λ (l : List AutomationPoint). pointOf w ∷ l)
+    (points-more n (drop 4 w) ∙ ap (λ (x : List ℕ). pointsOf n (drop 4 w) ++ (pointOf x ∷ [])) (drop-drop (4 * n) 4 w ∙ ap (λ (k : ℕ). drop k w) e))
+
+packed-more : (l : List AutomationPoint) (p : AutomationPoint) → packPoints (l ++ (p ∷ [])) ≡ packPoints l ++ packPoint p
+unfolding packPoints
+packed-more [] p = append-nil (packPoint p)
+packed-more (q ∷ l) p = ap (λ (m : List ℕ). packPoint q ++ m) (packed-more l p) ∙ sym (append-assoc (packPoint q) (packPoints l) (packPoint p))
+
+-- the comparison of one list after another
+pair-append : (q : ℕ → ℕ → Bool) (a b c d : List ℕ) → length a ≡ length c → everyPair q (a ++ b) (c ++ d) ≡ (everyPair q a c && everyPair q b d)
+unfolding everyPair
+pair-append q [] b [] d h = refl
+pair-append q [] b (y ∷ c) d h = absurd (omega arith)
+pair-append q (x ∷ a) b [] d h = absurd (omega arith)
+pair-append q (x ∷ a) b (y ∷ c) d h = ap (λ (t : Bool). q x y && t) (pair-append q a b c d (omega arith)) ∙ sym (and-assoc (q x y) (everyPair q a c) (everyPair q b d))
+
+pub read-none : (places : List AutomationPoint) (w : List ℕ) → take 0 places ≡ pointsOf 0 (drop 4 w)
+unfolding pointsOf
+read-none places w = refl
+
+pub same-none : (w : List ℕ) → true ≡ everyPair eqb (packPoints (pointsOf 0 (drop 4 w))) (take (4 * 0) (drop 4 w))
+unfolding pointsOf packPoints everyPair
+same-none w = refl
+
+module _ (w : List ℕ) (i : ℕ) (p : AutomationPoint) (is : p ≡ pointOf (drop (4 + 4 * i) w)) where
+  point-is : p ≡ pointOf (drop (4 * i) (drop 4 w))
+  point-is = is ∙ ap pointOf (sym (drop-drop (4 * i) 4 w))
+
+  more : pointsOf (i + 1) (drop 4 w) ≡ pointsOf i (drop 4 w) ++ (p ∷ [])
+  more = ap (λ (k : ℕ). pointsOf k (drop 4 w)) (add-one i) ∙ points-more i (drop 4 w) ∙ ap (λ (q : AutomationPoint). pointsOf i (drop 4 w) ++ (q ∷ [])) (sym point-is)
+
+  pub read-turn : (places : List AutomationPoint) → i < length places → take i places ≡ pointsOf i (drop 4 w) → take (i + 1) (set places i p) ≡ pointsOf (i + 1) (drop 4 w)
+  read-turn places h inv =
+      ap (λ (k : ℕ). take k (set places i p)) (add-one i)
+      ∙ take-suc-set places i p h
+      ∙ ap (λ (l : List AutomationPoint). l ++ (p ∷ [])) inv
+      ∙ sym more
+
+  pub same-turn : (same more-same : Bool) → 4 + 4 * i + 4 ≤ length w
+      → same ≡ everyPair eqb (packPoints (pointsOf i (drop 4 w))) (take (4 * i) (drop 4 w))
+      → more-same ≡ everyPair eqb (packPoint p) (take 4 (drop (4 + 4 * i) w))
+      → (same && more-same) ≡ everyPair eqb (packPoints (pointsOf (i + 1) (drop 4 w))) (take (4 * (i + 1)) (drop 4 w))
+  same-turn same more-same h inv this =
+      let n : 4 * (i + 1) ≡ 4 * i + 4 = omega arith in
+      let len : length (packPoints (pointsOf i (drop 4 w))) ≡ length (take (4 * i) (drop 4 w)) =
+          length-points (pointsOf i (drop 4 w)) ∙ ap (λ (k : ℕ). 4 * k) (length-pointsOf i (drop 4 w))
+          ∙ sym (length-take-le (4 * i) (drop 4 w) (simp length-drop (omega arith))) in
+      and-both inv (this ∙ ap (λ (l : List ℕ). everyPair eqb (packPoint p) (take 4 l)) (sym (drop-drop (4 * i) 4 w)))
+      ∙ sym (pair-append eqb (packPoints (pointsOf i (drop 4 w))) (packPoint p) (take (4 * i) (drop 4 w)) (take 4 (drop (4 * i) (drop 4 w))) len)
+      ∙ (λ j. everyPair eqb (sym (ap packPoints more ∙ packed-more (pointsOf i (drop 4 w)) p) j) (sym (ap (λ (k : ℕ). take k (drop 4 w)) n ∙ take-add (4 * i) 4 (drop 4 w)) j))
+
+pub read-all : (w : List ℕ) (places : List AutomationPoint) (i : ℕ) → i ≡ 256 → length places ≡ 256 → take i places ≡ pointsOf i (drop 4 w) → places ≡ pointsOf 256 (drop 4 w)
+read-all w places i k len inv = sym (take-all i places (omega arith)) ∙ inv ∙ ap (λ (n : ℕ). pointsOf n (drop 4 w)) k
+
+pub same-all : (w : List ℕ) (same : Bool) (i : ℕ) → i ≡ 256 → length w ≡ 1028 → same ≡ everyPair eqb (packPoints (pointsOf i (drop 4 w))) (take (4 * i) (drop 4 w))
+    → same ≡ everyPair eqb (packPoints (pointsOf 256 (drop 4 w))) (drop 4 w)
+same-all w same i k len inv =
+    inv
+    ∙ ap (everyPair eqb (packPoints (pointsOf i (drop 4 w)))) (take-all (4 * i) (drop 4 w) (simp length-drop (omega arith)))
+    ∙ ap (λ (n : ℕ). everyPair eqb (packPoints (pointsOf n (drop 4 w))) (drop 4 w)) k
+
+-- ---- the whole state: the settings' words, then the places'
+
+pub same-state : (e : AutomationEnvelope) (w : List ℕ) → length w ≡ 1028
+    → everyPair eqb (pack e) w ≡ (everyPair eqb (packSettings e) (take 4 w) && everyPair eqb (packPoints (e .points .places)) (drop 4 w))
+unfolding pack
+same-state e w len =
+    ap (everyPair eqb (packSettings e ++ packPoints (e .points .places))) (sym (take-append-drop 4 w))
+    ∙ pair-append eqb (packSettings e) (packPoints (e .points .places)) (take 4 w) (drop 4 w) (length-settings e ∙ sym (length-take-le 4 w (omega arith)))
