@@ -8,7 +8,7 @@ use native.Mathlib.Numerals.{add-one}
 use native.Mathlib.Omega.{arith}
 use lib.Dec.{eqb}
 use lib.ListN.{length, getD, take, drop, set, length-append, length-drop, take-append-drop}
-use lib.Seq.{sets, sets-eq, take-suc-set, take-all, take-add, take-length, drop-cons, drop-drop, getD-drop, length-take-le}
+use lib.Seq.{sets, sets-eq, length-sets, take-suc-set, take-all, take-add, take-length, drop-cons, drop-drop, getD-drop, length-take-le}
 use Rattle.points.specs.Points.{everyPair}
 use Rattle.points.specs.Laws.{and-true, and-assoc, and-both}
 use Rattle.points.specs.declared.AutomationPoint.{AutomationPoint}
@@ -37,7 +37,9 @@ four-stores l at a b c d =
 
 pub point-at : (w : List ℕ) (at : ℕ) → pointOf (getD w at 0 ∷ getD w (at + 1) 0 ∷ getD w (at + 2) 0 ∷ getD w (at + 3) 0 ∷ []) ≡ pointOf (drop at w)
 unfolding pointOf
-point-at w at = rw (getD-drop, add-zero)
+point-at w at =
+    let first : getD w at 0 ≡ getD (drop at w) 0 0 = ap (λ (k : ℕ). getD w k 0) (sym (add-zero at)) ∙ sym (getD-drop at w 0 0) in
+    λ i. pointOf (first i ∷ sym (getD-drop at w 1 0) i ∷ sym (getD-drop at w 2 0) i ∷ sym (getD-drop at w 3 0) i ∷ [])
 
 take-four : (w : List ℕ) (at : ℕ) → at + 4 ≤ length w → take 4 (drop at w) ≡ getD w at 0 ∷ getD w (at + 1) 0 ∷ getD w (at + 2) 0 ∷ getD w (at + 3) 0 ∷ []
 take-four w at h =
@@ -69,31 +71,41 @@ pack-more [] i d h = absurd (not-suc-le-zero h)
 pack-more (p ∷ l) zero d h = append-nil (packPoint p)
 pack-more (p ∷ l) (suc i) d h = ap (λ (m : List ℕ). packPoint p ++ m) (pack-more l i d (le-of-suc-le-suc h)) ∙ sym (append-assoc (packPoint p) _ _)
 
-pub put-none : (w : List ℕ) → w ≡ sets w 4 (packPoints [])
+-- v is w after a run of stores
+pub record Stored (w : List ℕ) (at : ℕ) (l v : List ℕ) : Type 0 where
+  pub run : v ≡ sets w at l
+
+pub stored-length : {w l v : List ℕ} {at : ℕ} → Stored w at l v → length v ≡ length w
+stored-length {w} {l} {v} {at} s = ap length (s .run) ∙ length-sets w at l
+
+pub put-none : {w : List ℕ} (l : List AutomationPoint) → Stored w 4 (packPoints (take 0 l)) w
 unfolding packPoints
-put-none w = refl
+put-none l = record { run = refl }
 
-pub put-turn : (w x y : List ℕ) (l : List AutomationPoint) (i : ℕ) (d : AutomationPoint) → i < length l
-    → x ≡ sets w 4 (packPoints (take i l)) → y ≡ sets x (4 + 4 * i) (packPoint (getD l i d)) → y ≡ sets w 4 (packPoints (take (i + 1) l))
-put-turn w x y l i d h inv is =
+pub put-turn : {w x y : List ℕ} (l : List AutomationPoint) (i : ℕ) (d : AutomationPoint) → i < length l
+    → Stored w 4 (packPoints (take i l)) x → y ≡ sets x (4 + 4 * i) (packPoint (getD l i d)) → Stored w 4 (packPoints (take (i + 1) l)) y
+put-turn {w} l i d h inv is =
     let n : 4 + length (packPoints (take i l)) ≡ 4 + 4 * i = omega (arith, length-points (take i l), length-take-le i l (omega arith)) in
-    is
-    ∙ ap (λ (v : List ℕ). sets v (4 + 4 * i) (packPoint (getD l i d))) inv
-    ∙ ap (λ (k : ℕ). sets (sets w 4 (packPoints (take i l))) k (packPoint (getD l i d))) (sym n)
-    ∙ sym (sets-append w 4 (packPoints (take i l)) (packPoint (getD l i d)))
-    ∙ ap (sets w 4) (sym (pack-more l i d h) ∙ ap (λ (k : ℕ). packPoints (take k l)) (sym (add-one i)))
+    record {
+      run = is
+          ∙ ap (λ (v : List ℕ). sets v (4 + 4 * i) (packPoint (getD l i d))) (inv .run)
+          ∙ ap (λ (k : ℕ). sets (sets w 4 (packPoints (take i l))) k (packPoint (getD l i d))) (sym n)
+          ∙ sym (sets-append w 4 (packPoints (take i l)) (packPoint (getD l i d)))
+          ∙ ap (sets w 4) (sym (pack-more l i d h) ∙ ap (λ (k : ℕ). packPoints (take k l)) (sym (add-one i)));
+    }
 
-pub put-all : (e : AutomationEnvelope) (w v x : List ℕ) (i : ℕ) → length (e .points .places) ≡ 256 → 1028 ≤ length w → i ≡ 256
-    → v ≡ sets w 0 (packSettings e) → x ≡ sets v 4 (packPoints (take i (e .points .places))) → x ≡ pack e ++ drop 1028 w
+pub put-all : {v x : List ℕ} (e : AutomationEnvelope) (w : List ℕ) (i : ℕ) → length (e .points .places) ≡ 256 → 1028 ≤ length w → i ≡ 256
+    → v ≡ sets w 0 (packSettings e) → Stored v 4 (packPoints (take i (e .points .places))) x → x ≡ pack e ++ drop 1028 w
 unfolding pack
-put-all e w v x i len room k first inv =
+put-all {v} e w i len room k first inv =
     let places = e .points .places in
     let all : take i places ≡ places = take-all i places (omega arith) in
-    let n : length (packSettings e ++ packPoints places) ≡ 1028 = length-places e len in
-    inv
+    let four : 4 ≡ 0 + length (packSettings e) = omega (arith, length-settings e) in
+    let n : 0 + length (packSettings e ++ packPoints places) ≡ 1028 = omega (arith, length-places e len) in
+    inv .run
     ∙ ap (λ (l : List AutomationPoint). sets v 4 (packPoints l)) all
     ∙ ap (λ (u : List ℕ). sets u 4 (packPoints places)) first
-    ∙ ap (λ (m : ℕ). sets (sets w 0 (packSettings e)) m (packPoints places)) (sym (length-settings e))
+    ∙ ap (λ (m : ℕ). sets (sets w 0 (packSettings e)) m (packPoints places)) four
     ∙ sym (sets-append w 0 (packSettings e) (packPoints places))
     ∙ sets-eq (packSettings e ++ packPoints places) w 0 (omega arith)
     ∙ ap (λ (m : ℕ). (packSettings e ++ packPoints places) ++ drop m w) n

@@ -1,0 +1,109 @@
+use mathlib.Core.Path.{_∙_}
+use mathlib.Core.List.{[], _∷_}
+use native.Mathlib.Omega.{arith}
+use lib.ListN.{length-set}
+use lib.Seq.{sets}
+use Rattle.state.specs.State.{packPoint}
+use Rattle.state.proofs.Words.{four-stores}
+use borrow.Author.Needs.{needs}
+use Rattle.state.proofs.write.put_point.Statement.{statement}
+use Rattle.state.proofs.write.put_point.Tie as tie
+use Rattle.state.proofs.write.put_point.Reads as reads
+use Rattle.state.proofs.write.put_point.Lts as lts
+use Rattle.state.proofs.write.bits64.Reads as bits64-reads
+use Rattle.state.proofs.write.controls_word.Reads as controls-word-reads
+use Rattle.state.proofs.write.position_word.Reads as position-word-reads
+use Rattle.state.proofs.write.value_word.Reads as value-word-reads
+
+-- src/write.rt:149:17
+bits64-requires : tie.Need-bits64-requires
+bits64-requires c κs = search needs
+
+-- src/write.rt:149:5
+mul-words : tie.Need-mul-words
+mul-words c = search needs
+
+-- src/write.rt:149:5
+slice-write-words : tie.Need-slice-write-words
+slice-write-words c = search needs
+
+-- src/write.rt:150:21
+position-word-requires : tie.Need-position-word-requires
+position-word-requires c κs = search needs
+
+-- src/write.rt:150:11
+add-words : tie.Need-add-words
+add-words c = search needs
+
+-- src/write.rt:150:5
+mul-words-2 : tie.Need-mul-words-2
+mul-words-2 c = search needs
+
+-- src/write.rt:150:5
+slice-write-words-2 : tie.Need-slice-write-words-2
+slice-write-words-2 c = simp length-set (omega (arith, c .before .before .before .pre))
+
+-- src/write.rt:151:21
+controls-word-requires : tie.Need-controls-word-requires
+controls-word-requires c κs = search needs
+
+-- src/write.rt:151:11
+add-words-2 : tie.Need-add-words-2
+add-words-2 c = search needs
+
+-- src/write.rt:151:5
+mul-words-3 : tie.Need-mul-words-3
+mul-words-3 c = search needs
+
+-- src/write.rt:151:5
+slice-write-words-3 : tie.Need-slice-write-words-3
+slice-write-words-3 c = simp length-set (omega (arith, c .before .before .before .before .pre))
+
+-- src/write.rt:152:21
+value-word-requires : tie.Need-value-word-requires
+value-word-requires c κs = search needs
+
+-- src/write.rt:152:11
+add-words-3 : tie.Need-add-words-3
+add-words-3 c = search needs
+
+-- src/write.rt:152:5
+mul-words-4 : tie.Need-mul-words-4
+mul-words-4 c = search needs
+
+-- src/write.rt:152:5
+slice-write-words-4 : tie.Need-slice-write-words-4
+slice-write-words-4 c = simp length-set (omega (arith, c .before .before .before .before .before .pre))
+
+-- src/write.rt:143:1
+same-length : tie.Need-same-length
+same-length c = search needs
+
+-- src/write.rt:143:1
+returns : tie.Need-returns
+unfolding packPoint
+returns c = 
+    four-stores (c .before .before .before .before .before .args .words .now) (c .before .before .before .before .before .args .at) _ _ _ _
+    ∙ (λ i. sets (c .before .before .before .before .before .args .words .now) (c .before .before .before .before .before .args .at) (c .before .before .before .bits64 .ensures i ∷ c .before .before .position-word .ensures i ∷ c .before .controls-word .ensures i ∷ c .value-word .ensures i ∷ []))
+
+pub put-point-spec : {M : Type 1} → statement M
+put-point-spec =
+    tie.close
+    (tie.spec
+    bits64-requires
+    mul-words
+    slice-write-words
+    position-word-requires
+    add-words
+    mul-words-2
+    slice-write-words-2
+    controls-word-requires
+    add-words-2
+    mul-words-3
+    slice-write-words-3
+    value-word-requires
+    add-words-3
+    mul-words-4
+    slice-write-words-4
+    same-length
+    returns)

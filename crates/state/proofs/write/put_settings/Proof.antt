@@ -1,0 +1,79 @@
+use mathlib.Core.Path.{ap, _∙_}
+use mathlib.Core.List.{[], _∷_}
+use native.Mathlib.Omega.{arith}
+use lib.ListN.{length-set}
+use lib.Seq.{sets}
+use Rattle.lookup.specs.declared.Limits.{Limits}
+use Rattle.state.specs.State.{halves, flags, boundsWord, packSettings}
+use borrow.Author.Needs.{needs}
+use Rattle.state.proofs.write.put_settings.Statement.{statement}
+use Rattle.state.proofs.write.put_settings.Tie as tie
+use Rattle.state.proofs.write.put_settings.Reads as reads
+use Rattle.state.proofs.write.put_settings.Lts as lts
+use Rattle.envelope.proofs.AutomationEnvelope.limits.Reads as limits-reads
+use Rattle.state.proofs.write.bounds_word.Reads as bounds-word-reads
+use Rattle.state.proofs.write.flags_word.Reads as flags-word-reads
+use Rattle.state.proofs.write.limit_bits.Reads as limit-bits-reads
+
+-- src/write.rt:133:9
+limits-requires : tie.Need-limits-requires
+limits-requires c κs = search needs
+
+-- src/write.rt:136:16
+flags-word-requires : tie.Need-flags-word-requires
+flags-word-requires c κs = search needs
+
+-- src/write.rt:136:5
+slice-write-words : tie.Need-slice-write-words
+slice-write-words c = search needs
+
+-- src/write.rt:137:5
+slice-write-words-2 : tie.Need-slice-write-words-2
+slice-write-words-2 c = simp length-set (omega (arith, c .before .before .before .before .pre))
+
+-- src/write.rt:138:16
+bounds-word-requires : tie.Need-bounds-word-requires
+bounds-word-requires c κs = search needs
+
+-- src/write.rt:138:5
+slice-write-words-3 : tie.Need-slice-write-words-3
+slice-write-words-3 c = simp length-set (omega (arith, c .before .before .before .before .before .pre))
+
+-- src/write.rt:139:16
+limit-bits-requires : tie.Need-limit-bits-requires
+limit-bits-requires c κs = search needs
+
+-- src/write.rt:139:5
+slice-write-words-4 : tie.Need-slice-write-words-4
+slice-write-words-4 c = search needs
+
+-- src/write.rt:129:1
+same-length : tie.Need-same-length
+same-length c = search needs
+
+-- src/write.rt:129:1
+returns : tie.Need-returns
+unfolding packSettings
+returns c = 
+    let e = c .before .before .before .before .before .before .args .envelope in
+    λ i. sets (c .before .before .before .before .before .before .args .words .now) 0
+        ((c .before .before .flags-word .ensures ∙ ap (λ (l : Limits). halves (flags (e .enabled) l) (e .target)) (c .before .before .before .before .limits .ensures)) i
+        ∷ e .points .count
+        ∷ (c .before .bounds-word .ensures ∙ ap boundsWord (c .before .before .before .before .limits .ensures)) i
+        ∷ c .limit-bits .ensures .0 i
+        ∷ [])
+
+pub put-settings-spec : {M : Type 1} → statement M
+put-settings-spec =
+    tie.close
+    (tie.spec
+    limits-requires
+    flags-word-requires
+    slice-write-words
+    slice-write-words-2
+    bounds-word-requires
+    slice-write-words-3
+    limit-bits-requires
+    slice-write-words-4
+    same-length
+    returns)
