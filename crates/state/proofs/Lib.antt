@@ -1,3 +1,4 @@
 pub mod Good
 pub mod Floats
 pub mod Words
+pub mod Calls

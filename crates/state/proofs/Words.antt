@@ -133,9 +133,9 @@ pair-append q [] b (y ∷ c) d h = absurd (omega arith)
 pair-append q (x ∷ a) b [] d h = absurd (omega arith)
 pair-append q (x ∷ a) b (y ∷ c) d h = ap (λ (t : Bool). q x y && t) (pair-append q a b c d (omega arith)) ∙ sym (and-assoc (q x y) (everyPair q a c) (everyPair q b d))
 
-pub read-none : (places : List AutomationPoint) (w : List ℕ) → take 0 places ≡ pointsOf 0 (drop 4 w)
+pub read-none : (w : List ℕ) → [] ≡ pointsOf 0 (drop 4 w)
 unfolding pointsOf
-read-none places w = refl
+read-none w = refl
 
 pub same-none : (w : List ℕ) → true ≡ everyPair eqb (packPoints (pointsOf 0 (drop 4 w))) (take (4 * 0) (drop 4 w))
 unfolding pointsOf packPoints everyPair

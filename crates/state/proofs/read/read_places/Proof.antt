@@ -27,7 +27,7 @@ unused-requires c κs = tt
 
 -- src/read.rt:135:5
 loop-holds : tie.Need-loop-holds Inv-loop μ-loop
-loop-holds c = (omega arith, refl, read-none _ _, same-none _)
+loop-holds c = (omega arith, refl, read-none (c .before .before .args .words .now), same-none (c .before .before .args .words .now))
 
 -- src/read.rt:136:22
 mul-at : tie.Need-mul-at Inv-loop μ-loop

@@ -1,3 +1,12 @@
+use mathlib.Core.Path.{refl, ap, _∙_}
+use mathlib.Core.Bool.{false, _&&_}
+use lib.Dec.{eqb}
+use lib.ListN.{take}
+use Rattle.points.specs.Points.{everyPair}
+use Rattle.envelope.specs.Envelope.{validEnvelope}
+use Rattle.envelope.specs.declared.AutomationEnvelope.{AutomationEnvelope}
+use Rattle.state.specs.State.{packSettings}
+use Rattle.state.proofs.Calls.{tested, other-length, accepted, refused}
 use borrow.Author.Needs.{needs}
 use Rattle.state.proofs.read.read_state.Statement.{statement}
 use Rattle.state.proofs.read.read_state.Tie as tie
@@ -15,7 +24,7 @@ no-state-requires c κs = search needs
 
 -- src/read.rt:196:9
 returns : tie.Need-returns
-returns c = ?
+returns c = refused (c .before .before .before .args .words .now) false (c .no-state .result) (other-length (c .before .before .before .args .words .now) (c .before .if1 .taken)) refl (c .no-state .ensures)
 
 -- src/read.rt:198:9
 read-places-requires : tie.Need-read-places-requires
@@ -39,11 +48,27 @@ no-state-requires-2 c κs = search needs
 
 -- src/read.rt:192:1
 returns-2 : tie.Need-returns-2
-returns-2 c = ?
+returns-2 c = 
+    let w = c .before .before .before .before .before .before .before .before .before .args .words .now in
+    let s = c .before .before .before .before .with-places .ensures in
+    let valid = c .before .before .before .is-valid .result in
+    let settings = c .before .before .same-settings .result in
+    let places = c .before .before .before .before .before .before .read-places .result .same in
+    accepted w (valid && (settings && places)) (c .before .before .before .before .with-places .result)
+    (tested w valid settings places (c .before .before .before .before .before .before .before .if1 .left) (c .before .before .before .is-valid .ensures ∙ ap validEnvelope s) (c .before .before .same-settings .ensures ∙ ap (λ (e : AutomationEnvelope). everyPair eqb (packSettings e) (take 4 w)) s) (c .before .before .before .before .before .before .read-places .ensures .1))
+    (c .if2 .taken) s
 
 -- src/read.rt:192:1
 returns-3 : tie.Need-returns-3
-returns-3 c = ?
+returns-3 c = 
+    let w = c .before .before .before .before .before .before .before .before .before .before .args .words .now in
+    let s = c .before .before .before .before .before .with-places .ensures in
+    let valid = c .before .before .before .before .is-valid .result in
+    let settings = c .before .before .before .same-settings .result in
+    let places = c .before .before .before .before .before .before .before .read-places .result .same in
+    refused w (valid && (settings && places)) (c .no-state2 .result)
+    (tested w valid settings places (c .before .before .before .before .before .before .before .before .if1 .left) (c .before .before .before .before .is-valid .ensures ∙ ap validEnvelope s) (c .before .before .before .same-settings .ensures ∙ ap (λ (e : AutomationEnvelope). everyPair eqb (packSettings e) (take 4 w)) s) (c .before .before .before .before .before .before .before .read-places .ensures .1))
+    (c .before .if2 .left) (c .no-state2 .ensures)
 
 pub read-state-spec : {M : Type 1} → statement M
 read-state-spec =
