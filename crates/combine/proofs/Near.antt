@@ -60,8 +60,10 @@ module _ (ps : List AutomationPoint) (n : ℕ) (time : Float) (f : n ≤ length 
     where
       two : eqb n 0 ≡ false → eqb n 1 ≡ false → 2 ≤ n
       two x y = let u : n ≡ 0 → ⊥ = eqb-false n 0 x in let v : n ≡ 1 → ⊥ = eqb-false n 1 y in omega arith
+
       key : i < n → timeKey (pointAt ps i) ≡ timeKey q
       key s = ap timeKey (sym (hq s))
+
       inner : (g h k : Bool) → leb n i ≡ g → eqb (timeKey q) (orderKey time) ≡ h → eqb i 0 ≡ k
           → cond g none (cond h (some (between time q q)) (cond k none (some (between time p q)))) ≡ rawAt (take n ps) time
       inner true h k x y z = sym (raw-past ps n time f (two ta tb) tc td i e (leb-true n i x))

@@ -7,7 +7,7 @@ use native.Mathlib.Nat.{lt-trans}
 use native.Mathlib.Numerals.{add-one}
 use native.Mathlib.Omega.{arith}
 use lib.Dec.{ltb, leb, eqb}
-use lib.ListN.{length, take, drop, getD, set, length-append, length-map, length-take, drop-of-length-le, List·getD-map}
+use lib.ListN.{length, take, drop, set, length-append, length-map, drop-of-length-le, List·getD-map}
 use lib.Seq.{drop-cons, getD-take, length-take-le, take-all, take-append-le}
 use lib.Ieee.{Float}
 use borrow.Author.Tests.{ltb-true, ltb-false, leb-true, leb-false, le-leb, lt-leb, eqb-true, eqb-false}
@@ -211,6 +211,7 @@ module _ (a b : Side) (i j : ℕ) (fa : a .points .count ≤ length (a .points .
       later x y =
           cond (ltb (orderKey x) (orderKey y)) (record { time = x; i = i + 1; j = j })
           (cond (eqb (orderKey x) (orderKey y)) (record { time = x; i = i + 1; j = j + 1 }) (record { time = y; i = i; j = j + 1 }))
+
       go : (u v : Bool) → leb n i ≡ u → leb m j ≡ v
           → cond u (record { time = t .time; i = i; j = j + 1 }) (cond v (record { time = q .time; i = i + 1; j = j }) (later (q .time) (t .time)))
           ≡ cond u (record { time = pointAt Q j .time; i = i; j = j + 1 }) (cond v (record { time = pointAt P i .time; i = i + 1; j = j }) (later (pointAt P i .time) (pointAt Q j .time)))
@@ -337,6 +338,7 @@ module _ (op : Operation) (a b : Points) (left right : Ends) (va : validPoints a
       u-is =
           hu ∙ ap (λ (e : Ends). nearAt e i (pointAt (a .places) i0) (pointAt (a .places) i1) (x .time)) ea
           ∙ near-is first (x .time) i (pointAt (a .places) i0) (pointAt (a .places) i1) fa (s .place) (ap (pointAt (a .places)) ai) (at-place (a .places) i i1 (a .count) bi (valid-count a va))
+
       v-is : v ≡ sideAt other (x .time)
       v-is =
           hv ∙ ap (λ (e : Ends). nearAt e j (pointAt (b .places) j0) (pointAt (b .places) j1) (x .time)) eb

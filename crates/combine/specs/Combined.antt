@@ -5,16 +5,13 @@ use mathlib.Core.Bool.{Bool, true, false, cond, _&&_}
 use mathlib.Core.List.{List, [], _∷_, map}
 use native.Mathlib.Omega.{arith}
 use lib.Dec.{ltb, leb}
-use lib.Ieee.{Float}
 use lib.ListN.{length}
 use Rattle.numbers.specs.Order.{orderKey}
 use Rattle.points.specs.Point.{finitePoint}
 use Rattle.points.specs.Points.{every, risingBy, rising, timeKey, listOf, validPoints, holding}
-use Rattle.points.specs.Laws.{and-left, and-right}
+use Rattle.points.specs.Laws.{and-right}
 use Rattle.points.specs.Refusal.{number}
 use Rattle.points.specs.ValidLaws.{valid-rising}
-use Rattle.points.specs.declared.AutomationPoint.{AutomationPoint}
-use Rattle.points.specs.declared.Points.{Points}
 use Rattle.points.specs.declared.refusal.Refusal.{Refusal}
 use Rattle.points.specs.declared.refusal.Refusal.the-variants.{NotValid, NotFinite, TooManyPoints, TimesDontRise}
 use Rattle.points.specs.declared.refusal.Answer.the-variants.{Accepted, Refused}

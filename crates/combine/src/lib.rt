@@ -75,8 +75,8 @@ impl Operation {
     {
         match self {
             Operation::Blend(factor) => {
-                let factor = curve::clamp(factor);
-                a * (1.0 - factor) + b * factor
+                let k = curve::clamp(factor);
+                a * (1.0 - k) + b * k
             }
             Operation::Add => a + b,
             Operation::Multiply => a * b,

@@ -4,6 +4,7 @@ ghost use mathlib.Core.Bool.{true, false};
 ghost use Rattle.points.specs.Refusal.{compared};
 ghost use Rattle.envelope.specs.Envelope.{new, limitsOf, validEnvelope, sameLimit, sameSettings, envelopesEqual};
 
+pub mod analyses;
 pub mod bench;
 pub mod edit;
 pub mod player;

@@ -1,3 +1,4 @@
+-- `combine::combine` meets its contract. Assumes nothing.
 use mathlib.Core.Path.{sym, ap, _∙_}
 use borrow.Author.Tests.{not-true, not-false}
 use Rattle.points.specs.declared.Points.{Points}
@@ -8,84 +9,60 @@ use Rattle.combine.proofs.Walking.{ends-own, ok-is, few-is, many-is, po
 use borrow.Author.Needs.{needs}
 use Rattle.combine.proofs.combine.Statement.{statement}
 use Rattle.combine.proofs.combine.Tie as tie
-use Rattle.combine.proofs.combine.Reads as reads
-use Rattle.combine.proofs.combine.Lts as lts
-use Rattle.combine.proofs.Operation.is_finite.Reads as is-finite-reads
-use Rattle.combine.proofs.Side.ends.Reads as ends-reads
-use Rattle.combine.proofs.Side.is_valid.Reads as is-valid-reads
-use Rattle.combine.proofs.walk.Reads as walk-reads
-use Rattle.edits.proofs.finish.refuse.Reads as refuse-reads
 
--- src/lib.rt:272:9
 is-valid-requires : tie.Need-is-valid-requires
 is-valid-requires c κs = search needs
 
--- src/lib.rt:273:9
 refuse-requires : tie.Need-refuse-requires
 refuse-requires c κs = search needs
 
--- src/lib.rt:273:9
 returns : tie.Need-returns
 unfolding combinedWays
 returns c = sym (combined-ways (c .before .before .before .before .args .operation) (c .before .before .before .before .args .first) (c .before .before .before .before .args .other) ∙ rw (sym (c .before .before .is-valid .ensures) ∙ not-true _ (c .before .if1 .taken)) (sym (c .refuse .ensures)))
 
--- src/lib.rt:275:9
 is-valid-requires-2 : tie.Need-is-valid-requires-2
 is-valid-requires-2 c κs = search needs
 
--- src/lib.rt:276:9
 refuse-requires-2 : tie.Need-refuse-requires-2
 refuse-requires-2 c κs = search needs
 
--- src/lib.rt:276:9
 returns-2 : tie.Need-returns-2
 unfolding combinedWays
 returns-2 c = sym (combined-ways (c .before .before .before .before .before .before .args .operation) (c .before .before .before .before .before .before .args .first) (c .before .before .before .before .before .before .args .other) ∙ rw (sym (c .before .before .before .before .is-valid .ensures) ∙ not-false _ (c .before .before .before .if1 .left), sym (c .before .before .is-valid2 .ensures) ∙ not-true _ (c .before .if2 .taken)) (sym (c .refuse2 .ensures)))
 
--- src/lib.rt:278:9
 is-finite-requires : tie.Need-is-finite-requires
 is-finite-requires c κs = search needs
 
--- src/lib.rt:279:9
 refuse-requires-3 : tie.Need-refuse-requires-3
 refuse-requires-3 c κs = search needs
 
--- src/lib.rt:279:9
 returns-3 : tie.Need-returns-3
 unfolding combinedWays
 returns-3 c = sym (combined-ways (c .before .before .before .before .before .before .before .before .args .operation) (c .before .before .before .before .before .before .before .before .args .first) (c .before .before .before .before .before .before .before .before .args .other) ∙ rw (sym (c .before .before .before .before .before .before .is-valid .ensures) ∙ not-false _ (c .before .before .before .before .before .if1 .left), sym (c .before .before .before .before .is-valid2 .ensures) ∙ not-false _ (c .before .before .before .if2 .left), sym (c .before .before .is-finite .ensures) ∙ not-true _ (c .before .if3 .taken)) (sym (c .refuse3 .ensures)))
 
--- src/lib.rt:282:40
 ends-requires : tie.Need-ends-requires
 ends-requires c κs = (sym (c .before .before .before .before .before .before .is-valid .ensures) ∙ not-false _ (c .before .before .before .before .before .if1 .left))
 
--- src/lib.rt:282:62
 ends-requires-2 : tie.Need-ends-requires-2
 ends-requires-2 c κs = (sym (c .before .before .before .before .before .is-valid2 .ensures) ∙ not-false _ (c .before .before .before .before .if2 .left))
 
--- src/lib.rt:282:9
 walk-requires : tie.Need-walk-requires
 walk-requires c κs = (side-points (c .before .before .before .before .before .before .before .before .before .before .args .first) (sym (c .before .before .before .before .before .before .before .before .is-valid .ensures) ∙ not-false _ (c .before .before .before .before .before .before .before .if1 .left)), side-points (c .before .before .before .before .before .before .before .before .before .before .args .other) (sym (c .before .before .before .before .before .before .is-valid2 .ensures) ∙ not-false _ (c .before .before .before .before .before .if2 .left)), ends-own (c .before .before .before .before .before .before .before .before .before .before .args .first) (c .before .ends .result) (c .before .ends .ensures), ends-own (c .before .before .before .before .before .before .before .before .before .before .args .other) (c .ends2 .result) (c .ends2 .ensures))
 
--- src/lib.rt:284:9
 refuse-requires-4 : tie.Need-refuse-requires-4
 refuse-requires-4 c κs = search needs
 
--- src/lib.rt:284:9
 returns-4 : tie.Need-returns-4
 unfolding combinedWays
 returns-4 c = sym (combined-ways (c .before .before .before .before .before .before .before .before .before .before .before .before .before .before .args .operation) (c .before .before .before .before .before .before .before .before .before .before .before .before .before .before .args .first) (c .before .before .before .before .before .before .before .before .before .before .before .before .before .before .args .other) ∙ rw (sym (c .before .before .before .before .before .before .before .before .before .before .before .before .is-valid .ensures) ∙ not-false _ (c .before .before .before .before .before .before .before .before .before .before .before .if1 .left), sym (c .before .before .before .before .before .before .before .before .before .before .is-valid2 .ensures) ∙ not-false _ (c .before .before .before .before .before .before .before .before .before .if2 .left), sym (c .before .before .before .before .before .before .before .before .is-finite .ensures) ∙ not-false _ (c .before .before .before .before .before .before .before .if3 .left), sym (ok-is (c .before .before .before .before .before .before .before .before .before .before .before .before .before .before .args .operation) (c .before .before .before .before .before .before .before .before .before .before .before .before .before .before .args .first) (c .before .before .before .before .before .before .before .before .before .before .before .before .before .before .args .other) (c .before .before .before .before .before .ends .result) (c .before .before .before .before .ends2 .result) (c .before .before .before .before .before .ends .ensures) (c .before .before .before .before .ends2 .ensures) (c .before .before .before .walk .result) (c .before .before .before .walk .ensures)) ∙ not-true _ (c .before .if4 .taken)) (sym (c .refuse4 .ensures)))
 
--- src/lib.rt:287:9
 refuse-requires-5 : tie.Need-refuse-requires-5
 refuse-requires-5 c κs = search needs
 
--- src/lib.rt:287:9
 returns-5 : tie.Need-returns-5
 unfolding combinedWays
 returns-5 c = sym (combined-ways (c .before .before .before .before .before .before .before .before .before .before .before .before .before .before .before .before .args .operation) (c .before .before .before .before .before .before .before .before .before .before .before .before .before .before .before .before .args .first) (c .before .before .before .before .before .before .before .before .before .before .before .before .before .before .before .before .args .other) ∙ rw (sym (c .before .before .before .before .before .before .before .before .before .before .before .before .before .before .is-valid .ensures) ∙ not-false _ (c .before .before .before .before .before .before .before .before .before .before .before .before .before .if1 .left), sym (c .before .before .before .before .before .before .before .before .before .before .before .before .is-valid2 .ensures) ∙ not-false _ (c .before .before .before .before .before .before .before .before .before .before .before .if2 .left), sym (c .before .before .before .before .before .before .before .before .before .before .is-finite .ensures) ∙ not-false _ (c .before .before .before .before .before .before .before .before .before .if3 .left), sym (ok-is (c .before .before .before .before .before .before .before .before .before .before .before .before .before .before .before .before .args .operation) (c .before .before .before .before .before .before .before .before .before .before .before .before .before .before .before .before .args .first) (c .before .before .before .before .before .before .before .before .before .before .before .before .before .before .before .before .args .other) (c .before .before .before .before .before .before .before .ends .result) (c .before .before .before .before .before .before .ends2 .result) (c .before .before .before .before .before .before .before .ends .ensures) (c .before .before .before .before .before .before .ends2 .ensures) (c .before .before .before .before .before .walk .result) (c .before .before .before .before .before .walk .ensures)) ∙ not-false _ (c .before .before .before .if4 .left), many-is (c .before .before .before .before .before .before .before .before .before .before .before .before .before .before .before .before .args .operation) (c .before .before .before .before .before .before .before .before .before .before .before .before .before .before .before .before .args .first) (c .before .before .before .before .before .before .before .before .before .before .before .before .before .before .before .before .args .other) (c .before .before .before .before .before .before .before .ends .result) (c .before .before .before .before .before .before .ends2 .result) (c .before .before .before .before .before .before .before .ends .ensures) (c .before .before .before .before .before .before .ends2 .ensures) (c .before .before .before .before .before .walk .result) (c .before .before .before .before .before .walk .ensures) (c .before .if5 .taken)) (sym (c .refuse5 .ensures)))
 
--- src/lib.rt:268:1
 returns-6 : tie.Need-returns-6
 unfolding combinedWays
 returns-6 c = sym (combined-ways (c .before .before .before .before .before .before .before .before .before .before .before .before .before .before .before .before .args .operation) (c .before .before .before .before .before .before .before .before .before .before .before .before .before .before .before .before .args .first) (c .before .before .before .before .before .before .before .before .before .before .before .before .before .before .before .before .args .other) ∙ rw (sym (c .before .before .before .before .before .before .before .before .before .before .before .before .before .before .is-valid .ensures) ∙ not-false _ (c .before .before .before .before .before .before .before .before .before .before .before .before .before .if1 .left), sym (c .before .before .before .before .before .before .before .before .before .before .before .before .is-valid2 .ensures) ∙ not-false _ (c .before .before .before .before .before .before .before .before .before .before .before .if2 .left), sym (c .before .before .before .before .before .before .before .before .before .before .is-finite .ensures) ∙ not-false _ (c .before .before .before .before .before .before .before .before .before .if3 .left), sym (ok-is (c .before .before .before .before .before .before .before .before .before .before .before .before .before .before .before .before .args .operation) (c .before .before .before .before .before .before .before .before .before .before .before .before .before .before .before .before .args .first) (c .before .before .before .before .before .before .before .before .before .before .before .before .before .before .before .before .args .other) (c .before .before .before .before .before .before .before .ends .result) (c .before .before .before .before .before .before .ends2 .result) (c .before .before .before .before .before .before .before .ends .ensures) (c .before .before .before .before .before .before .ends2 .ensures) (c .before .before .before .before .before .walk .result) (c .before .before .before .before .before .walk .ensures)) ∙ not-false _ (c .before .before .before .if4 .left), few-is (c .before .before .before .before .before .before .before .before .before .before .before .before .before .before .before .before .args .operation) (c .before .before .before .before .before .before .before .before .before .before .before .before .before .before .before .before .args .first) (c .before .before .before .before .before .before .before .before .before .before .before .before .before .before .before .before .args .other) (c .before .before .before .before .before .before .before .ends .result) (c .before .before .before .before .before .before .ends2 .result) (c .before .before .before .before .before .before .before .ends .ensures) (c .before .before .before .before .before .before .ends2 .ensures) (c .before .before .before .before .before .walk .result) (c .before .before .before .before .before .walk .ensures) (c .before .if5 .left)) (ap {B = EditedPoints} (λ (p : Points). record { answer = Accepted; points = p }) (sym (points-are (c .before .before .before .before .before .before .before .before .before .before .before .before .before .before .before .before .args .operation) (c .before .before .before .before .before .before .before .before .before .before .before .before .before .before .before .before .args .first) (c .before .before .before .before .before .before .before .before .before .before .before .before .before .before .before .before .args .other) (c .before .before .before .before .before .before .before .ends .result) (c .before .before .before .before .before .before .ends2 .result) (c .before .before .before .before .before .before .before .ends .ensures) (c .before .before .before .before .before .before .ends2 .ensures) (c .before .before .before .before .before .walk .result) (c .before .before .before .before .before .walk .ensures) (c .before .if5 .left)))))

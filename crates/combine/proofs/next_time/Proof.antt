@@ -1,65 +1,50 @@
+-- `combine::next_time` meets its contract. Assumes nothing.
 use borrow.Author.Tests.{lt-ltb, le-ltb, le-leb, lt-leb, eq-eqb, ne-eqb}
 use Rattle.combine.specs.Walk.{nextOf}
 use borrow.Author.Needs.{needs}
 use Rattle.combine.proofs.next_time.Statement.{statement}
 use Rattle.combine.proofs.next_time.Tie as tie
-use Rattle.combine.proofs.next_time.Reads as reads
-use Rattle.combine.proofs.next_time.Lts as lts
-use Rattle.numbers.proofs.order.order_key.Reads as order-key-reads
 
--- src/lib.rt:178:16
 add-t10 : tie.Need-add-t10
 add-t10 c = search needs
 
--- src/lib.rt:175:9
 returns : tie.Need-returns
 unfolding nextOf
 returns c = rw (le-leb (c .before .args .n) (c .before .args .i) (c .if1 .taken))
 
--- src/lib.rt:184:16
 add-t11 : tie.Need-add-t11
 add-t11 c = search needs
 
--- src/lib.rt:182:9
 returns-2 : tie.Need-returns-2
 unfolding nextOf
 returns-2 c = rw (lt-leb (c .before .before .args .n) (c .before .before .args .i) (c .before .if1 .left), le-leb (c .before .before .args .m) (c .before .before .args .j) (c .if2 .taken))
 
--- src/lib.rt:188:9
 order-key-requires : tie.Need-order-key-requires
 order-key-requires c κs = search needs
 
--- src/lib.rt:189:9
 order-key-requires-2 : tie.Need-order-key-requires-2
 order-key-requires-2 c κs = search needs
 
--- src/lib.rt:193:16
 add-t13 : tie.Need-add-t13
 add-t13 c = search needs
 
--- src/lib.rt:199:16
 add-t16 : tie.Need-add-t16
 add-t16 c = search needs
 
--- src/lib.rt:200:16
 add-t17 : tie.Need-add-t17
 add-t17 c = search needs
 
--- src/lib.rt:206:16
 add-t18 : tie.Need-add-t18
 add-t18 c = search needs
 
--- src/lib.rt:170:1
 returns-3 : tie.Need-returns-3
 unfolding nextOf
 returns-3 c = rw (lt-leb (c .before .before .before .before .before .args .n) (c .before .before .before .before .before .args .i) (c .before .before .before .before .if1 .left), lt-leb (c .before .before .before .before .before .args .m) (c .before .before .before .before .before .args .j) (c .before .before .before .if2 .left), ← c .before .before .order-key .ensures, ← c .before .order-key2 .ensures, lt-ltb _ _ (c .if3 .taken))
 
--- src/lib.rt:170:1
 returns-4 : tie.Need-returns-4
 unfolding nextOf
 returns-4 c = rw (lt-leb (c .before .before .before .before .before .before .args .n) (c .before .before .before .before .before .before .args .i) (c .before .before .before .before .before .if1 .left), lt-leb (c .before .before .before .before .before .before .args .m) (c .before .before .before .before .before .before .args .j) (c .before .before .before .before .if2 .left), ← c .before .before .before .order-key .ensures, ← c .before .before .order-key2 .ensures, le-ltb _ _ (c .before .if3 .left), eq-eqb _ _ (c .if4 .taken))
 
--- src/lib.rt:170:1
 returns-5 : tie.Need-returns-5
 unfolding nextOf
 returns-5 c = rw (lt-leb (c .before .before .before .before .before .before .args .n) (c .before .before .before .before .before .before .args .i) (c .before .before .before .before .before .if1 .left), lt-leb (c .before .before .before .before .before .before .args .m) (c .before .before .before .before .before .before .args .j) (c .before .before .before .before .if2 .left), ← c .before .before .before .order-key .ensures, ← c .before .before .order-key2 .ensures, le-ltb _ _ (c .before .if3 .left), ne-eqb _ _ (c .if4 .left))

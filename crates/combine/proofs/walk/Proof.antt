@@ -1,3 +1,4 @@
+-- `combine::walk` meets its contract. Assumes nothing.
 use Prim.Native.Nat.{_+_, _-_, _≤_}
 use mathlib.Core.Path.{_≡_, refl}
 use native.Mathlib.Omega.{arith}
@@ -8,16 +9,6 @@ use Rattle.combine.specs.Walk.{sideWith}
 use Rattle.combine.proofs.Walking.{Step, Done, begun, stepped, made-is, turn-room, turn-full, ended}
 use Rattle.combine.proofs.walk.Statement.{statement}
 use Rattle.combine.proofs.walk.Tie as tie
-use Rattle.combine.proofs.walk.Reads as reads
-use Rattle.combine.proofs.walk.Lts as lts
-use Rattle.combine.proofs.Ends.value_at.Reads as value-at-reads
-use Rattle.combine.proofs.Operation.apply.Reads as apply-reads
-use Rattle.combine.proofs.next_time.Reads as next-time-reads
-use Rattle.combine.proofs.point.Reads as point-reads
-use Rattle.combine.proofs.previous.Reads as previous-reads
-use Rattle.combine.proofs.within.Reads as within-reads
-use Rattle.points.proofs.AutomationPoint.is_finite.Reads as is-finite-reads
-use Rattle.points.proofs.list.none.Reads as none-reads
 
 abbrev Inv-loop : tie.InvT-loop
 Inv-loop operation left right a b n m end out₀ ok₀ total₀ i₀ j₀ out ok total i j = (i ≤ a .count) × (j ≤ b .count) × Done operation (sideWith a left) (sideWith b right) out ok total i j
@@ -25,107 +16,81 @@ Inv-loop operation left right a b n m end out₀ ok₀ total₀ i₀ j₀ out ok
 abbrev μ-loop : tie.MeasureT-loop
 μ-loop operation left right a b n m end out₀ ok₀ total₀ i₀ j₀ out ok total i j = end - (i + j)
 
--- src/lib.rt:231:15
 add-end : tie.Need-add-end Inv-loop μ-loop
 add-end c = omega (arith, valid-count (c .args .t2) (c .pre .0), valid-count (c .args .t4) (c .pre .1))
 
--- src/lib.rt:232:19
 none-requires : tie.Need-none-requires Inv-loop μ-loop
 none-requires c κs = tt
 
--- src/lib.rt:237:5
 loop-holds : tie.Need-loop-holds Inv-loop μ-loop
 loop-holds c = (omega arith, omega arith, begun (c .before .args .operation) (sideWith (c .before .args .t2) (c .before .args .left)) (sideWith (c .before .args .t4) (c .before .args .right)) (c .none .result) (c .none .ensures))
 
--- src/lib.rt:237:11
 add-loop : tie.Need-add-loop Inv-loop μ-loop
 add-loop c = omega (arith, valid-count (c .before .before .args .t2) (c .before .before .pre .0), valid-count (c .before .before .args .t4) (c .before .before .pre .1))
 
--- src/lib.rt:238:13
 previous-requires : tie.Need-previous-requires Inv-loop μ-loop
 previous-requires c κs = tt
 
--- src/lib.rt:239:13
 within-requires : tie.Need-within-requires Inv-loop μ-loop
 within-requires c κs = tt
 
--- src/lib.rt:240:17
 mul-p : tie.Need-mul-p Inv-loop μ-loop
 mul-p c = omega (arith, c .before .previous .ensures, valid-count (c .before .before .before .before .before .args .t2) (c .before .before .before .before .before .pre .0))
 
--- src/lib.rt:240:17
 element-copy-out-p : tie.Need-element-copy-out-p Inv-loop μ-loop
 element-copy-out-p c = omega (arith, c .before .previous .ensures, valid-count (c .before .before .before .before .before .args .t2) (c .before .before .before .before .before .pre .0))
 
--- src/lib.rt:241:17
 mul-q : tie.Need-mul-q Inv-loop μ-loop
 mul-q c = omega (arith, c .before .within .ensures)
 
--- src/lib.rt:241:17
 element-copy-out-q : tie.Need-element-copy-out-q Inv-loop μ-loop
 element-copy-out-q c = omega (arith, c .before .within .ensures)
 
--- src/lib.rt:242:13
 previous-requires-2 : tie.Need-previous-requires-2 Inv-loop μ-loop
 previous-requires-2 c κs = tt
 
--- src/lib.rt:243:13
 within-requires-2 : tie.Need-within-requires-2 Inv-loop μ-loop
 within-requires-2 c κs = tt
 
--- src/lib.rt:244:17
 mul-s : tie.Need-mul-s Inv-loop μ-loop
 mul-s c = omega (arith, c .before .previous2 .ensures, valid-count (c .before .before .before .before .before .before .before .before .before .args .t4) (c .before .before .before .before .before .before .before .before .before .pre .1))
 
--- src/lib.rt:244:17
 element-copy-out-s : tie.Need-element-copy-out-s Inv-loop μ-loop
 element-copy-out-s c = omega (arith, c .before .previous2 .ensures, valid-count (c .before .before .before .before .before .before .before .before .before .args .t4) (c .before .before .before .before .before .before .before .before .before .pre .1))
 
--- src/lib.rt:245:17
 mul-t : tie.Need-mul-t Inv-loop μ-loop
 mul-t c = omega (arith, c .before .within2 .ensures)
 
--- src/lib.rt:245:17
 element-copy-out-t : tie.Need-element-copy-out-t Inv-loop μ-loop
 element-copy-out-t c = omega (arith, c .before .within2 .ensures)
 
--- src/lib.rt:246:13
 next-time-requires : tie.Need-next-time-requires Inv-loop μ-loop
 next-time-requires c κs = (omega (arith, valid-count (c .before .before .before .before .before .before .before .before .before .before .before .args .t2) (c .before .before .before .before .before .before .before .before .before .before .before .pre .0)), omega (arith, valid-count (c .before .before .before .before .before .before .before .before .before .before .before .args .t4) (c .before .before .before .before .before .before .before .before .before .before .before .pre .1)))
 
--- src/lib.rt:247:13
 value-at-requires : tie.Need-value-at-requires Inv-loop μ-loop
 value-at-requires c κs = tt
 
--- src/lib.rt:248:13
 value-at-requires-2 : tie.Need-value-at-requires-2 Inv-loop μ-loop
 value-at-requires-2 c κs = tt
 
--- src/lib.rt:249:37
 apply-requires : tie.Need-apply-requires Inv-loop μ-loop
 apply-requires c κs = tt
 
--- src/lib.rt:249:13
 point-requires : tie.Need-point-requires Inv-loop μ-loop
 point-requires c κs = tt
 
--- src/lib.rt:250:19
 is-finite-requires : tie.Need-is-finite-requires Inv-loop μ-loop
 is-finite-requires c κs = tt
 
--- src/lib.rt:251:9
 add-total : tie.Need-add-total Inv-loop μ-loop
 add-total c = omega (arith, valid-count (c .before .before .before .before .before .before .before .before .before .before .before .before .before .before .before .before .before .args .t2) (c .before .before .before .before .before .before .before .before .before .before .before .before .before .before .before .before .before .pre .0), valid-count (c .before .before .before .before .before .before .before .before .before .before .before .before .before .before .before .before .before .args .t4) (c .before .before .before .before .before .before .before .before .before .before .before .before .before .before .before .before .before .pre .1), c .before .before .before .before .before .before .before .before .before .before .before .before .before .before .before .loop .inv .2 .few)
 
--- src/lib.rt:256:13
 mul-made : tie.Need-mul-made Inv-loop μ-loop
 mul-made c = omega arith
 
--- src/lib.rt:256:13
 element-set-from-made : tie.Need-element-set-from-made Inv-loop μ-loop
 element-set-from-made c = omega arith
 
--- src/lib.rt:257:25
 add-out : tie.Need-add-out Inv-loop μ-loop
 add-out c = omega arith
 
@@ -143,23 +108,18 @@ made-of c =
     (c .before .before .before .before .before .before .before .before .before .before .before .before .before .before .loop .i) (c .before .before .before .before .before .before .before .before .before .before .before .before .before .before .loop .j) (c .before .before .before .before .before .before .before .before .before .before .before .before .previous .result) (c .before .before .before .before .before .before .before .before .before .before .before .within .result) (c .before .before .before .before .before .before .before .before .previous2 .result) (c .before .before .before .before .before .before .before .within2 .result) (c .before .before .before .before .before .before .before .before .before .before .before .before .previous .ensures) (c .before .before .before .before .before .before .before .before .before .before .before .within .ensures) (c .before .before .before .before .before .before .before .before .previous2 .ensures) (c .before .before .before .before .before .before .before .within2 .ensures)
     (c .before .before .before .before .next-time .result) (c .before .before .before .value-at .result) (c .before .before .value-at2 .result) (c .before .apply .result) (c .point .result) (step-of (c .before .before .before .before)) (c .before .before .before .value-at .ensures) (c .before .before .value-at2 .ensures) (c .before .apply .ensures) (c .point .ensures)
 
--- src/lib.rt:237:5
 loop-less : tie.Need-loop-less Inv-loop μ-loop
 loop-less c = omega (arith, step-of (c .before .before .before .before .before .before) .on)
 
--- src/lib.rt:237:5
 loop-again : tie.Need-loop-again Inv-loop μ-loop
 loop-again c = (step-of (c .before .before .before .before .before .before) .left, step-of (c .before .before .before .before .before .before) .right, turn-room (c .before .before .before .before .before .before .before .before .before .before .before .before .before .before .before .before .before .before .args .operation) (sideWith (c .before .before .before .before .before .before .before .before .before .before .before .before .before .before .before .before .before .before .args .t2) (c .before .before .before .before .before .before .before .before .before .before .before .before .before .before .before .before .before .before .args .left)) (sideWith (c .before .before .before .before .before .before .before .before .before .before .before .before .before .before .before .before .before .before .args .t4) (c .before .before .before .before .before .before .before .before .before .before .before .before .before .before .before .before .before .before .args .right)) (c .before .before .before .before .before .before .before .before .before .before .before .before .before .before .before .before .loop .out) (c .before .before .before .before .before .before .before .before .before .before .before .before .before .before .before .before .loop .ok) (c .before .before .before .before .before .before .before .before .before .before .before .before .before .before .before .before .loop .total) (c .before .before .before .before .before .before .before .before .before .before .before .before .before .before .before .before .loop .i) (c .before .before .before .before .before .before .before .before .before .before .before .before .before .before .before .before .loop .j) (c .before .before .before .before .before .before .next-time .result) (c .before .before .point .result) (c .before .is-finite .result) _ (c .before .before .before .before .before .before .before .before .before .before .before .before .before .before .before .before .loop .inv .2) (step-of (c .before .before .before .before .before .before)) (made-of (c .before .before)) (c .before .is-finite .ensures) (c .if1 .taken) refl)
 
--- src/lib.rt:237:5
 loop-less-2 : tie.Need-loop-less-2 Inv-loop μ-loop
 loop-less-2 c = omega (arith, step-of (c .before .before .before .before .before .before) .on)
 
--- src/lib.rt:237:5
 loop-again-2 : tie.Need-loop-again-2 Inv-loop μ-loop
 loop-again-2 c = (step-of (c .before .before .before .before .before .before) .left, step-of (c .before .before .before .before .before .before) .right, turn-full (c .before .before .before .before .before .before .before .before .before .before .before .before .before .before .before .before .before .before .args .operation) (sideWith (c .before .before .before .before .before .before .before .before .before .before .before .before .before .before .before .before .before .before .args .t2) (c .before .before .before .before .before .before .before .before .before .before .before .before .before .before .before .before .before .before .args .left)) (sideWith (c .before .before .before .before .before .before .before .before .before .before .before .before .before .before .before .before .before .before .args .t4) (c .before .before .before .before .before .before .before .before .before .before .before .before .before .before .before .before .before .before .args .right)) (c .before .before .before .before .before .before .before .before .before .before .before .before .before .before .before .before .loop .out) (c .before .before .before .before .before .before .before .before .before .before .before .before .before .before .before .before .loop .ok) (c .before .before .before .before .before .before .before .before .before .before .before .before .before .before .before .before .loop .total) (c .before .before .before .before .before .before .before .before .before .before .before .before .before .before .before .before .loop .i) (c .before .before .before .before .before .before .before .before .before .before .before .before .before .before .before .before .loop .j) (c .before .before .before .before .before .before .next-time .result) (c .before .before .point .result) (c .before .is-finite .result) _ (c .before .before .before .before .before .before .before .before .before .before .before .before .before .before .before .before .loop .inv .2) (step-of (c .before .before .before .before .before .before)) (made-of (c .before .before)) (c .before .is-finite .ensures) (c .if1 .left) refl)
 
--- src/lib.rt:225:1
 returns : tie.Need-returns Inv-loop μ-loop
 returns c = ended (c .before .before .before .args .operation) (sideWith (c .before .before .before .args .t2) (c .before .before .before .args .left)) (sideWith (c .before .before .before .args .t4) (c .before .before .before .args .right)) _ _ _ _ _ (inside (c .before .before .before .args .t2) _ (c .before .before .before .good .1 .0) (c .before .before .before .pre .0)) (inside (c .before .before .before .args .t4) _ (c .before .before .before .good .1 .1 .1 .0) (c .before .before .before .pre .1)) (omega arith) (omega arith) (c .before .loop .inv .2)
 

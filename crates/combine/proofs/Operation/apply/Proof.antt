@@ -1,72 +1,53 @@
+-- `combine::Operation::apply` meets its contract. Assumes nothing.
 use mathlib.Core.Path.{ap}
 use lib.Ieee.{Float}
 use Rattle.curve.specs.F32.{_+ᶠ_, _-ᶠ_, _*ᶠ_, f1}
 use borrow.Author.Needs.{needs}
 use Rattle.combine.proofs.Operation.apply.Statement.{statement}
 use Rattle.combine.proofs.Operation.apply.Tie as tie
-use Rattle.combine.proofs.Operation.apply.Reads as reads
-use Rattle.combine.proofs.Operation.apply.Lts as lts
-use Rattle.curve.proofs.clamp.Reads as clamp-reads
-use Rattle.numbers.proofs.order.max.Reads as max-reads
-use Rattle.numbers.proofs.order.min.Reads as min-reads
 
--- src/lib.rt:76:30
 enum-known-self : tie.Need-enum-known-self
 enum-known-self c = search needs
 
--- src/lib.rt:77:21
 clamp-requires : tie.Need-clamp-requires
 clamp-requires c κs = search needs
 
--- src/lib.rt:80:31
 enum-told : tie.Need-enum-told
 enum-told c = search needs
 
--- src/lib.rt:81:36
 enum-told-2 : tie.Need-enum-told-2
 enum-told-2 c = search needs
 
--- src/lib.rt:82:31
 enum-told-3 : tie.Need-enum-told-3
 enum-told-3 c = search needs
 
--- src/lib.rt:82:31
 min-requires : tie.Need-min-requires
 min-requires c κs = search needs
 
--- src/lib.rt:83:31
 enum-told-4 : tie.Need-enum-told-4
 enum-told-4 c = search needs
 
--- src/lib.rt:83:31
 max-requires : tie.Need-max-requires
 max-requires c κs = search needs
 
--- src/lib.rt:84:36
 enum-told-5 : tie.Need-enum-told-5
 enum-told-5 c = search needs
 
--- src/lib.rt:72:5
 returns : tie.Need-returns
 returns c = rw (c .before .before .self .given .1) (ap (λ (k : Float). c .before .before .before .before .args .a *ᶠ (f1 -ᶠ k) +ᶠ c .before .before .before .before .args .b *ᶠ k) (c .clamp .ensures))
 
--- src/lib.rt:72:5
 returns-2 : tie.Need-returns-2
 returns-2 c = rw (c .enum-told .given .1)
 
--- src/lib.rt:72:5
 returns-3 : tie.Need-returns-3
 returns-3 c = rw (c .enum-told2 .given .1)
 
--- src/lib.rt:72:5
 returns-4 : tie.Need-returns-4
 returns-4 c = rw (c .before .enum-told3 .given .1) (c .min .ensures)
 
--- src/lib.rt:72:5
 returns-5 : tie.Need-returns-5
 returns-5 c = rw (c .before .enum-told4 .given .1) (c .max .ensures)
 
--- src/lib.rt:72:5
 returns-6 : tie.Need-returns-6
 returns-6 c = rw (c .enum-told5 .given .1)
 

@@ -1,59 +1,44 @@
+-- `combine::Operation::is_finite` meets its contract. Assumes nothing.
 use borrow.Author.Needs.{needs}
 use Rattle.combine.proofs.Operation.is_finite.Statement.{statement}
 use Rattle.combine.proofs.Operation.is_finite.Tie as tie
-use Rattle.combine.proofs.Operation.is_finite.Reads as reads
-use Rattle.combine.proofs.Operation.is_finite.Lts as lts
-use Rattle.numbers.proofs.order.is_finitef.Reads as is-finitef-reads
 
--- src/lib.rt:63:30
 enum-known-self : tie.Need-enum-known-self
 enum-known-self c = search needs
 
--- src/lib.rt:63:41
 is-finitef-requires : tie.Need-is-finitef-requires
 is-finitef-requires c κs = search needs
 
--- src/lib.rt:64:31
 enum-told : tie.Need-enum-told
 enum-told c = search needs
 
--- src/lib.rt:65:36
 enum-told-2 : tie.Need-enum-told-2
 enum-told-2 c = search needs
 
--- src/lib.rt:66:31
 enum-told-3 : tie.Need-enum-told-3
 enum-told-3 c = search needs
 
--- src/lib.rt:67:31
 enum-told-4 : tie.Need-enum-told-4
 enum-told-4 c = search needs
 
--- src/lib.rt:68:36
 enum-told-5 : tie.Need-enum-told-5
 enum-told-5 c = search needs
 
--- src/lib.rt:59:5
 returns : tie.Need-returns
 returns c = rw (c .before .before .self .given .1) (c .is-finitef .ensures)
 
--- src/lib.rt:59:5
 returns-2 : tie.Need-returns-2
 returns-2 c = search needs
 
--- src/lib.rt:59:5
 returns-3 : tie.Need-returns-3
 returns-3 c = search needs
 
--- src/lib.rt:59:5
 returns-4 : tie.Need-returns-4
 returns-4 c = search needs
 
--- src/lib.rt:59:5
 returns-5 : tie.Need-returns-5
 returns-5 c = search needs
 
--- src/lib.rt:59:5
 returns-6 : tie.Need-returns-6
 returns-6 c = search needs
 

@@ -1,3 +1,4 @@
+-- `combine::Side::ends` meets its contract. Assumes nothing.
 use Prim.Native.Nat.{ℕ}
 use mathlib.Core.Path.{ap}
 use native.Mathlib.Omega.{arith}
@@ -8,27 +9,19 @@ use Rattle.combine.specs.declared.Ends.{Ends}
 use borrow.Author.Needs.{needs}
 use Rattle.combine.proofs.Side.ends.Statement.{statement}
 use Rattle.combine.proofs.Side.ends.Tie as tie
-use Rattle.combine.proofs.Side.ends.Reads as reads
-use Rattle.combine.proofs.Side.ends.Lts as lts
-use Rattle.combine.proofs.previous.Reads as previous-reads
 
--- src/lib.rt:120:13
 previous-requires : tie.Need-previous-requires
 previous-requires c κs = search needs
 
--- src/lib.rt:121:21
 element-copy-out-first : tie.Need-element-copy-out-first
 element-copy-out-first c = search needs
 
--- src/lib.rt:122:20
 mul-last : tie.Need-mul-last
 mul-last c = omega (arith, c .before .previous .ensures, valid-count (c .before .before .before .before .args .self .points) (side-points (c .before .before .before .before .args .self) (c .before .before .before .before .pre)))
 
--- src/lib.rt:122:20
 element-copy-out-last : tie.Need-element-copy-out-last
 element-copy-out-last c = omega (arith, c .before .previous .ensures, valid-count (c .before .before .before .before .args .self .points) (side-points (c .before .before .before .before .args .self) (c .before .before .before .before .pre)))
 
--- src/lib.rt:113:5
 returns : tie.Need-returns
 returns c = ap {B = Ends} (λ (k : ℕ). record { count = c .before .before .before .before .before .args .self .points .count; first = pointAt (c .before .before .before .before .before .args .self .points .places) 0; last = pointAt (c .before .before .before .before .before .args .self .points .places) k; enabled = c .before .before .before .before .before .args .self .enabled; limits = c .before .before .before .before .before .args .self .limits }) (c .before .before .previous .ensures)
 

@@ -1,3 +1,4 @@
+-- `envelope::AutomationEnvelope::combine_with` meets its contract. Assumes nothing.
 use mathlib.Core.Path.{ap, _∙_}
 use Rattle.edits.specs.declared.EditedPoints.{EditedPoints}
 use Rattle.combine.specs.Combine.{combinedPoints}
@@ -5,29 +6,19 @@ use Rattle.envelope.specs.Edit.{renewed, combineOf}
 use borrow.Author.Needs.{needs}
 use Rattle.envelope.proofs.AutomationEnvelope.combine_with.Statement.{statement}
 use Rattle.envelope.proofs.AutomationEnvelope.combine_with.Tie as tie
-use Rattle.envelope.proofs.AutomationEnvelope.combine_with.Reads as reads
-use Rattle.envelope.proofs.AutomationEnvelope.combine_with.Lts as lts
-use Rattle.combine.proofs.combine.Reads as combine-reads
-use Rattle.envelope.proofs.AutomationEnvelope.renew.Reads as renew-reads
-use Rattle.envelope.proofs.AutomationEnvelope.side.Reads as side-reads
 
--- src/edit.rt:338:48
 side-requires : tie.Need-side-requires
 side-requires c κs = search needs
 
--- src/edit.rt:338:61
 side-requires-2 : tie.Need-side-requires-2
 side-requires-2 c κs = search needs
 
--- src/edit.rt:338:20
 combine-requires : tie.Need-combine-requires
 combine-requires c κs = search needs
 
--- src/edit.rt:338:9
 renew-requires : tie.Need-renew-requires
 renew-requires c κs = search needs
 
--- src/edit.rt:335:5
 returns : tie.Need-returns
 unfolding combineOf
 returns c = c .renew .ensures ∙ ap (λ (r : EditedPoints). renewed (c .before .before .before .before .args .self) r) (c .before .combine .ensures ∙ (λ i. combinedPoints (c .before .before .before .before .args .operation) (c .before .before .before .side .ensures i) (c .before .before .side2 .ensures i)))

@@ -1,4 +1,5 @@
-use mathlib.Core.Path.{_≡_, sym, ap, _∙_}
+-- `envelope::AutomationEnvelope::merge_with` meets its contract. Assumes nothing.
+use mathlib.Core.Path.{sym, ap, _∙_}
 use Rattle.lookup.specs.Limits.{finiteLimits}
 use Rattle.lookup.specs.declared.Limits.{Limits}
 use Rattle.edits.specs.declared.EditedPoints.{EditedPoints}
@@ -6,13 +7,6 @@ use Rattle.envelope.specs.Edit.{toldEdit, edited, mergeOf}
 use borrow.Author.Needs.{needs}
 use Rattle.envelope.proofs.AutomationEnvelope.merge_with.Statement.{statement}
 use Rattle.envelope.proofs.AutomationEnvelope.merge_with.Tie as tie
-use Rattle.envelope.proofs.AutomationEnvelope.merge_with.Reads as reads
-use Rattle.envelope.proofs.AutomationEnvelope.merge_with.Lts as lts
-use Rattle.edits.proofs.insert.merge.Reads as merge-reads
-use Rattle.envelope.proofs.AutomationEnvelope.limits.Reads as limits-reads
-use Rattle.envelope.proofs.AutomationEnvelope.refuse.Reads as refuse-reads
-use Rattle.envelope.proofs.AutomationEnvelope.settle.Reads as settle-reads
-use Rattle.lookup.proofs.Limits.is_finite.Reads as is-finite-reads
 
 limits-requires : tie.Need-limits-requires
 limits-requires c κs = search needs

@@ -1,3 +1,4 @@
+-- `envelope::AutomationEnvelope::renew` meets its contract. Assumes nothing.
 use mathlib.Core.Path.{ap, _∙_}
 use Rattle.points.specs.Refusal.{gives}
 use Rattle.envelope.specs.declared.AutomationEnvelope.{AutomationEnvelope}
@@ -5,39 +6,27 @@ use Rattle.envelope.specs.Edit.{EditTold, toldEdit, withPoints}
 use borrow.Author.Needs.{needs}
 use Rattle.envelope.proofs.AutomationEnvelope.renew.Statement.{statement}
 use Rattle.envelope.proofs.AutomationEnvelope.renew.Tie as tie
-use Rattle.envelope.proofs.AutomationEnvelope.renew.Reads as reads
-use Rattle.envelope.proofs.AutomationEnvelope.renew.Lts as lts
-use Rattle.envelope.proofs.AutomationEnvelope.new.Reads as new-reads
-use Rattle.envelope.proofs.AutomationEnvelope.refuse.Reads as refuse-reads
-use Rattle.envelope.proofs.AutomationEnvelope.with_points.Reads as with-points-reads
 
--- src/edit.rt:178:21
 enum-told : tie.Need-enum-told
 enum-told c = search needs
 
--- src/edit.rt:178:21
 new-requires : tie.Need-new-requires
 new-requires c κs = search needs
 
--- src/edit.rt:181:31
 with-points-requires : tie.Need-with-points-requires
 with-points-requires c κs = search needs
 
--- src/edit.rt:184:29
 enum-known-answer : tie.Need-enum-known-answer
 enum-known-answer c = search needs
 
--- src/edit.rt:184:41
 refuse-requires : tie.Need-refuse-requires
 refuse-requires c κs = search needs
 
--- src/edit.rt:171:5
 returns : tie.Need-returns
 returns c = rw (c .before .before .enum-told .given .1)
     (ap {B = EditTold} (λ (e : AutomationEnvelope). record { said = gives tt; envelope = e })
     (c .with-points .ensures ∙ ap (λ (e : AutomationEnvelope). withPoints e (c .before .before .before .before .before .args .r .points)) (c .before .new .ensures)))
 
--- src/edit.rt:171:5
 returns-2 : tie.Need-returns-2
 returns-2 c = rw (c .before .before .answer .given .1) (ap toldEdit (c .refuse .ensures))
 

@@ -1,3 +1,4 @@
+-- `envelope::AutomationEnvelope::replace` meets its contract. Assumes nothing.
 use mathlib.Core.Path.{sym, ap, _∙_}
 use Rattle.lookup.specs.Limits.{finiteLimits}
 use Rattle.lookup.specs.declared.Limits.{Limits}
@@ -5,35 +6,23 @@ use Rattle.envelope.specs.Edit.{toldEdit, replaced}
 use borrow.Author.Needs.{needs}
 use Rattle.envelope.proofs.AutomationEnvelope.replace.Statement.{statement}
 use Rattle.envelope.proofs.AutomationEnvelope.replace.Tie as tie
-use Rattle.envelope.proofs.AutomationEnvelope.replace.Reads as reads
-use Rattle.envelope.proofs.AutomationEnvelope.replace.Lts as lts
-use Rattle.envelope.proofs.AutomationEnvelope.limits.Reads as limits-reads
-use Rattle.envelope.proofs.AutomationEnvelope.refuse.Reads as refuse-reads
-use Rattle.envelope.proofs.AutomationEnvelope.renew.Reads as renew-reads
-use Rattle.lookup.proofs.Limits.is_finite.Reads as is-finite-reads
 
--- src/edit.rt:192:13
 limits-requires : tie.Need-limits-requires
 limits-requires c κs = search needs
 
--- src/edit.rt:193:12
 is-finite-requires : tie.Need-is-finite-requires
 is-finite-requires c κs = search needs
 
--- src/edit.rt:194:13
 renew-requires : tie.Need-renew-requires
 renew-requires c κs = search needs
 
--- src/edit.rt:196:13
 refuse-requires : tie.Need-refuse-requires
 refuse-requires c κs = search needs
 
--- src/edit.rt:189:5
 returns : tie.Need-returns
 unfolding replaced
 returns c = rw (sym (c .before .before .is-finite .ensures ∙ ap (λ (l : Limits). finiteLimits l) (c .before .before .before .limits .ensures)) ∙ c .before .if1 .taken) (c .renew .ensures)
 
--- src/edit.rt:189:5
 returns-2 : tie.Need-returns-2
 unfolding replaced
 returns-2 c = rw (sym (c .before .before .is-finite .ensures ∙ ap (λ (l : Limits). finiteLimits l) (c .before .before .before .limits .ensures)) ∙ c .before .if1 .left) (ap toldEdit (c .refuse .ensures))

@@ -1,0 +1,19 @@
+-- `envelope::AutomationEnvelope::get_slope_at` meets its contract. Assumes nothing.
+use mathlib.Core.Path.{ap, _∙_}
+use Rattle.analysis.specs.Analysis.{getSlopeAt}
+use Rattle.lookup.specs.declared.Limits.{Limits}
+use borrow.Author.Needs.{needs}
+use Rattle.envelope.proofs.AutomationEnvelope.get_slope_at.Statement.{statement}
+use Rattle.envelope.proofs.AutomationEnvelope.get_slope_at.Tie as tie
+
+limits-requires : tie.Need-limits-requires
+limits-requires c κs = search needs
+
+get-slope-at-requires : tie.Need-get-slope-at-requires
+get-slope-at-requires c κs = search needs
+
+returns : tie.Need-returns
+returns c = c .get-slope-at .ensures ∙ ap (λ (l : Limits). getSlopeAt (c .before .before .before .args .self .points) (c .before .before .before .args .self .enabled) l (c .before .before .before .args .time)) (c .before .limits .ensures)
+
+pub get-slope-at-spec : {M : Type 1} → statement M
+get-slope-at-spec = tie.close (tie.spec limits-requires get-slope-at-requires returns)
