@@ -330,11 +330,12 @@ impl SampleIterator {
             return self.stays(Lookup::Silent);
         }
         let time = self.current_sample as f64 / self.sample_rate;
+        let following = self.current_sample + 1;
         SampleStep {
             answer: lookup::time::get_value_at(points, enabled, limits, time),
             walk: SampleIterator {
                 sample_rate: self.sample_rate,
-                current_sample: self.current_sample + 1,
+                current_sample: following,
                 total_samples: self.total_samples,
             },
         }

@@ -47,18 +47,18 @@ int-to-float-time : tie.Need-int-to-float-time
 unfolding inFloat
 int-to-float-time c = le→leb (c .before .before .before .before .before .before .before .before .before .args .self .«current_sample») (2 ^ 53) (omega arith)
 
+add-following : tie.Need-add-following
+add-following c = search needs
+
 get-value-at-requires : tie.Need-get-value-at-requires
 get-value-at-requires c κs = search needs
-
-add-t17 : tie.Need-add-t17
-add-t17 c = search needs
 
 returns-5 : tie.Need-returns-5
 returns-5 c =
     let a = c .before .before .before .before .before .before .before .before .before .before .before .before .args in
     let w = a .self in
     let v = sym (c .before .before .before .before .before .before .before .before .before .before .before .is-valid .ensures) ∙ not-false (c .before .before .before .before .before .before .before .before .before .before .before .is-valid .result) (c .before .before .before .before .before .before .before .before .before .before .if1 .left) in
-    ap (λ (s : Said (Option Float)). record { said = s; walk = record { «sample_rate» = w .«sample_rate»; «current_sample» = w .«current_sample» + 1; «total_samples» = w .«total_samples» } }) (c .before .get-value-at .ensures ∙ lookup-given (a .points) (a .enabled) (a .limits) (div binary64 (ofInt binary64 (pos (w .«current_sample»))) (w .«sample_rate»)) v) ∙ sym (next-is (a .points) (a .enabled) (a .limits) w v (sym (c .before .before .before .before .before .before .before .before .before .is-finite .ensures) ∙ not-false (c .before .before .before .before .before .before .before .before .before .is-finite .result) (c .before .before .before .before .before .before .before .before .if2 .left)) (c .before .before .before .before .before .before .if3 .left) (c .before .before .before .before .if4 .left))
+    ap (λ (s : Said (Option Float)). record { said = s; walk = record { «sample_rate» = w .«sample_rate»; «current_sample» = w .«current_sample» + 1; «total_samples» = w .«total_samples» } }) (c .get-value-at .ensures ∙ lookup-given (a .points) (a .enabled) (a .limits) (div binary64 (ofInt binary64 (pos (w .«current_sample»))) (w .«sample_rate»)) v) ∙ sym (next-is (a .points) (a .enabled) (a .limits) w v (sym (c .before .before .before .before .before .before .before .before .before .is-finite .ensures) ∙ not-false (c .before .before .before .before .before .before .before .before .before .is-finite .result) (c .before .before .before .before .before .before .before .before .if2 .left)) (c .before .before .before .before .before .before .if3 .left) (c .before .before .before .before .if4 .left))
 
 pub next-spec : {M : Type 1} → statement M
 next-spec =
@@ -75,6 +75,6 @@ next-spec =
     stays-requires-4
     returns-4
     int-to-float-time
+    add-following
     get-value-at-requires
-    add-t17
     returns-5)
