@@ -1,0 +1,45 @@
+-- 01's proved example of the session.
+use Prim.Native.Nat.{ℕ}
+use mathlib.Core.Path.{_≡_, refl}
+use mathlib.Core.Bool.{Bool, true, false}
+use mathlib.Core.List.{List, [], _∷_}
+use lib.Ieee.{binary32, binary64, ofBits, toBits}
+use lib.ListN.{replicate}
+use Rattle.curve.specs.declared.CurveType.the-variants.{Linear}
+use Rattle.points.specs.Refusal.{Said, refuses, gives}
+use Rattle.edits.specs.Insert.{pointWith, insertPoint}
+use Rattle.numbers.specs.Bounds.{finite}
+use Rattle.numbers.specs.Order.{orderKey}
+use Rattle.curve.specs.Curve.{code, controls, curveOf, finiteControls}
+use Rattle.points.specs.Points.{every, everyPair, risingBy, validPoints, holding, listOf}
+use Rattle.edits.specs.Settle.{editPoints, settle}
+use Rattle.envelope.specs.Envelope.{new}
+use Rattle.envelope.specs.Edit.{editOf, edited, pointsEdited}
+use Rattle.envelope.specs.declared.edit.Edit.the-variants.{OfPoints}
+use Rattle.envelope.specs.declared.edit.PointsEdit.the-variants.{AddPoint}
+use Rattle.state.specs.State.{packSettings, packPoint, packPoints, pack, pointOf, pointsOf, stateOf, unpacked}
+use Rattle.session.specs.Session.{openSession, stateAt, stored, slotAfter, slotBefore, inOrder, gate, editCall, backCall, forwardCall}
+use Rattle.session.specs.Calls.{alone, Call, edit, back, forward, callOf}
+use Rattle.session.specs.declared.Session.{Session}
+use Rattle.history.specs.Rule.{newHist, made, upTo, envelopeOf, ruleOf, histAfter, answersAfter}
+
+-- a point at time 0 and one at time 1
+abbrev add : ℕ → ℕ → Call
+add time value = edit (alone (OfPoints (AddPoint (pointWith (ofBits binary64 time) (ofBits binary32 value) Linear))))
+
+-- "P13 D = 1: edit, edit, back, back (10), forward."
+abbrev pub p13-calls : List Call
+p13-calls = add 0 0 ∷ add 0x3FF0_0000_0000_0000 0x3F80_0000 ∷ back ∷ back ∷ forward ∷ []
+
+pub p13 : answersAfter (new 3) 1 newHist p13-calls ≡ gives tt ∷ gives tt ∷ gives tt ∷ refuses 10 ∷ gives tt ∷ []
+unfolding answersAfter ruleOf upTo made new editOf edited pointsEdited editPoints settle insertPoint validPoints every risingBy finite finiteControls controls code orderKey ofBits toBits
+p13 = refl
+
+-- the same by what the functions answer, on a step memory of 1,028 words
+unfoldable pub answersOf : Session → List ℕ → List Call → List (Said (Unit {0}))
+answersOf s m [] = []
+answersOf s m (c ∷ cs) = callOf c s m .said ∷ answersOf (callOf c s m .session) (callOf c s m .memory) cs
+
+pub p13-functions : answersOf (openSession 3 (replicate 1028 7)) (replicate 1028 7) p13-calls ≡ gives tt ∷ gives tt ∷ gives tt ∷ refuses 10 ∷ gives tt ∷ []
+unfolding answersOf openSession stateAt stored slotAfter slotBefore inOrder gate editCall backCall forwardCall new editOf edited pointsEdited editPoints settle insertPoint validPoints every everyPair risingBy finite finiteControls controls code curveOf orderKey ofBits toBits packSettings packPoint packPoints pack pointOf pointsOf stateOf unpacked
+p13-functions = refl

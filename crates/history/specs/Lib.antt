@@ -1,0 +1,7 @@
+-- 01's rule of the session over a list of calls, and demand 3: the history theorem.
+pub mod Rule
+pub mod After
+pub mod Entries
+pub mod History
+pub mod Run
+pub mod Examples

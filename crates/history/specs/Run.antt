@@ -1,0 +1,125 @@
+-- Every list of calls has its run, so the history theorem speaks of all of them. Assumes nothing.
+use Prim.Native.Nat.{ℕ}
+use mathlib.Core.Path.{_≡_, refl, ap, sym}
+use mathlib.Core.Bool.{Bool, true, false, cond, _&&_}
+use mathlib.Core.List.{List, [], _∷_}
+use mathlib.Core.Option.{Option, none, some}
+use lib.ListN.{length}
+use lib.Dec.{ltb, eqb}
+use Rattle.points.specs.Refusal.{Said, refuses, gives, said}
+use Rattle.points.specs.declared.refusal.Refusal.the-variants.{NotValid, NotFinite, NoStep, MemoryLength, StoredState}
+use Rattle.points.specs.declared.refusal.Answer.{Answer}
+use Rattle.points.specs.declared.refusal.Answer.the-variants.{Accepted, Refused}
+use Rattle.lookup.specs.Limits.{finiteLimits}
+use Rattle.envelope.specs.Envelope.{limitsOf, validEnvelope}
+use Rattle.envelope.specs.Edit.{EditTold, editOf, edited, replaced, setting, mergeOf, sideOf, combineOf, joinOf}
+use Rattle.envelope.specs.declared.AutomationEnvelope.{AutomationEnvelope}
+use Rattle.envelope.specs.declared.edit.Join.{Join}
+use Rattle.envelope.specs.declared.edit.Join.the-variants.{Merge, Combine}
+use Rattle.envelope.specs.declared.edit.Edit.{Edit}
+use Rattle.envelope.specs.declared.edit.Edit.the-variants.{OfPoints, Replace, SetEnabled, SetMin, SetMax, SetStep}
+use lib.Ieee.{Float}
+use Rattle.edits.specs.Insert.{mergedPoints}
+use Rattle.edits.specs.declared.EditedPoints.{EditedPoints}
+use Rattle.combine.specs.Combine.{combinedPoints}
+use Rattle.state.specs.State.{unpacked}
+use Rattle.session.specs.Session.{stateAt, validSession, Called, called, declined, accepted, gate, settled, changed, editCall, backCall, forwardCall}
+use Rattle.session.specs.Calls.{Entry, alone, joined, madeBy, othersValid, Call, edit, back, forward, callOf, Obeys, Ran, done, call}
+use Rattle.session.specs.declared.Session.{Session}
+use Rattle.session.specs.declared.SessionAnswer.{SessionAnswer}
+
+-- what an edit says is the saying of an answer
+pub record Answered (x : Said (Unit {0})) : Type 0 where
+  pub answer : Answer
+  pub says : said answer ≡ x
+
+by : (a : Answer) → Answered (said a)
+by a = record { answer = a; says = refl }
+
+if-answered : (b : Bool) (x y : EditTold) → Answered (x .said) → Answered (y .said) → Answered (cond b x y .said)
+if-answered true x y p q = p
+if-answered false x y p q = q
+
+edited-answered : (e : AutomationEnvelope) (r : EditedPoints) → Answered (edited e r .said)
+unfolding edited
+edited-answered e r = if-answered (finiteLimits (limitsOf e)) _ _ (by (r .answer)) (by (Refused NotValid))
+
+replaced-answered : (e : AutomationEnvelope) (r : EditedPoints) → Answered (replaced e r .said)
+unfolding replaced
+replaced-answered e r = if-answered (finiteLimits (limitsOf e)) _ _ (by (r .answer)) (by (Refused NotValid))
+
+setting-answered : (e : AutomationEnvelope) (ok : Bool) (new : AutomationEnvelope) → Answered (setting e ok new .said)
+unfolding setting
+setting-answered e ok new = if-answered (validEnvelope e) _ _ (if-answered ok _ _ (by Accepted) (by (Refused NotFinite))) (by (Refused NotValid))
+
+edit-answered : (d : Edit) (e : AutomationEnvelope) → Answered (editOf d e .said)
+unfolding editOf
+edit-answered (OfPoints d) e = edited-answered e _
+edit-answered (Replace d) e = replaced-answered e _
+edit-answered (SetEnabled on) e = setting-answered e _ _
+edit-answered (SetMin l) e = setting-answered e _ _
+edit-answered (SetMax l) e = setting-answered e _ _
+edit-answered (SetStep l) e = setting-answered e _ _
+
+merge-answered : (e o : AutomationEnvelope) (offset : Float) → Answered (mergeOf e o offset .said)
+unfolding mergeOf
+merge-answered e o offset = if-answered (finiteLimits (limitsOf o)) _ _ (edited-answered e (mergedPoints (e .points) (o .points) offset)) (by (Refused NotValid))
+
+join-answered : (j : Join) (e o : AutomationEnvelope) → Answered (joinOf j e o .said)
+unfolding joinOf combineOf
+join-answered (Merge offset) e o = merge-answered e o offset
+join-answered (Combine op) e o = by (combinedPoints op (sideOf e) (sideOf o) .answer)
+
+made-answered : (x : Entry) (e : AutomationEnvelope) → Answered (madeBy x e .said)
+made-answered (alone d) e = edit-answered d e
+made-answered (joined j o) e = join-answered j e o
+
+-- ---- and so is what a call says
+
+if-called : (b : Bool) (x y : Called) → Answered (x .said) → Answered (y .said) → Answered (cond b x y .said)
+if-called true x y p q = p
+if-called false x y p q = q
+
+module _ (s : Session) (m : List ℕ) where
+  gate-answered : (others : Bool) (own : Called) → Answered (own .said) → Answered (gate others s m own .said)
+  unfolding gate
+  gate-answered others own p = if-called (validSession s && others) _ _ (if-called (eqb (length m) (s .length)) _ _ p (by (Refused MemoryLength))) (by (Refused NotValid))
+
+  settled-answered : (x : Said (Unit {0})) (e : AutomationEnvelope) → Answered x → Answered (settled s m x e .said)
+  settled-answered (refuses n) e p = p
+  settled-answered (gives u) e p = by Accepted
+
+  changed-answered : (k : ℕ) (to : AutomationEnvelope → Session) (u : Option AutomationEnvelope) → Answered (changed s m k to u .said)
+  changed-answered k to none = by (Refused StoredState)
+  changed-answered k to (some e) = by Accepted
+
+  call-answered : (c : Call) → Answered (callOf c s m .said)
+  unfolding editCall backCall forwardCall
+  call-answered (edit x) = gate-answered (othersValid x) _ (settled-answered (madeBy x (s .envelope) .said) _ (made-answered x (s .envelope)))
+  call-answered back = gate-answered true _ (if-called (ltb 0 (s .kept)) _ _ (changed-answered _ _ (unpacked (stateAt m _))) (by (Refused NoStep)))
+  call-answered forward = gate-answered true _ (if-called (ltb 0 (s .ahead)) _ _ (changed-answered _ _ (unpacked (stateAt m _))) (by (Refused NoStep)))
+
+  -- the answer of a call that obeys
+  abbrev answerOf : Call → SessionAnswer
+  answerOf c = record { answer = call-answered c .answer; session = callOf c s m .session }
+
+  obeys : (c : Call) → Obeys s m c (answerOf c) (callOf c s m .memory)
+  obeys c = ap (λ (x : Said (Unit {0})). record { said = x; session = callOf c s m .session; memory = callOf c s m .memory }) (call-answered c .says)
+
+-- a run of a list
+pub record RunOf (s : Session) (m : List ℕ) (cs : List Call) : Type 0 where
+  pub answers : List (Said (Unit {0}))
+  pub session : Session
+  pub memory : List ℕ
+  pub ran : Ran s m cs answers session memory
+
+pub every-list-runs : (s : Session) (m : List ℕ) (cs : List Call) → RunOf s m cs
+every-list-runs s m [] = record { answers = []; session = s; memory = m; ran = done }
+every-list-runs s m (c ∷ cs) =
+    let rest = every-list-runs (callOf c s m .session) (callOf c s m .memory) cs in
+    record {
+      answers = said (call-answered s m c .answer) ∷ rest .answers;
+      session = rest .session;
+      memory = rest .memory;
+      ran = call (answerOf s m c) (obeys s m c) (rest .ran);
+    }

@@ -1,0 +1,1 @@
+// The history theorem: specs/ alone.

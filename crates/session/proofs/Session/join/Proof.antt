@@ -1,0 +1,92 @@
+use mathlib.Core.Path.{_≡_, refl, ap, sym, _∙_}
+use denote.Ref.{now}
+use mathlib.Core.Bool.{_&&_}
+use Rattle.envelope.specs.Envelope.{validEnvelope}
+use Rattle.envelope.specs.Edit.{EditTold, joinOf}
+use Rattle.session.specs.Session.{called, settled}
+use Rattle.session.specs.One.{join-one}
+use Rattle.session.specs.Ways.{edit-order, edit-length, edit-own}
+use Rattle.session.specs.declared.SessionAnswer.{SessionAnswer}
+use borrow.Author.Needs.{needs}
+use Rattle.session.proofs.Session.join.Statement.{statement}
+use Rattle.session.proofs.Session.join.Tie as tie
+use Rattle.session.proofs.Session.join.Reads as reads
+use Rattle.session.proofs.Session.join.Lts as lts
+use Rattle.envelope.proofs.AutomationEnvelope.is_valid.Reads as is-valid-reads
+use Rattle.envelope.proofs.AutomationEnvelope.join.Reads as join-reads
+use Rattle.session.proofs.Session.in_order.Reads as in-order-reads
+use Rattle.session.proofs.Session.refuse.Reads as refuse-reads
+use Rattle.session.proofs.Session.refuse_length.Reads as refuse-length-reads
+use Rattle.session.proofs.Session.settle.Reads as settle-reads
+
+-- src/lib.rt:205:12
+in-order-requires : tie.Need-in-order-requires
+in-order-requires c κs = search needs
+
+-- src/lib.rt:207:29
+join-requires : tie.Need-join-requires
+join-requires c κs = search needs
+
+-- src/lib.rt:207:17
+settle-requires : tie.Need-settle-requires
+settle-requires c κs = (sym (c .before .before .before .before .before .in-order .ensures) ∙ c .before .before .before .before .if1 .taken, c .before .before .if2 .taken)
+
+-- src/lib.rt:209:36
+is-valid-requires : tie.Need-is-valid-requires
+is-valid-requires c κs = search needs
+
+-- src/lib.rt:209:58
+is-valid-requires-2 : tie.Need-is-valid-requires-2
+is-valid-requires-2 c κs = search needs
+
+-- src/lib.rt:209:17
+refuse-length-requires : tie.Need-refuse-length-requires
+refuse-length-requires c κs = search needs
+
+-- src/lib.rt:212:13
+refuse-requires : tie.Need-refuse-requires
+refuse-requires c κs = search needs
+
+-- src/lib.rt:201:5
+same-length : tie.Need-same-length
+same-length c = search needs
+
+-- src/lib.rt:201:5
+returns : tie.Need-returns
+returns c = 
+    let a = c .before .before .before .before .before .before .before .before .before .before .before .args in
+    c .before .before .settle .ensures
+    ∙ ap (λ (t : EditTold). settled (a .self) (now (a .memory)) (t .said) (t .envelope)) (c .before .before .before .before .join .ensures)
+    ∙ edit-own (validEnvelope (a .other)) (joinOf (a .join) (a .self .envelope) (a .other)) (a .self) (now (a .memory)) (λ h. join-one (a .join) (a .self .envelope) (a .other) h)
+    (sym (c .before .before .before .before .before .before .before .before .in-order .ensures) ∙ c .before .before .before .before .before .before .before .if1 .taken) (c .before .before .before .before .before .if2 .taken)
+
+-- src/lib.rt:201:5
+returns-2 : tie.Need-returns-2
+returns-2 c = 
+    let a = c .before .before .before .before .before .before .before .before .before .args in
+    ap (λ (x : SessionAnswer). called x (now (a .memory))) (c .refuse-length .ensures)
+    ∙ edit-length (validEnvelope (a .other)) (joinOf (a .join) (a .self .envelope) (a .other)) (a .self) (now (a .memory)) (c .before .before .is-valid .result && c .before .is-valid2 .result) (sym (c .before .before .before .before .before .before .in-order .ensures) ∙ c .before .before .before .before .before .if1 .taken) (c .before .before .before .if2 .left)
+    (λ i. c .before .before .is-valid .ensures i && c .before .is-valid2 .ensures i)
+
+-- src/lib.rt:201:5
+returns-3 : tie.Need-returns-3
+returns-3 c = 
+    let a = c .before .before .before .before .before .args in
+    ap (λ (x : SessionAnswer). called x (now (a .memory))) (c .refuse .ensures)
+    ∙ edit-order (validEnvelope (a .other)) (joinOf (a .join) (a .self .envelope) (a .other)) (a .self) (now (a .memory)) (sym (c .before .before .in-order .ensures) ∙ c .before .if1 .left)
+
+pub join-spec : {M : Type 1} → statement M
+join-spec =
+    tie.close
+    (tie.spec
+    in-order-requires
+    join-requires
+    settle-requires
+    is-valid-requires
+    is-valid-requires-2
+    refuse-length-requires
+    refuse-requires
+    same-length
+    returns
+    returns-2
+    returns-3)

@@ -1,0 +1,38 @@
+use mathlib.Core.Path.{_≡_, refl, sym, ap, _∙_}
+use denote.Ref.{now}
+use Rattle.render.specs.RenderLaws.{answers}
+use Rattle.session.specs.Play.{renderOf, render-own, render-not}
+use borrow.Author.Needs.{needs}
+use Rattle.session.proofs.Session.render.Statement.{statement}
+use Rattle.session.proofs.Session.render.Tie as tie
+use Rattle.session.proofs.Session.render.Reads as reads
+use Rattle.session.proofs.Session.render.Lts as lts
+use Rattle.envelope.proofs.AutomationEnvelope.render.Reads as render-reads
+use Rattle.session.proofs.Session.in_order.Reads as in-order-reads
+
+-- src/play.rt:39:12
+in-order-requires : tie.Need-in-order-requires
+in-order-requires c κs = search needs
+
+-- src/play.rt:41:13
+render-requires : tie.Need-render-requires
+render-requires c κs = search needs
+
+-- src/play.rt:35:5
+same-length : tie.Need-same-length
+same-length c = search needs
+
+-- src/play.rt:35:5
+returns : tie.Need-returns
+returns c = 
+    let a = c .before .before .before .before .before .before .before .before .args in
+    answers {x = renderOf (a .self .envelope) (a .rate) (a .first) (a .count) (a .place) (now (a .out))} (c .before .before .render .ensures .0) (c .before .before .render .ensures .1) (render-own (a .self) (a .rate) (a .first) (a .count) (a .place) (now (a .out)) (sym (c .before .before .before .before .before .before .in-order .ensures) ∙ c .before .before .before .before .before .if1 .taken))
+
+-- src/play.rt:35:5
+returns-2 : tie.Need-returns-2
+returns-2 c = 
+    let a = c .before .before .before .args in
+    answers refl refl (render-not (a .self) (a .rate) (a .first) (a .count) (a .place) (now (a .out)) (sym (c .before .in-order .ensures) ∙ c .if1 .left))
+
+pub render-spec : {M : Type 1} → statement M
+render-spec = tie.close (tie.spec in-order-requires render-requires same-length returns returns-2)

@@ -1,0 +1,62 @@
+use mathlib.Core.Path.{_≡_, refl, ap, sym, _∙_}
+use denote.Ref.{now}
+use Prim.Native.Nat.{ℕ, _+_, _-_, _*_}
+use native.Mathlib.Omega.{arith}
+use lib.ListN.{take, drop}
+use Rattle.state.specs.State.{readState}
+use Rattle.session.specs.Session.{stateAt}
+use borrow.Author.Needs.{needs}
+use Rattle.session.proofs.load.Statement.{statement}
+use Rattle.session.proofs.load.Tie as tie
+use Rattle.session.proofs.load.Reads as reads
+use Rattle.session.proofs.load.Lts as lts
+use Rattle.state.proofs.read.read_state.Reads as read-state-reads
+
+-- src/lib.rt:52:16
+mul-from : tie.Need-mul-from
+mul-from c = search needs
+
+-- src/lib.rt:53:14
+add-to : tie.Need-add-to
+add-to c = search needs
+
+-- src/lib.rt:54:29
+mul-read-state : tie.Need-mul-read-state
+mul-read-state c = search needs
+
+-- src/lib.rt:54:29
+sub-read-state : tie.Need-sub-read-state
+sub-read-state c = search needs
+
+-- src/lib.rt:54:29
+part-read-state-start : tie.Need-part-read-state-start
+part-read-state-start c = search needs
+
+-- src/lib.rt:54:29
+part-read-state-end : tie.Need-part-read-state-end
+part-read-state-end c = search needs
+
+-- src/lib.rt:54:5
+read-state-requires : tie.Need-read-state-requires
+read-state-requires c κs = search needs
+
+-- src/lib.rt:48:1
+returns : tie.Need-returns
+unfolding stateAt
+returns c = 
+    let a = c .before .before .before .args in
+    let e : a .slot * 1028 + 1028 - a .slot * 1028 ≡ 1028 = omega arith in
+    c .read-state .ensures ∙ ap (λ (n : ℕ). readState (take n (drop (a .slot * 1028) (now (a .memory))))) e
+
+pub load-spec : {M : Type 1} → statement M
+load-spec =
+    tie.close
+    (tie.spec
+    mul-from
+    add-to
+    mul-read-state
+    sub-read-state
+    part-read-state-start
+    part-read-state-end
+    read-state-requires
+    returns)

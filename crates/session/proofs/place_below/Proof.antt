@@ -1,0 +1,16 @@
+use borrow.Author.Tests.{eq-eqb, ne-eqb}
+use Rattle.session.proofs.place_below.Statement.{statement}
+use Rattle.session.proofs.place_below.Tie as tie
+use Rattle.session.proofs.place_below.Reads as reads
+use Rattle.session.proofs.place_below.Lts as lts
+
+-- src/lib.rt:77:1
+returns : tie.Need-returns
+returns c = rw (eq-eqb (c .before .args .depth) 0 (c .if1 .taken))
+
+-- src/lib.rt:77:1
+returns-2 : tie.Need-returns-2
+returns-2 c = rw (ne-eqb (c .before .args .depth) 0 (c .if1 .left))
+
+pub place-below-spec : {M : Type 1} → statement M
+place-below-spec = tie.close (tie.spec returns returns-2)

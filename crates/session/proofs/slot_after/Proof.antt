@@ -1,0 +1,25 @@
+use Rattle.session.specs.Ways.{after-yes, after-no}
+use borrow.Author.Needs.{needs}
+use Rattle.session.proofs.slot_after.Statement.{statement}
+use Rattle.session.proofs.slot_after.Tie as tie
+use Rattle.session.proofs.slot_after.Reads as reads
+use Rattle.session.proofs.slot_after.Lts as lts
+
+-- src/lib.rt:61:12
+sub-if1 : tie.Need-sub-if1
+sub-if1 c = search needs
+
+-- src/lib.rt:61:25
+add-result : tie.Need-add-result
+add-result c = search needs
+
+-- src/lib.rt:57:1
+returns : tie.Need-returns
+returns c = after-yes (c .before .args .depth) (c .before .args .at) (c .if1 .taken)
+
+-- src/lib.rt:57:1
+returns-2 : tie.Need-returns-2
+returns-2 c = after-no (c .before .args .depth) (c .before .args .at) (c .before .pre) (c .if1 .left)
+
+pub slot-after-spec : {M : Type 1} → statement M
+slot-after-spec = tie.close (tie.spec sub-if1 add-result returns returns-2)

@@ -1,0 +1,71 @@
+use mathlib.Core.Path.{_≡_, refl, ap, sym, _∙_}
+use denote.Ref.{now}
+use Prim.Native.Nat.{ℕ, _+_, _-_, _*_}
+use mathlib.Core.List.{List, _++_}
+use native.Mathlib.Omega.{arith}
+use lib.ListN.{take}
+use borrow.Rule.Slice.PartMut.{postOf, post-is}
+use Rattle.state.specs.State.{pack}
+use Rattle.session.specs.Session.{stored}
+use Rattle.session.specs.Ways.{part-words, part-written}
+use borrow.Author.Needs.{needs}
+use Rattle.session.proofs.store.Statement.{statement}
+use Rattle.session.proofs.store.Tie as tie
+use Rattle.session.proofs.store.Reads as reads
+use Rattle.session.proofs.store.Lts as lts
+use Rattle.state.proofs.write.write_state.Reads as write-state-reads
+
+-- src/lib.rt:43:16
+mul-from : tie.Need-mul-from
+mul-from c = search needs
+
+-- src/lib.rt:44:14
+add-to : tie.Need-add-to
+add-to c = search needs
+
+-- src/lib.rt:45:41
+mul-write-state : tie.Need-mul-write-state
+mul-write-state c = search needs
+
+-- src/lib.rt:45:41
+sub-write-state : tie.Need-sub-write-state
+sub-write-state c = search needs
+
+-- src/lib.rt:45:41
+part-write-state-start : tie.Need-part-write-state-start
+part-write-state-start c = search needs
+
+-- src/lib.rt:45:41
+part-write-state-end : tie.Need-part-write-state-end
+part-write-state-end c = search needs
+
+-- src/lib.rt:45:5
+write-state-requires : tie.Need-write-state-requires
+write-state-requires c κs = search needs
+
+-- src/lib.rt:39:1
+same-length : tie.Need-same-length
+same-length c = search needs
+
+-- src/lib.rt:39:1
+returns : tie.Need-returns
+unfolding stored
+returns c = 
+    let a = c .before .before .before .before .before .args in
+    ap (λ (l : List ℕ). take (a .slot * 1028) (now (a .memory)) ++ (l ++ postOf (a .slot * 1028) (a .slot * 1028 + 1028 - a .slot * 1028) (now (a .memory))))
+    (part-written (a .envelope) _ _ (part-words (a .slot * 1028) (now (a .memory)) (c .before .before .before .before .before .pre)) (c .before .before .write-state .ensures .1))
+    ∙ ap (λ (l : List ℕ). take (a .slot * 1028) (now (a .memory)) ++ (pack (a .envelope) ++ l)) (post-is (a .slot * 1028) (a .slot * 1028 + 1028) (now (a .memory)) (omega arith))
+
+pub store-spec : {M : Type 1} → statement M
+store-spec =
+    tie.close
+    (tie.spec
+    mul-from
+    add-to
+    mul-write-state
+    sub-write-state
+    part-write-state-start
+    part-write-state-end
+    write-state-requires
+    same-length
+    returns)

@@ -1,0 +1,140 @@
+-- 01, "The session": what opening, an edit, a step back and a step forward say, and the session and the step memory that they leave.
+use Prim.Native.Nat.{ℕ, _+_, _-_, _*_, _/_, min}
+use mathlib.Core.Bool.{Bool, true, cond, _&&_}
+use mathlib.Core.List.{List, _++_}
+use mathlib.Core.Option.{Option, none, some}
+use lib.ListN.{length, take, drop}
+use lib.Dec.{ltb, leb, eqb}
+use Rattle.points.specs.Refusal.{Said, refuses, gives, said}
+use Rattle.points.specs.declared.refusal.Refusal.{Refusal}
+use Rattle.points.specs.declared.refusal.Answer.the-variants.{Accepted, Refused}
+use Rattle.envelope.specs.Envelope.{new, validEnvelope}
+use Rattle.envelope.specs.Edit.{EditTold}
+use Rattle.envelope.specs.declared.AutomationEnvelope.{AutomationEnvelope}
+use Rattle.state.specs.State.{stateWords, pack, unpacked}
+use Rattle.session.specs.declared.Session.{Session}
+use Rattle.session.specs.declared.SessionAnswer.{SessionAnswer}
+
+-- ---- the step memory
+
+-- "D is the u64 length lent at opening, divided by 1,028, cut."
+abbrev pub statesIn : ℕ → ℕ
+statesIn n = n / stateWords
+
+abbrev pub depth : Session → ℕ
+depth s = statesIn (s .length)
+
+-- the words of slot k: edit number k of the list that counts, from 0, has slot k mod D
+unfoldable pub stateAt : List ℕ → ℕ → List ℕ
+stateAt m k = take stateWords (drop (k * stateWords) m)
+
+-- the memory with an envelope's state in slot k; all other words stay
+unfoldable pub stored : ℕ → AutomationEnvelope → List ℕ → List ℕ
+stored k e m = take (k * stateWords) m ++ (pack e ++ drop (k * stateWords + stateWords) m)
+
+-- the slot after one, and the slot before it, of d
+unfoldable pub slotAfter : ℕ → ℕ → ℕ
+slotAfter d at = cond (ltb (at + 1) d) (at + 1) 0
+
+unfoldable pub slotBefore : ℕ → ℕ → ℕ
+slotBefore d at = cond (eqb at 0) (d - 1) (at - 1)
+
+-- ---- the session
+
+-- "A new one: empty list, mark 0, kept 0", for any envelope to start from and the words lent
+abbrev pub opened : AutomationEnvelope → ℕ → Session
+opened start words = record { envelope = start; length = words; at = 0; kept = 0; ahead = 0 }
+
+-- opening: it starts from "the empty one, `new` of the target given at opening"
+unfoldable pub openSession : ℕ → List ℕ → Session
+openSession target m = opened (new target) (length m)
+
+-- "any place of a state that it holds is below D (0 where D is 0)"
+abbrev pub placeBelow : ℕ → ℕ → Bool
+placeBelow at d = cond (eqb d 0) (eqb at 0) (ltb at d)
+
+-- all of a session's validity but its envelope's: "kept plus the entries after the mark is at most D", and the place
+unfoldable pub inOrder : Session → Bool
+inOrder s = leb (s .kept + s .ahead) (depth s) && placeBelow (s .at) (depth s)
+
+-- "A session is valid if its envelope is, .."
+abbrev pub validSession : Session → Bool
+validSession s = validEnvelope (s .envelope) && inOrder s
+
+-- ---- what a call says, and the session and the memory that it leaves
+
+pub record Called : Type 0 where
+  pub said : Said (Unit {0})
+  pub session : Session
+  pub memory : List ℕ
+
+-- a `SessionAnswer` in these terms, with the memory at the call's end
+abbrev pub called : SessionAnswer → List ℕ → Called
+called a m = record { said = said (a .answer); session = a .session; memory = m }
+
+-- "a refused call returns the session it got"; it writes no word
+abbrev pub declined : ℕ → Session → List ℕ → Called
+declined n s m = record { said = refuses n; session = s; memory = m }
+
+abbrev pub accepted : Session → List ℕ → Called
+accepted s m = record { said = gives tt; session = s; memory = m }
+
+-- ---- the order of refusals: 1, 11, then the call's own (10, 12, and an edit's). `others` says that what else the call takes is valid.
+unfoldable pub gate : Bool → Session → List ℕ → Called → Called
+gate others s m own = cond (validSession s && others) (cond (eqb (length m) (s .length)) own (declined 11 s m)) (declined 1 s m)
+
+-- ---- an edit
+
+-- the session with other numbers and another envelope, over the same memory
+abbrev pub movedTo : Session → AutomationEnvelope → ℕ → ℕ → ℕ → Session
+movedTo s e at kept ahead = record { envelope = e; length = s .length; at = at; kept = kept; ahead = ahead }
+
+-- "Accepted edit: entries after the mark go, the edit joins, mark + 1, kept + 1 but at most D." The envelope before it goes into its slot, if there is one.
+abbrev pub counted : Session → List ℕ → AutomationEnvelope → Called
+counted s m e =
+    accepted (movedTo s e (slotAfter (depth s) (s .at)) (min (s .kept + 1) (depth s)) 0)
+    (cond (eqb (depth s) 0) m (stored (s .at) (s .envelope) m))
+
+-- an edit's own refusals come last
+abbrev pub settled : Session → List ℕ → Said (Unit {0}) → AutomationEnvelope → Called
+settled s m (refuses n) e = declined n s m
+settled s m (gives x) e = counted s m e
+
+-- an edit that makes this of the envelope; `others` says that what it takes is valid
+unfoldable pub editCall : Bool → EditTold → Session → List ℕ → Called
+editCall others told s m = gate others s m (settled s m (told .said) (told .envelope))
+
+-- ---- the steps
+
+-- over slot k the envelope and the state there change places; 12, "stored state doesn't pack a valid envelope"
+abbrev pub changed : Session → List ℕ → ℕ → (AutomationEnvelope → Session) → Option AutomationEnvelope → Called
+changed s m k to none = declined 12 s m
+changed s m k to (some e) = accepted (to e) (stored k (s .envelope) m)
+
+-- a step over slot k that leaves these numbers
+abbrev pub steppedOver : Session → List ℕ → ℕ → ℕ → ℕ → ℕ → Called
+steppedOver s m k at kept ahead = changed s m k (λ e. movedTo s e at kept ahead) (unpacked (stateAt m k))
+
+-- "Step back, if kept > 0: mark − 1, kept − 1." Else 10, "no step that way". It is over the slot of the edit before the mark.
+unfoldable pub backCall : Session → List ℕ → Called
+backCall s m =
+    gate true s m
+    (cond (ltb 0 (s .kept))
+    (steppedOver s m (slotBefore (depth s) (s .at)) (slotBefore (depth s) (s .at)) (s .kept - 1) (s .ahead + 1))
+    (declined 10 s m))
+
+-- "Step forward, if an entry stands after the mark: both + 1." It is over the slot of that entry.
+unfoldable pub forwardCall : Session → List ℕ → Called
+forwardCall s m =
+    gate true s m
+    (cond (ltb 0 (s .ahead))
+    (steppedOver s m (s .at) (slotAfter (depth s) (s .at)) (s .kept + 1) (s .ahead - 1))
+    (declined 10 s m))
+
+-- ---- for the code's own use: the two ends of a call
+
+abbrev pub refusedBy : Session → Refusal → SessionAnswer
+refusedBy s r = record { answer = Refused r; session = s }
+
+abbrev pub movedBy : Session → AutomationEnvelope → ℕ → ℕ → ℕ → SessionAnswer
+movedBy s e at kept ahead = record { answer = Accepted; session = movedTo s e at kept ahead }

@@ -1,0 +1,261 @@
+-- The ways out of the session's functions, each as a law over plain variables: the functions' proofs cite these. Assumes nothing.
+use Prim.Native.Nat.{ℕ, _+_, _-_, _*_, _/_, _≤_, _<_, min}
+use mathlib.Core.Path.{_≡_, refl, ap, sym, _∙_}
+use mathlib.Core.Bool.{Bool, true, false, cond, _&&_, false≢true, true≢false}
+use mathlib.Core.List.{List, _++_, append-nil}
+use mathlib.Core.Option.{Option, none, some}
+use native.Mathlib.Omega.{arith}
+use lib.ListN.{length, take, drop, length-drop, drop-of-length-le}
+use lib.Seq.{length-take-le}
+use lib.Dec.{ltb, leb, eqb}
+use borrow.Author.Tests.{lt-ltb, le-ltb, le-leb, lt-leb, eq-eqb, ne-eqb, leb-true, leb-false, ltb-true, eqb-true, eqb-false}
+use Rattle.points.specs.Refusal.{Said, refuses, gives, said, number}
+use Rattle.points.specs.Laws.{and-left, and-right}
+use Rattle.points.specs.declared.refusal.Refusal.{Refusal}
+use Rattle.points.specs.declared.refusal.Refusal.the-variants.{NotValid, MemoryLength, StoredState}
+use Rattle.points.specs.declared.refusal.Answer.{Answer}
+use Rattle.points.specs.declared.refusal.Answer.the-variants.{Accepted, Refused}
+use Rattle.envelope.specs.Envelope.{validEnvelope}
+use Rattle.envelope.specs.Edit.{EditTold, toldEdit}
+use Rattle.envelope.specs.declared.AutomationEnvelope.{AutomationEnvelope}
+use Rattle.envelope.specs.declared.Edited.{Edited}
+use Rattle.state.specs.State.{stateWords, pack, unpacked, readAs, readState, WordsTold, writeState}
+use Rattle.session.specs.Session.{depth, stateAt, stored, slotAfter, slotBefore, placeBelow, inOrder, validSession, Called, called, declined, accepted, gate, movedTo, counted, settled, editCall, changed, steppedOver, backCall, forwardCall, refusedBy, movedBy}
+use Rattle.session.specs.declared.Session.{Session}
+use Rattle.session.specs.declared.SessionAnswer.{SessionAnswer}
+
+-- ---- a session in order
+
+pub record InOrder (s : Session) : Type 0 where
+  pub room : s .kept + s .ahead ≤ s .length / 1028
+  pub at-most : s .at ≤ s .length / 1028
+  pub below : 0 < s .length / 1028 → s .at < s .length / 1028
+
+pub in-order : (s : Session) → inOrder s ≡ true → InOrder s
+unfolding inOrder
+in-order s h = go (eqb (depth s) 0) refl (and-right (leb (s .kept + s .ahead) (depth s)) (placeBelow (s .at) (depth s)) h)
+  where
+    few : s .kept + s .ahead ≤ s .length / 1028
+    few = leb-true _ _ (and-left (leb (s .kept + s .ahead) (depth s)) (placeBelow (s .at) (depth s)) h)
+    go : (b : Bool) → eqb (depth s) 0 ≡ b → cond b (eqb (s .at) 0) (ltb (s .at) (depth s)) ≡ true → InOrder s
+    go true z p =
+        let a : s .at ≡ 0 = eqb-true _ _ p in
+        let d : s .length / 1028 ≡ 0 = eqb-true _ _ z in
+        record { room = few; at-most = omega arith; below = λ q. absurd (omega arith) }
+    go false z p =
+        let a : s .at < s .length / 1028 = ltb-true _ _ p in
+        record { room = few; at-most = omega arith; below = λ q. a }
+
+-- its test, without a sum that could wrap
+pub room-is : (k a d : ℕ) → k ≤ d → leb a (d - k) ≡ leb (k + a) d
+room-is k a d h = go (leb a (d - k)) refl
+  where
+    go : (b : Bool) → leb a (d - k) ≡ b → b ≡ leb (k + a) d
+    go true p = sym (le-leb (k + a) d (let l : a ≤ d - k = leb-true _ _ p in omega arith))
+    go false p = sym (lt-leb (k + a) d (let l : d - k < a = leb-false _ _ p in omega arith))
+
+pub order-yes : (s : Session) (b : Bool) → s .kept ≤ s .length / 1028 → b ≡ placeBelow (s .at) (s .length / 1028)
+    → (leb (s .ahead) (s .length / 1028 - s .kept) && b) ≡ inOrder s
+unfolding inOrder
+order-yes s b h p = λ i. room-is (s .kept) (s .ahead) (s .length / 1028) h i && p i
+
+pub order-no : (s : Session) → s .length / 1028 < s .kept → false ≡ inOrder s
+unfolding inOrder
+order-no s h = rw (lt-leb (s .kept + s .ahead) (s .length / 1028) (omega arith))
+
+-- one more, at most d
+pub more-yes : (k d : ℕ) → k < d → k + 1 ≡ min (k + 1) d
+more-yes k d h = omega arith
+
+pub more-no : (k d : ℕ) → d ≤ k → d ≡ min (k + 1) d
+more-no k d h = omega arith
+
+pub after-yes : (d at : ℕ) → 1 < d - at → at + 1 ≡ slotAfter d at
+unfolding slotAfter
+after-yes d at h = rw (lt-ltb (at + 1) d (omega arith))
+
+pub after-no : (d at : ℕ) → at ≤ d → d - at ≤ 1 → 0 ≡ slotAfter d at
+unfolding slotAfter
+after-no d at l h = rw (le-ltb (at + 1) d (omega arith))
+
+pub before-zero : (d at : ℕ) → at ≡ 0 → d - 1 ≡ slotBefore d at
+unfolding slotBefore
+before-zero d at h = rw h
+
+pub before-some : (d at : ℕ) → (at ≡ 0 → ⊥) → at - 1 ≡ slotBefore d at
+unfolding slotBefore
+before-some d at h = rw (ne-eqb at 0 h)
+
+-- the slot before one is below D
+pub before-below : (s : Session) (k : ℕ) → InOrder s → 0 < s .kept → k ≡ slotBefore (s .length / 1028) (s .at) → k < s .length / 1028
+unfolding slotBefore
+before-below s k o h e = go (eqb (s .at) 0) refl
+  where
+    go : (b : Bool) → eqb (s .at) 0 ≡ b → k < s .length / 1028
+    go true z = let f : k ≡ s .length / 1028 - 1 = e ∙ rw z in let r = o .room in omega arith
+    go false z = let f : k ≡ s .at - 1 = e ∙ rw z in let r = o .room in let l : s .at < s .length / 1028 = o .below (omega arith) in omega arith
+
+-- ---- a slot's part of the memory
+
+pub part-words : (from : ℕ) (m : List ℕ) → from + 1028 ≤ length m → length (take (from + 1028 - from) (drop from m)) ≡ 1028
+part-words from m h =
+    let e : from + 1028 - from ≡ 1028 = omega arith in
+    ap (λ (n : ℕ). length (take n (drop from m))) e ∙ length-take-le 1028 (drop from m) (simp length-drop (omega arith))
+
+-- a state written over 1,028 words is all of them
+pub part-written : (e : AutomationEnvelope) (part new : List ℕ) → length part ≡ 1028 → new ≡ writeState e part .words → new ≡ pack e
+unfolding writeState
+part-written e part new h p =
+    let w : writeState e part ≡ record { said = gives tt; words = pack e ++ drop stateWords part } = rw (le-ltb (length part) 1028 (omega (arith, h))) in
+    p ∙ ap (λ (w : WordsTold). w .words) w ∙ ap (λ (l : List ℕ). pack e ++ l) (drop-of-length-le part {i = 1028} (omega (arith, h))) ∙ append-nil (pack e)
+
+-- ---- the tests that come first
+
+module _ (s : Session) (m : List ℕ) (own : Called) where
+  pub gate-one : validSession s ≡ false → declined 1 s m ≡ gate true s m own
+  unfolding gate
+  gate-one h = rw h
+
+  pub gate-eleven : validSession s ≡ true → (length m ≡ s .length → ⊥) → declined 11 s m ≡ gate true s m own
+  unfolding gate
+  gate-eleven h k = rw (h, ne-eqb (length m) (s .length) k)
+
+  pub gate-open : validSession s ≡ true → length m ≡ s .length → own ≡ gate true s m own
+  unfolding gate
+  gate-open h k = rw (h, eq-eqb (length m) (s .length) k)
+
+-- ---- an edit: its own 1 is the session's too, so the envelope's validity is tested once
+
+module _ (others : Bool) (t : EditTold) (s : Session) (m : List ℕ) where
+  pub edit-order : inOrder s ≡ false → declined 1 s m ≡ editCall others t s m
+  unfolding editCall gate
+  edit-order h = go (validEnvelope (s .envelope))
+    where
+      go : (v : Bool) → declined 1 s m ≡ cond ((v && inOrder s) && others) (cond (eqb (length m) (s .length)) (settled s m (t .said) (t .envelope)) (declined 11 s m)) (declined 1 s m)
+      go true = rw h
+      go false = refl
+
+  pub edit-length : (valid : Bool) → inOrder s ≡ true → (length m ≡ s .length → ⊥) → valid ≡ (validEnvelope (s .envelope) && others)
+      → called (refusedBy s (cond valid MemoryLength NotValid)) m ≡ editCall others t s m
+  unfolding editCall gate
+  edit-length valid h k p = rw p (go (validEnvelope (s .envelope)) others)
+    where
+      go : (v o : Bool)
+          → called (refusedBy s (cond (v && o) MemoryLength NotValid)) m
+          ≡ cond ((v && inOrder s) && o) (cond (eqb (length m) (s .length)) (settled s m (t .said) (t .envelope)) (declined 11 s m)) (declined 1 s m)
+      go true true = rw (h, ne-eqb (length m) (s .length) k)
+      go true false = rw h
+      go false o = refl
+
+  pub edit-own : ((validEnvelope (s .envelope) && others) ≡ false → t .said ≡ refuses 1) → inOrder s ≡ true → length m ≡ s .length
+      → settled s m (t .said) (t .envelope) ≡ editCall others t s m
+  unfolding editCall gate
+  edit-own = go (validEnvelope (s .envelope)) others
+    where
+      go : (v o : Bool) → ((v && o) ≡ false → t .said ≡ refuses 1) → inOrder s ≡ true → length m ≡ s .length
+          → settled s m (t .said) (t .envelope)
+          ≡ cond ((v && inOrder s) && o) (cond (eqb (length m) (s .length)) (settled s m (t .said) (t .envelope)) (declined 11 s m)) (declined 1 s m)
+      go true true one h k = rw (h, eq-eqb (length m) (s .length) k)
+      go true false one h k = rw h (ap (λ (x : Said (Unit {0})). settled s m x (t .envelope)) (one refl))
+      go false o one h k = ap (λ (x : Said (Unit {0})). settled s m x (t .envelope)) (one refl)
+
+-- what an edit's result makes of the session
+module _ (s : Session) (m : List ℕ) (r : Edited) (a : SessionAnswer) where
+  pub settle-refused : (x : Refusal) → a ≡ refusedBy s x → r .answer ≡ Refused x → called a m ≡ settled s m (said (r .answer)) (r .envelope)
+  settle-refused x is h = ap (λ (y : SessionAnswer). called y m) is ∙ rw h
+
+  module _ (at kept : ℕ) (m′ : List ℕ) (is : a ≡ movedBy s (r .envelope) at kept 0) (h : r .answer ≡ Accepted) (p : at ≡ slotAfter (s .length / 1028) (s .at))
+    (q : kept ≡ min (s .kept + 1) (s .length / 1028)) where
+    pub settle-none : s .length / 1028 ≡ 0 → m′ ≡ m → called a m′ ≡ settled s m (said (r .answer)) (r .envelope)
+    settle-none z e = ap (λ (y : SessionAnswer). called y m′) is ∙ rw (h, p, q, e, eq-eqb (s .length / 1028) 0 z)
+
+    pub settle-put : (s .length / 1028 ≡ 0 → ⊥) → m′ ≡ stored (s .at) (s .envelope) m → called a m′ ≡ settled s m (said (r .answer)) (r .envelope)
+    settle-put z e = ap (λ (y : SessionAnswer). called y m′) is ∙ rw (h, p, q, e, ne-eqb (s .length / 1028) 0 z)
+
+-- ---- a step
+
+isGiven : {A : Type 0} → Said A → Bool
+isGiven (refuses n) = false
+isGiven (gives x) = true
+
+module _ (s : Session) (m : List ℕ) (k at kept ahead : ℕ) (r : Edited) where
+  step-done-of : (u : Option AutomationEnvelope) → toldEdit r ≡ readAs u → r .answer ≡ Accepted
+      → called (movedBy s (r .envelope) at kept ahead) (stored k (s .envelope) m) ≡ changed s m k (λ e. movedTo s e at kept ahead) u
+  unfolding isGiven
+  step-done-of none p h = absurd (true≢false (ap (λ (a : Answer). isGiven (said a)) (sym h) ∙ ap (λ (t : EditTold). isGiven (t .said)) p))
+  step-done-of (some e) p h = ap (λ (t : EditTold). called (movedBy s (t .envelope) at kept ahead) (stored k (s .envelope) m)) p
+
+  step-bad-of : (u : Option AutomationEnvelope) (x : Refusal) → toldEdit r ≡ readAs u → r .answer ≡ Refused x
+      → called (refusedBy s StoredState) m ≡ changed s m k (λ e. movedTo s e at kept ahead) u
+  unfolding isGiven
+  step-bad-of none x p h = refl
+  step-bad-of (some e) x p h = absurd (false≢true (ap (λ (a : Answer). isGiven (said a)) (sym h) ∙ ap (λ (t : EditTold). isGiven (t .said)) p))
+
+  pub step-done : (a : SessionAnswer) (m′ : List ℕ) → a ≡ movedBy s (r .envelope) at kept ahead → toldEdit r ≡ readState (stateAt m k) → r .answer ≡ Accepted → m′ ≡ stored k (s .envelope) m
+      → called a m′ ≡ steppedOver s m k at kept ahead
+  unfolding readState
+  step-done a m′ is p h e = ap (λ (y : SessionAnswer). called y m′) is ∙ rw e (step-done-of (unpacked (stateAt m k)) p h)
+
+  pub step-bad : (a : SessionAnswer) (x : Refusal) → a ≡ refusedBy s StoredState → toldEdit r ≡ readState (stateAt m k) → r .answer ≡ Refused x
+      → called a m ≡ steppedOver s m k at kept ahead
+  unfolding readState
+  step-bad a x is p h = ap (λ (y : SessionAnswer). called y m) is ∙ step-bad-of (unpacked (stateAt m k)) x p h
+
+module _ (s : Session) (m : List ℕ) (v : validSession s ≡ true) (l : length m ≡ s .length) (x : Called) where
+  pub back-none : s .kept ≡ 0 → declined 10 s m ≡ backCall s m
+  unfolding backCall
+  back-none z = gate-open s m (declined 10 s m) v l ∙ ap (λ (b : Bool). gate true s m (cond b (steppedOver s m (slotBefore (depth s) (s .at)) (slotBefore (depth s) (s .at)) (s .kept - 1) (s .ahead + 1)) (declined 10 s m))) (sym (le-ltb 0 (s .kept) (omega (arith, z))))
+
+  pub back-over : (k : ℕ) → 0 < s .kept → k ≡ slotBefore (s .length / 1028) (s .at) → x ≡ steppedOver s m k k (s .kept - 1) (s .ahead + 1) → x ≡ backCall s m
+  unfolding backCall
+  back-over k z p e = e ∙ rw (p, lt-ltb 0 (s .kept) z) (gate-open s m (steppedOver s m (slotBefore (depth s) (s .at)) (slotBefore (depth s) (s .at)) (s .kept - 1) (s .ahead + 1)) v l)
+
+  pub forward-none : s .ahead ≡ 0 → declined 10 s m ≡ forwardCall s m
+  unfolding forwardCall
+  forward-none z = gate-open s m (declined 10 s m) v l ∙ ap (λ (b : Bool). gate true s m (cond b (steppedOver s m (s .at) (slotAfter (depth s) (s .at)) (s .kept + 1) (s .ahead - 1)) (declined 10 s m))) (sym (le-ltb 0 (s .ahead) (omega (arith, z))))
+
+  pub forward-over : (at : ℕ) → 0 < s .ahead → at ≡ slotAfter (s .length / 1028) (s .at) → x ≡ steppedOver s m (s .at) at (s .kept + 1) (s .ahead - 1) → x ≡ forwardCall s m
+  unfolding forwardCall
+  forward-over at z p e = e ∙ rw (p, lt-ltb 0 (s .ahead) z) (gate-open s m (steppedOver s m (s .at) (slotAfter (depth s) (s .at)) (s .kept + 1) (s .ahead - 1)) v l)
+
+-- ---- "A refusal returns its number .. and changes nothing."
+
+abbrev Quiet : Session → List ℕ → Called → Type 0
+Quiet s m x = (n : ℕ) → x .said ≡ refuses n → x ≡ declined n s m
+
+module _ (s : Session) (m : List ℕ) where
+  declined-quiet : (k : ℕ) → Quiet s m (declined k s m)
+  declined-quiet k n h = ap (λ (x : Said (Unit {0})). record { said = x; session = s; memory = m }) h
+
+  accepted-quiet : (s′ : Session) (m′ : List ℕ) → Quiet s m (accepted s′ m′)
+  unfolding isGiven
+  accepted-quiet s′ m′ n h = absurd (true≢false (ap isGiven h))
+
+  cond-quiet : (b : Bool) (x y : Called) → Quiet s m x → Quiet s m y → Quiet s m (cond b x y)
+  cond-quiet true x y p q = p
+  cond-quiet false x y p q = q
+
+  gate-quiet : (others : Bool) (own : Called) → Quiet s m own → Quiet s m (gate others s m own)
+  unfolding gate
+  gate-quiet others own q =
+      cond-quiet (validSession s && others) _ _ (cond-quiet (eqb (length m) (s .length)) _ _ q (declined-quiet 11)) (declined-quiet 1)
+
+  settled-quiet : (x : Said (Unit {0})) (e : AutomationEnvelope) → Quiet s m (settled s m x e)
+  settled-quiet (refuses n) e = declined-quiet n
+  settled-quiet (gives u) e = accepted-quiet _ _
+
+  changed-quiet : (k : ℕ) (to : AutomationEnvelope → Session) (u : Option AutomationEnvelope) → Quiet s m (changed s m k to u)
+  changed-quiet k to none = declined-quiet 12
+  changed-quiet k to (some e) = accepted-quiet _ _
+
+  pub edit-quiet : (others : Bool) (t : EditTold) → Quiet s m (editCall others t s m)
+  unfolding editCall
+  edit-quiet others t = gate-quiet others _ (settled-quiet (t .said) (t .envelope))
+
+  pub back-quiet : Quiet s m (backCall s m)
+  unfolding backCall
+  back-quiet = gate-quiet true _ (cond-quiet (ltb 0 (s .kept)) _ _ (changed-quiet _ _ (unpacked (stateAt m _))) (declined-quiet 10))
+
+  pub forward-quiet : Quiet s m (forwardCall s m)
+  unfolding forwardCall
+  forward-quiet = gate-quiet true _ (cond-quiet (ltb 0 (s .ahead)) _ _ (changed-quiet _ _ (unpacked (stateAt m _))) (declined-quiet 10))

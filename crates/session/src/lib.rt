@@ -1,0 +1,283 @@
+// The session: edits of one envelope, with steps back and forward over a lent step memory. docs/STATE.md says where it keeps what.
+ghost use mathlib.Core.Path.{_≡_};
+ghost use mathlib.Core.Bool.{true, cond};
+ghost use Prim.Native.Nat.{_+_, _*_, _/_, _≤_, _<_, min};
+ghost use lib.ListN.{length};
+ghost use Rattle.points.specs.Refusal.{said};
+ghost use Rattle.points.specs.declared.refusal.Refusal.the-variants.{NotValid, MemoryLength};
+ghost use Rattle.envelope.specs.Edit.{toldEdit};
+ghost use Rattle.state.specs.State.{readState};
+ghost use Rattle.session.specs.Session.{stateAt, stored, slotAfter, slotBefore, openSession, placeBelow, inOrder, validSession, called, settled, steppedOver, refusedBy, movedBy};
+ghost use Rattle.session.specs.Calls.{Obeys, alone, joined, edit, back, forward};
+
+pub mod play;
+
+use envelope::AutomationEnvelope;
+use envelope::Edited;
+use envelope::edit::Edit;
+use envelope::edit::Join;
+use points::refusal::Answer;
+use points::refusal::Refusal;
+
+pub struct Session {
+    pub envelope: AutomationEnvelope,
+    // words lent at opening
+    pub length: usize,
+    // the slot of the next edit
+    pub at: usize,
+    pub kept: usize,
+    pub ahead: usize,
+}
+
+// What a call gives: the session after it, or the one it got with its refusal.
+pub struct SessionAnswer {
+    pub answer: Answer,
+    pub session: Session,
+}
+
+// ---- the slots of the step memory
+
+fn store(slot: usize, envelope: AutomationEnvelope, memory: &mut [u64])
+    requires { ⌜ slot * 1028 + 1028 ≤ length (now memory) ⌝ }
+    ensures { λ _. ⌜ now (memory .exit) ≡ stored slot envelope (now (memory .entry)) ⌝ }
+{
+    let from = slot * 1028;
+    let to = from + 1028;
+    state::write::write_state(envelope, &mut memory[from..to]);
+}
+
+fn load(slot: usize, memory: &[u64]) -> Edited
+    requires { ⌜ slot * 1028 + 1028 ≤ length (now memory) ⌝ }
+    ensures { λ r. ⌜ toldEdit r ≡ readState (stateAt (now (memory .entry)) slot) ⌝ }
+{
+    let from = slot * 1028;
+    let to = from + 1028;
+    state::read::read_state(&memory[from..to])
+}
+
+fn slot_after(depth: usize, at: usize) -> usize
+    requires { ⌜ at ≤ depth ⌝ }
+    ensures { λ r. ⌜ r ≡ slotAfter depth at ⌝ }
+{
+    if 1 < depth - at { at + 1 } else { 0 }
+}
+
+fn slot_before(depth: usize, at: usize) -> usize
+    requires { ⌜ 0 < depth ⌝ }
+    ensures { λ r. ⌜ r ≡ slotBefore depth at ⌝ }
+{
+    if at == 0 { depth - 1 } else { at - 1 }
+}
+
+fn one_more(kept: usize, depth: usize) -> usize
+    ensures { λ r. ⌜ r ≡ min (kept + 1) depth ⌝ }
+{
+    if kept < depth { kept + 1 } else { depth }
+}
+
+fn place_below(at: usize, depth: usize) -> bool
+    ensures { λ r. ⌜ r ≡ placeBelow at depth ⌝ }
+{
+    if depth == 0 { at == 0 } else { at < depth }
+}
+
+impl Session {
+    // A new session: no edit yet. The memory stays as it is.
+    pub fn open(target: u32, memory: &[u64]) -> Session
+        ensures { λ r. ⌜ r ≡ openSession target (now (memory .entry)) ⌝ }
+    {
+        let envelope = AutomationEnvelope::new(target);
+        Session {
+            envelope,
+            length: memory.len(),
+            at: 0,
+            kept: 0,
+            ahead: 0,
+        }
+    }
+
+    // All of its validity but its envelope's.
+    pub(crate) fn in_order(self) -> bool
+        ensures { λ r. ⌜ r ≡ inOrder self ⌝ }
+    {
+        let depth = self.length / 1028;
+        let kept = self.kept;
+        if kept <= depth {
+            (self.ahead <= depth - kept) & place_below(self.at, depth)
+        } else {
+            false
+        }
+    }
+
+    pub fn is_valid(self) -> bool
+        ensures { λ r. ⌜ r ≡ validSession self ⌝ }
+    {
+        let envelope = self.envelope;
+        envelope.is_valid() & self.in_order()
+    }
+
+    // ---- the two ends of a call
+
+    fn refuse(self, refusal: Refusal) -> SessionAnswer
+        ensures { λ a. ⌜ a ≡ refusedBy self refusal ⌝ }
+    {
+        SessionAnswer {
+            answer: Answer::Refused(refusal),
+            session: self,
+        }
+    }
+
+    fn moved(self, envelope: AutomationEnvelope, at: usize, kept: usize, ahead: usize) -> SessionAnswer
+        ensures { λ a. ⌜ a ≡ movedBy self envelope at kept ahead ⌝ }
+    {
+        SessionAnswer {
+            answer: Answer::Accepted,
+            session: Session {
+                envelope,
+                length: self.length,
+                at,
+                kept,
+                ahead,
+            },
+        }
+    }
+
+    // ---- edits
+
+    // The memory has another length than at opening; `valid` says that no envelope gives 1 before.
+    fn refuse_length(self, valid: bool) -> SessionAnswer
+        ensures { λ a. ⌜ a ≡ refusedBy self (cond valid MemoryLength NotValid) ⌝ }
+    {
+        if valid {
+            self.refuse(Refusal::MemoryLength)
+        } else {
+            self.refuse(Refusal::NotValid)
+        }
+    }
+
+    // What an edit's result makes of the session.
+    fn settle(mut self, r: Edited, memory: &mut [u64]) -> SessionAnswer
+        requires { ⌜ inOrder self ≡ true ⌝ }
+        requires { ⌜ length (now memory) ≡ self .length ⌝ }
+        ensures { λ a. ⌜ called a (now (memory .exit)) ≡ settled self (now (memory .entry)) (said (r .answer)) (r .envelope) ⌝ }
+    {
+        let answer = r.answer;
+        match answer {
+            Answer::Accepted => {
+                let depth = self.length / 1028;
+                let at = self.at;
+                let next = slot_after(depth, at);
+                let kept = one_more(self.kept, depth);
+                let new = r.envelope;
+                if depth == 0 {
+                    self.moved(new, next, kept, 0)
+                } else {
+                    let old = self.envelope;
+                    store(at, old, memory);
+                    self.moved(new, next, kept, 0)
+                }
+            }
+            Answer::Refused(refusal) => self.refuse(refusal),
+        }
+    }
+
+    // Any of 01's edits. Its own test gives the 1 for the envelope.
+    pub fn edit(mut self, e: Edit, memory: &mut [u64]) -> SessionAnswer
+        ensures { λ a. ⌜ Obeys self (now (memory .entry)) (edit (alone e)) a (now (memory .exit)) ⌝ }
+    {
+        let envelope = self.envelope;
+        if self.in_order() {
+            if memory.len() == self.length {
+                self.settle(envelope.edit(e), memory)
+            } else {
+                self.refuse_length(envelope.is_valid())
+            }
+        } else {
+            self.refuse(Refusal::NotValid)
+        }
+    }
+
+    // Any of 01's edits that take a second envelope: 1 for either comes first.
+    pub fn join(mut self, join: Join, other: AutomationEnvelope, memory: &mut [u64]) -> SessionAnswer
+        ensures { λ a. ⌜ Obeys self (now (memory .entry)) (edit (joined join other)) a (now (memory .exit)) ⌝ }
+    {
+        let envelope = self.envelope;
+        if self.in_order() {
+            if memory.len() == self.length {
+                self.settle(envelope.join(join, other), memory)
+            } else {
+                self.refuse_length(envelope.is_valid() & other.is_valid())
+            }
+        } else {
+            self.refuse(Refusal::NotValid)
+        }
+    }
+
+    // ---- steps
+
+    // The envelope and the state in a slot change places.
+    fn step_over(
+        mut self,
+        slot: usize,
+        at: usize,
+        kept: usize,
+        ahead: usize,
+        memory: &mut [u64],
+    ) -> SessionAnswer
+        requires { ⌜ slot * 1028 + 1028 ≤ length (now memory) ⌝ }
+        ensures { λ a. ⌜ called a (now (memory .exit)) ≡ steppedOver self (now (memory .entry)) slot at kept ahead ⌝ }
+    {
+        let r = load(slot, memory);
+        let answer = r.answer;
+        match answer {
+            Answer::Accepted => {
+                let old = self.envelope;
+                let new = r.envelope;
+                store(slot, old, memory);
+                self.moved(new, at, kept, ahead)
+            }
+            Answer::Refused(_) => self.refuse(Refusal::StoredState),
+        }
+    }
+
+    pub fn back(mut self, memory: &mut [u64]) -> SessionAnswer
+        ensures { λ a. ⌜ Obeys self (now (memory .entry)) back a (now (memory .exit)) ⌝ }
+    {
+        if self.is_valid() {
+            if memory.len() == self.length {
+                let kept = self.kept;
+                if kept == 0 {
+                    self.refuse(Refusal::NoStep)
+                } else {
+                    let slot = slot_before(self.length / 1028, self.at);
+                    self.step_over(slot, slot, kept - 1, self.ahead + 1, memory)
+                }
+            } else {
+                self.refuse(Refusal::MemoryLength)
+            }
+        } else {
+            self.refuse(Refusal::NotValid)
+        }
+    }
+
+    pub fn forward(mut self, memory: &mut [u64]) -> SessionAnswer
+        ensures { λ a. ⌜ Obeys self (now (memory .entry)) forward a (now (memory .exit)) ⌝ }
+    {
+        if self.is_valid() {
+            if memory.len() == self.length {
+                let ahead = self.ahead;
+                if ahead == 0 {
+                    self.refuse(Refusal::NoStep)
+                } else {
+                    let at = self.at;
+                    let next = slot_after(self.length / 1028, at);
+                    self.step_over(at, next, self.kept + 1, ahead - 1, memory)
+                }
+            } else {
+                self.refuse(Refusal::MemoryLength)
+            }
+        } else {
+            self.refuse(Refusal::NotValid)
+        }
+    }
+}
