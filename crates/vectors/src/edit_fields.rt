@@ -17,7 +17,9 @@ use crate::text::double_at;
 use crate::text::single_at;
 use crate::text::two_doubles_at;
 use crate::text::two_singles_at;
+use combine::Operation;
 use envelope::edit::Edit;
+use envelope::edit::Join;
 use envelope::edit::PointsEdit;
 use envelope::edit::Replacement;
 
@@ -25,6 +27,12 @@ use envelope::edit::Replacement;
 pub enum EditField {
     None,
     Is(Edit, usize),
+}
+
+// The same of an edit with a second envelope.
+pub enum JoinField {
+    None,
+    Is(Join, usize),
 }
 
 fn of_points(edit: PointsEdit, next: usize) -> EditField {
@@ -243,4 +251,45 @@ pub fn edit_at(s: &[u8], name: Name, at: usize) -> EditField {
         return number;
     };
     shaped(s, name, at)
+}
+
+fn combined(by: Operation, next: usize) -> JoinField {
+    JoinField::Is(Join::Combine(by), next)
+}
+
+// The combinations without an argument.
+fn plain_join(s: &[u8], name: Name, at: usize) -> JoinField {
+    if name.is(s, b"add") {
+        return combined(Operation::Add, at);
+    }
+    if name.is(s, b"multiply") {
+        return combined(Operation::Multiply, at);
+    }
+    if name.is(s, b"min") {
+        return combined(Operation::Min, at);
+    }
+    if name.is(s, b"max") {
+        return combined(Operation::Max, at);
+    }
+    if name.is(s, b"subtract") {
+        return combined(Operation::Subtract, at);
+    }
+    JoinField::None
+}
+
+// The edit of a name that takes a second envelope, with the arguments after that at a place.
+pub fn join_at(s: &[u8], name: Name, at: usize) -> JoinField {
+    if name.is(s, b"merge") {
+        let Double::Is(offset, next) = double_at(s, at) else {
+            return JoinField::None;
+        };
+        return JoinField::Is(Join::Merge(offset), next);
+    }
+    if name.is(s, b"blend") {
+        let Single::Is(factor, next) = single_at(s, at) else {
+            return JoinField::None;
+        };
+        return combined(Operation::Blend(factor), next);
+    }
+    plain_join(s, name, at)
 }

@@ -59,17 +59,10 @@ fn point_of(r: &mut Random, e: &Envelope) -> Option<usize> {
     Some(r.below(n) as usize)
 }
 
-/// The second envelope. Beside one of many points it often has many too: other times, or the same.
+/// The second envelope. Beside one of many points it often has many too.
 fn other(r: &mut Random, op: &str, first: &Envelope) -> Envelope {
     if first.points.len() > 100 && r.once_in(2) {
-        if r.once_in(2) {
-            let mut e = first.clone();
-            for p in &mut e.points {
-                p.value = r.single();
-            }
-            return e;
-        }
-        return r.envelope_of(|r| r.one_of(&[256, 256, 255, 130]));
+        return other_of_many(r, first);
     }
     if !first.points.is_empty() && r.once_in(4) {
         let mut e = r.envelope_of(points_of_first);
@@ -81,6 +74,29 @@ fn other(r: &mut Random, op: &str, first: &Envelope) -> Envelope {
         return e;
     }
     r.second(op, first)
+}
+
+/// The same times with other values; none of them, up to 512 together or just 256 or 257; or any.
+fn other_of_many(r: &mut Random, first: &Envelope) -> Envelope {
+    let mut e = first.clone();
+    let left = 256 - first.points.len();
+    match r.below(4) {
+        0 => {
+            for p in &mut e.points {
+                p.value = r.single();
+            }
+        }
+        1 | 2 => {
+            for p in &mut e.points {
+                p.time += 1000.0;
+            }
+            let most = r.one_of(&[left, left + 1, 256]);
+            e.points.truncate(most);
+            sort(&mut e);
+        }
+        _ => return r.envelope_of(|r| r.one_of(&[256, 256, 255, 130])),
+    }
+    e
 }
 
 // ---- numbers
