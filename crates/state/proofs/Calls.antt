@@ -1,11 +1,11 @@
 -- The ways out of the calls. Assumes nothing.
 use Prim.Native.Nat.{ℕ, _≤_, _<_}
-use mathlib.Core.Path.{_≡_, refl, sym, ap, _∙_}
-use mathlib.Core.Bool.{Bool, true, false, cond, _&&_}
+use mathlib.Core.Path.{_≡_, sym, ap, _∙_}
+use mathlib.Core.Bool.{Bool, true, false, _&&_}
 use mathlib.Core.List.{List, _++_}
-use mathlib.Core.Option.{none, some}
+use mathlib.Core.Option.{some}
 use borrow.Author.Tests.{lt-ltb, le-ltb}
-use lib.Dec.{ltb, eqb}
+use lib.Dec.{eqb}
 use lib.ListN.{length, take, drop}
 use Rattle.points.specs.Refusal.{refuses, gives}
 use Rattle.points.specs.Points.{everyPair}
@@ -16,7 +16,7 @@ use Rattle.envelope.specs.Envelope.{new, validEnvelope}
 use Rattle.envelope.specs.Edit.{toldEdit, refusedEdit}
 use Rattle.envelope.specs.declared.AutomationEnvelope.{AutomationEnvelope}
 use Rattle.envelope.specs.declared.Edited.{Edited}
-use Rattle.state.specs.State.{packSettings, packPoints, pointsOf, pack, stateOf, ifTest, unpacked, readAs, readState, WordsTold, writeState}
+use Rattle.state.specs.State.{packSettings, packPoints, pointsOf, pack, stateOf, ifTest, unpacked, readAs, readState, writeState}
 use Rattle.state.specs.StateLaws.{length-places, length-pointsOf}
 use Rattle.state.proofs.Words.{same-state}
 

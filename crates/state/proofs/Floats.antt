@@ -1,7 +1,7 @@
 -- A NaN's pattern, at any format. Assumes nothing.
 use Prim.Native.Nat.{ℕ, _*_, _%_, _≤_, _<_}
 use mathlib.Core.Path.{_≡_, refl, sym, ap, _∙_}
-use mathlib.Core.Bool.{Bool, true, false, not, false≢true}
+use mathlib.Core.Bool.{true, not, false≢true}
 use borrow.Author.Tests.{lt-ltb, le-ltb}
 use lib.Dec.{T}
 use lib.Ieee.{Float, Format, nan, inf, fin, binary32, binary64, ofBits, toBits, isNan, nanBits, ones, hid, top, div, ne}

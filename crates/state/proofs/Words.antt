@@ -7,14 +7,14 @@ use native.Mathlib.Nat.{add-zero, not-suc-le-zero, le-of-suc-le-suc}
 use native.Mathlib.Numerals.{add-one}
 use native.Mathlib.Omega.{arith}
 use lib.Dec.{eqb}
-use lib.ListN.{length, getD, take, drop, set, length-append, length-drop, take-append-drop}
-use lib.Seq.{sets, sets-eq, length-sets, take-suc-set, take-all, take-add, take-length, drop-cons, drop-drop, getD-drop, length-take-le}
+use lib.ListN.{length, getD, take, drop, set, length-drop, take-append-drop}
+use lib.Seq.{sets, sets-eq, length-sets, take-suc-set, take-all, take-add, drop-cons, drop-drop, getD-drop, length-take-le}
 use Rattle.points.specs.Points.{everyPair}
 use Rattle.points.specs.Laws.{and-true, and-assoc, and-both}
 use Rattle.points.specs.declared.AutomationPoint.{AutomationPoint}
 use Rattle.envelope.specs.declared.AutomationEnvelope.{AutomationEnvelope}
-use Rattle.state.specs.State.{packSettings, packPoint, pointOf, packPoints, pointsOf, pack, stateOf}
-use Rattle.state.specs.StateLaws.{length-settings, length-point, length-points, length-places, length-pointsOf}
+use Rattle.state.specs.State.{packSettings, packPoint, pointOf, packPoints, pointsOf, pack}
+use Rattle.state.specs.StateLaws.{length-settings, length-points, length-places, length-pointsOf}
 
 -- ---- runs of stores
 
@@ -162,8 +162,8 @@ module _ (w : List ℕ) (i : ℕ) (p : AutomationPoint) (is : p ≡ pointOf (dro
   same-turn same more-same h inv this =
       let n : 4 * (i + 1) ≡ 4 * i + 4 = omega arith in
       let len : length (packPoints (pointsOf i (drop 4 w))) ≡ length (take (4 * i) (drop 4 w)) =
-          length-points (pointsOf i (drop 4 w)) ∙ ap (λ (k : ℕ). 4 * k) (length-pointsOf i (drop 4 w))
-          ∙ sym (length-take-le (4 * i) (drop 4 w) (simp length-drop (omega arith))) in
+      length-points (pointsOf i (drop 4 w)) ∙ ap (λ (k : ℕ). 4 * k) (length-pointsOf i (drop 4 w))
+      ∙ sym (length-take-le (4 * i) (drop 4 w) (simp length-drop (omega arith))) in
       and-both inv (this ∙ ap (λ (l : List ℕ). everyPair eqb (packPoint p) (take 4 l)) (sym (drop-drop (4 * i) 4 w)))
       ∙ sym (pair-append eqb (packPoints (pointsOf i (drop 4 w))) (packPoint p) (take (4 * i) (drop 4 w)) (take 4 (drop (4 * i) (drop 4 w))) len)
       ∙ (λ j. everyPair eqb (sym (ap packPoints more ∙ packed-more (pointsOf i (drop 4 w)) p) j) (sym (ap (λ (k : ℕ). take k (drop 4 w)) n ∙ take-add (4 * i) 4 (drop 4 w)) j))

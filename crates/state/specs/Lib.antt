@@ -1,3 +1,4 @@
--- The stored state of an envelope: its words, and the laws of reading and writing them.
+-- The stored state of an envelope: its words, the laws of reading and writing them, and an example.
 pub mod State
 pub mod StateLaws
+pub mod Examples

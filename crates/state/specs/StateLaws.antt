@@ -1,9 +1,9 @@
 -- Laws of the stored state: what was packed reads back, and what reads was packed so. Assumes nothing.
 use Prim.Native.Nat.{ℕ, zero, suc, _+_, _*_, _/_, _%_, _<_}
 use mathlib.Core.Path.{_≡_, refl, sym, ap, _∙_}
-use mathlib.Core.Bool.{Bool, true, false, cond, _&&_, false≢true}
+use mathlib.Core.Bool.{Bool, true, false, _&&_, false≢true}
 use mathlib.Core.List.{List, [], _∷_, _++_}
-use mathlib.Core.Option.{Option, none, some, Option·some-injective, Option·none-ne-some}
+use mathlib.Core.Option.{some, Option·some-injective, Option·none-ne-some}
 use native.Mathlib.Nat.{mod-eq-of-lt}
 use native.Mathlib.Omega.{arith}
 use borrow.Author.Tests.{ltb-true, lt-ltb, eqb-true, eq-eqb}
@@ -15,7 +15,6 @@ use lib.Ieee.Bits.{is-true, ofBits-toBits, toBits-lt, ofBits-fits}
 use Rattle.numbers.specs.Tests.{yes}
 use Rattle.curve.specs.Curve.{code, controls, curves, curveOf}
 use Rattle.curve.specs.Laws.{code-lt, curveOf-code}
-use Rattle.curve.specs.declared.CurveType.{CurveType}
 use Rattle.curve.specs.declared.CurveType.the-variants.{Linear}
 use Rattle.points.specs.Points.{every, everyPair}
 use Rattle.points.specs.Laws.{and-left, and-right, and-both, every-append}
@@ -27,7 +26,7 @@ use Rattle.lookup.specs.declared.Limit.the-variants as limit
 use Rattle.envelope.specs.Envelope.{limitsOf, validEnvelope}
 use Rattle.envelope.specs.Typed.{typedCurve, typedPosition, typedPoint, typedPoints, typedLimit, typed}
 use Rattle.envelope.specs.declared.AutomationEnvelope.{AutomationEnvelope}
-use Rattle.state.specs.State.{stateWords, halves, high, low, flag, bit, hasLimit, limitBits, limitOf, hasPosition, positionWord, positionOf, flags, packSettings, packPoint, pointOf, packPoints, pointsOf, pack, stateOf, ifTest, unpacked}
+use Rattle.state.specs.State.{halves, high, low, flag, bit, hasLimit, limitBits, limitOf, hasPosition, positionWord, positionOf, flags, packSettings, packPoint, pointOf, packPoints, pointsOf, pack, stateOf, ifTest, unpacked}
 
 -- ---- the parts of a word
 
@@ -130,8 +129,8 @@ point-back p l t =
       value = (ap (ofBits binary32) (low-halves tag value-lt) ∙ bits-back binary32 (p .value) (typings .2)) i;
       curve = (
           (λ j. curveOf ((ap (λ (n : ℕ). n / 2) tag-is ∙ half) j)
-              ((ap (ofBits binary32) (low-halves (toBits binary32 (controls (p .curve) .cp2)) cp1-lt) ∙ bits-back binary32 (controls (p .curve) .cp1) cp1) j)
-              ((ap (ofBits binary32) (high-halves (toBits binary32 (controls (p .curve) .cp2)) cp1-lt) ∙ bits-back binary32 (controls (p .curve) .cp2) cp2) j))
+          ((ap (ofBits binary32) (low-halves (toBits binary32 (controls (p .curve) .cp2)) cp1-lt) ∙ bits-back binary32 (controls (p .curve) .cp1) cp1) j)
+          ((ap (ofBits binary32) (high-halves (toBits binary32 (controls (p .curve) .cp2)) cp1-lt) ∙ bits-back binary32 (controls (p .curve) .cp2) cp2) j))
           ∙ curveOf-code (p .curve)) i;
     }
 

@@ -111,8 +111,11 @@ pub(crate) fn bounds_word(limits: Limits) -> u64
 pub(crate) fn controls_word(curve: CurveType) -> u64
     ensures { λ r. ⌜ r ≡ controlsWord curve ⌝ }
 {
-    let c = curve.controls();
-    bits32(c.cp2) * 0x1_0000_0000 + bits32(c.cp1)
+    if let CurveType::Bezier(cp1, cp2) = curve {
+        bits32(cp2) * 0x1_0000_0000 + bits32(cp1)
+    } else {
+        0
+    }
 }
 
 // The curve's number, whether there is a position, and the value.

@@ -1,4 +1,4 @@
-use Prim.Native.Nat.{_≤_, _-_, _+_, _*_}
+use Prim.Native.Nat.{_≤_, _-_, _*_}
 use mathlib.Core.Path.{_≡_, refl}
 use native.Mathlib.Omega.{arith}
 use borrow.Author.Needs.{needs}
@@ -63,7 +63,7 @@ loop-less c = search needs
 
 -- src/read.rt:135:5
 loop-again : tie.Need-loop-again Inv-loop μ-loop
-loop-again c = 
+loop-again c =
     let w = c .before .before .before .before .before .before .args .words .now in
     let i = c .before .before .before .loop .i in
     let p = c .before .read-point .result in
@@ -72,7 +72,7 @@ loop-again c =
 
 -- src/read.rt:126:1
 returns : tie.Need-returns Inv-loop μ-loop
-returns c = 
+returns c =
     let w = c .before .before .before .before .args .words .now in
     let i : c .before .loop .i ≡ 256 = omega (arith, c .before .loop .inv .0) in
     (read-all w (c .before .loop .places) (c .before .loop .i) i (c .before .loop .inv .1) (c .before .loop .inv .2), same-all w (c .before .loop .same) (c .before .loop .i) i (c .before .before .before .before .pre) (c .before .loop .inv .3))

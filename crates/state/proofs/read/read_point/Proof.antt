@@ -1,4 +1,4 @@
-use Prim.Native.Nat.{ℕ, _+_, _/_}
+use Prim.Native.Nat.{_+_, _/_}
 use mathlib.Core.Path.{ap, _∙_}
 use mathlib.Core.Bool.{Bool}
 use lib.ListN.{getD}
@@ -114,7 +114,7 @@ from-code-requires c κs = search needs
 -- src/read.rt:90:1
 returns : tie.Need-returns
 unfolding pointOf
-returns c = 
+returns c =
     let w = c .before .before .before .before .before .before .before .before .before .before .before .before .before .before .before .before .args .words .now in
     let at = c .before .before .before .before .before .before .before .before .before .before .before .before .before .before .before .before .args .at in
     let tag = c .before .before .before .before .before .before .before .before .before .before .before .before .high .ensures .0 in

@@ -48,7 +48,7 @@ no-state-requires-2 c κs = search needs
 
 -- src/read.rt:192:1
 returns-2 : tie.Need-returns-2
-returns-2 c = 
+returns-2 c =
     let w = c .before .before .before .before .before .before .before .before .before .args .words .now in
     let s = c .before .before .before .before .with-places .ensures in
     let valid = c .before .before .before .is-valid .result in
@@ -60,7 +60,7 @@ returns-2 c =
 
 -- src/read.rt:192:1
 returns-3 : tie.Need-returns-3
-returns-3 c = 
+returns-3 c =
     let w = c .before .before .before .before .before .before .before .before .before .before .args .words .now in
     let s = c .before .before .before .before .before .with-places .ensures in
     let valid = c .before .before .before .before .is-valid .result in

@@ -78,13 +78,13 @@ shared-slice-read-result-4 c = search needs
 -- src/read.rt:108:1
 returns : tie.Need-returns
 unfolding packPoint
-returns c = 
+returns c =
     let w = c .before .before .before .before .before .before .before .before .before .args .words .now in
     let at = c .before .before .before .before .before .before .before .before .before .args .at in
     (λ i. eqb (c .before .before .before .before .before .before .before .bits64 .ensures i) (getD w at 0)
-        && (eqb (c .before .before .before .before .before .position-word .ensures i) (getD w (at + 1) 0)
-        && (eqb (c .before .before .before .controls-word .ensures i) (getD w (at + 2) 0)
-        && eqb (c .before .value-word .ensures i) (getD w (at + 3) 0))))
+    && (eqb (c .before .before .before .before .before .position-word .ensures i) (getD w (at + 1) 0)
+    && (eqb (c .before .before .before .controls-word .ensures i) (getD w (at + 2) 0)
+    && eqb (c .before .value-word .ensures i) (getD w (at + 3) 0))))
     ∙ same-four w at _ _ _ _ (c .before .before .before .before .before .before .before .before .before .pre)
 
 pub same-point-spec : {M : Type 1} → statement M

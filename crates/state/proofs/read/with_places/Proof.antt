@@ -1,4 +1,3 @@
-use Prim.Native.Nat.{ℕ}
 use mathlib.Core.Path.{ap, _∙_}
 use lib.ListN.{getD}
 use Rattle.state.specs.State.{bit, limitOf, stateOf}
@@ -83,7 +82,7 @@ limit-of-requires-3 c κs = search needs
 -- src/read.rt:146:1
 returns : tie.Need-returns
 unfolding stateOf
-returns c = 
+returns c =
     let flags = c .before .before .before .before .before .before .before .before .before .before .before .before .before .before .high .ensures .0 in
     λ i. record {
       target = c .before .before .before .before .before .before .before .before .before .before .before .low .ensures .0 i;

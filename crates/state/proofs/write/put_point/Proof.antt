@@ -82,7 +82,7 @@ same-length c = search needs
 -- src/write.rt:143:1
 returns : tie.Need-returns
 unfolding packPoint
-returns c = 
+returns c =
     four-stores (c .before .before .before .before .before .args .words .now) (c .before .before .before .before .before .args .at) _ _ _ _
     ∙ (λ i. sets (c .before .before .before .before .before .args .words .now) (c .before .before .before .before .before .args .at) (c .before .before .before .bits64 .ensures i ∷ c .before .before .position-word .ensures i ∷ c .before .controls-word .ensures i ∷ c .value-word .ensures i ∷ []))
 

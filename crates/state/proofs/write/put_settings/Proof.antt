@@ -54,14 +54,14 @@ same-length c = search needs
 -- src/write.rt:129:1
 returns : tie.Need-returns
 unfolding packSettings
-returns c = 
+returns c =
     let e = c .before .before .before .before .before .before .args .envelope in
     λ i. sets (c .before .before .before .before .before .before .args .words .now) 0
-        ((c .before .before .flags-word .ensures ∙ ap (λ (l : Limits). halves (flags (e .enabled) l) (e .target)) (c .before .before .before .before .limits .ensures)) i
-        ∷ e .points .count
-        ∷ (c .before .bounds-word .ensures ∙ ap boundsWord (c .before .before .before .before .limits .ensures)) i
-        ∷ c .limit-bits .ensures .0 i
-        ∷ [])
+    ((c .before .before .flags-word .ensures ∙ ap (λ (l : Limits). halves (flags (e .enabled) l) (e .target)) (c .before .before .before .before .limits .ensures)) i
+    ∷ e .points .count
+    ∷ (c .before .bounds-word .ensures ∙ ap boundsWord (c .before .before .before .before .limits .ensures)) i
+    ∷ c .limit-bits .ensures .0 i
+    ∷ [])
 
 pub put-settings-spec : {M : Type 1} → statement M
 put-settings-spec =

@@ -1,5 +1,5 @@
 use Prim.Native.Nat.{_≤_, _-_}
-use mathlib.Core.Path.{_≡_, ap, _∙_}
+use mathlib.Core.Path.{ap, _∙_}
 use native.Mathlib.Omega.{arith}
 use borrow.Author.Needs.{needs}
 use lib.ListN.{length, take}
@@ -59,7 +59,7 @@ loop-less c = search needs
 
 -- src/write.rt:162:5
 loop-again : tie.Need-loop-again Inv-loop μ-loop
-loop-again c = 
+loop-again c =
     let e = c .before .before .before .before .before .before .before .before .before .before .before .before .before .args .envelope in
     let len = places e _ (c .before .before .before .before .before .before .before .before .before .before .before .before .before .good .0) in
     (omega arith, put-turn (e .points .places) (c .before .before .before .before .before .before .loop .i) anyPoint (omega arith) (c .before .before .before .before .before .before .loop .inv .1) (c .before .before .put-point .ensures))
@@ -70,7 +70,7 @@ same-length c = stored-length (c .before .loop .inv .1) ∙ ap length (c .before
 
 -- src/write.rt:155:1
 returns : tie.Need-returns Inv-loop μ-loop
-returns c = 
+returns c =
     let e = c .before .before .before .before .before .before .before .before .args .envelope in
     put-all e (c .before .before .before .before .before .before .before .before .args .words .now) (c .before .loop .i) (places e _ (c .before .before .before .before .before .before .before .before .good .0)) (c .before .before .before .before .before .before .before .before .pre) (omega (arith, c .before .loop .inv .0)) (c .before .before .before .before .before .put-settings .ensures) (c .before .loop .inv .1)
 

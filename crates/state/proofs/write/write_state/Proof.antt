@@ -10,7 +10,7 @@ use Rattle.state.proofs.write.put_state.Reads as put-state-reads
 
 -- src/write.rt:175:9
 returns : tie.Need-returns
-returns c = 
+returns c =
     let told = no-room (c .before .before .args .envelope) (c .before .before .args .words .now) (c .if1 .taken) in
     (ap (λ (t : WordsTold). t .said) told, ap (λ (t : WordsTold). t .words) told)
 
@@ -24,7 +24,7 @@ same-length c = search needs
 
 -- src/write.rt:170:1
 returns-2 : tie.Need-returns-2
-returns-2 c = 
+returns-2 c =
     let told = room (c .before .before .before .before .before .before .args .envelope) (c .before .before .before .before .before .before .args .words .now) (c .before .before .before .before .if1 .left) in
     (ap (λ (t : WordsTold). t .said) told, c .before .before .put-state .ensures ∙ ap (λ (t : WordsTold). t .words) told)
 
