@@ -30,9 +30,13 @@ impl Side {
 }
 
 pub struct Figure {
-    pub name: &'static str,
+    pub name: String,
     /// How many units of work a pass has: calls, or samples, or points.
     pub units: usize,
+    /// The most that the Rattle's time may be of the Rust's, where a target is set.
+    pub most: Option<f64>,
+    /// Whether the two sides give the same.
+    pub agree: Box<dyn Fn() -> bool>,
     pub rattle: Side,
     pub rust: Side,
 }
@@ -49,13 +53,13 @@ impl Figure {
     /// The least time of a unit over many rounds, in nanoseconds. The sides take turns, so that
     /// both meet the same disturbances.
     fn times(&self) -> (f64, f64) {
-        const ROUNDS: u32 = 40;
+        const ROUNDS: u32 = 100;
         let once = self
             .rattle
             .time(1)
             .max(self.rust.time(1))
             .max(Duration::from_nanos(100));
-        let passes = (Duration::from_millis(2).as_nanos() / once.as_nanos()).max(1) as u32;
+        let passes = (Duration::from_millis(1).as_nanos() / once.as_nanos()).max(1) as u32;
         let (mut rattle, mut rust) = (Duration::MAX, Duration::MAX);
         for _ in 0..ROUNDS {
             rattle = rattle.min(self.rattle.time(passes));
@@ -65,9 +69,22 @@ impl Figure {
         (unit(rattle), unit(rust))
     }
 
+    /// Name, both times, their ratio, and what it may be at most, marked where it is more.
     pub fn print_times(&self) {
+        assert!((self.agree)(), "{}: the two sides differ", self.name);
         let (rattle, rust) = self.times();
-        println!("{}\tns\t{rattle:.2}\t{rust:.2}\t{:.2}", self.name, rattle / rust);
+        let ratio = rattle / rust;
+        let most = self.most.map_or(String::new(), |m| format!("{m:.2}"));
+        let over = if self.most.is_some_and(|m| ratio > m) {
+            "over"
+        } else {
+            ""
+        };
+        let digits = if rust < 100.0 { 2 } else { 0 };
+        println!(
+            "{}\tns\t{rattle:.digits$}\t{rust:.digits$}\t{ratio:.2}\t{most}\t{over}",
+            self.name
+        );
     }
 
     pub fn print_symbols(&self) {
@@ -93,10 +110,12 @@ macro_rules! calls {
             fn $rust(x: $from) -> $to;
         }
         let inputs: std::rc::Rc<Vec<$from>> = std::rc::Rc::new($inputs);
-        let (first, second) = (inputs.clone(), inputs.clone());
+        let (first, second, both) = (inputs.clone(), inputs.clone(), inputs.clone());
         Figure {
-            name: $name,
+            name: $name.to_string(),
             units: inputs.len(),
+            most: None,
+            agree: Box::new(move || both.iter().all(|&x| unsafe { $rattle(x) == $rust(x) })),
             rattle: Side::new(stringify!($rattle), move || {
                 figure::each(&first, |x| unsafe { $rattle(x) })
             }),

@@ -42,3 +42,17 @@ pub fn words(bits: u32) -> Vec<u64> {
 pub fn singles(xs: Vec<f64>) -> Vec<f32> {
     xs.into_iter().map(|x| x as f32).collect()
 }
+
+/// Times from 0 up to 1 that rise, so far apart that no two have the same sample at 48 kHz.
+pub fn rising(count: usize) -> Vec<f64> {
+    let gap = 1.0 / (count as f64 - 1.0);
+    random(4)
+        .take(count)
+        .enumerate()
+        .map(|(i, z)| match i {
+            0 => 0.0,
+            i if i + 1 == count => 1.0,
+            i => (i as f64 + (z >> 11) as f64 / (1u64 << 53) as f64 / 2.0) * gap,
+        })
+        .collect()
+}

@@ -1,17 +1,19 @@
 //! Measures the port's functions beside the Rust's, on the same inputs in the same run. bench/run
 //! builds both sides and starts this program; bench/README.md says what the figures mean.
 //!
-//!     bench times              the time of each figure
-//!     bench list               for each figure: its symbols, how often a pass calls them, its name
+//!     bench times [PART]       the time of each figure, or of those with PART in their name
+//!     bench list               the figures of one call: symbols, how often a pass calls them, name
 //!     bench pass FIGURE SIDE   one pass of one side, for callgrind to count
 #[macro_use]
 mod figure;
 mod inputs;
+mod records;
 
 use figure::{Figure, Side};
 use rust_side as _;
 
-fn figures() -> Vec<Figure> {
+/// The figures of a function of one number.
+fn calls() -> Vec<Figure> {
     vec![
         calls!("the call alone", rattle_echo, rust_echo, f64 => f64, inputs::fractions()),
         calls!("f64 to f32, fractions", rattle_narrow, rust_narrow, f64 => f32, inputs::fractions()),
@@ -33,15 +35,25 @@ fn figures() -> Vec<Figure> {
     ]
 }
 
+fn figures() -> Vec<Figure> {
+    let mut all = calls();
+    all.extend(records::figures());
+    all
+}
+
 fn main() {
     let words: Vec<String> = std::env::args().skip(1).collect();
     let words: Vec<&str> = words.iter().map(String::as_str).collect();
     match words[..] {
         ["times"] => figures().iter().for_each(Figure::print_times),
-        ["list"] => figures().iter().for_each(Figure::print_symbols),
+        ["times", part] => figures()
+            .iter()
+            .filter(|f| f.name.contains(part))
+            .for_each(Figure::print_times),
+        ["list"] => calls().iter().for_each(Figure::print_symbols),
         ["pass", figure, side] => {
             let figure: usize = figure.parse().expect("a figure's number");
-            figures()[figure].side(side).pass();
+            calls()[figure].side(side).pass();
         }
         _ => panic!("bench times | list | pass FIGURE SIDE"),
     }

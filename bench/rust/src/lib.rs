@@ -3,6 +3,10 @@
 use source::curve::CurveType;
 use std::hint::black_box;
 
+mod edits;
+mod fixed;
+pub mod records;
+
 #[no_mangle]
 #[inline(never)]
 pub extern "C" fn rust_echo(x: f64) -> f64 {

@@ -1,4 +1,4 @@
-// What bench/ measures, as C functions on numbers and slices. Each passes its arguments on.
+// What bench/ measures, as C functions on numbers and slices. Those here pass their arguments on; those of the modules repeat a call on an envelope. A tool, on which no caller stands: the latter are proved safe and ending, and state no result.
 ghost use mathlib.Core.Path.{_≡_};
 ghost use lib.IntN.{pos};
 ghost use lib.Ieee.{binary32, binary64, ofBits, ofInt, toUnsigned};
@@ -7,6 +7,12 @@ ghost use Rattle.numbers.specs.Whole.{roundAway};
 ghost use Rattle.numbers.specs.Root.{sqrt};
 ghost use Rattle.curve.specs.Curve.{interpolated};
 ghost use Rattle.curve.specs.declared.CurveType.the-variants.{Linear, CubicInOut, QuintInOut, Bounce, Back, Logarithmic, Circular, Bezier};
+
+mod bench;
+mod made;
+mod player;
+mod ranges;
+
 use curve::CurveType;
 
 // The call alone.

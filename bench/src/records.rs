@@ -1,0 +1,307 @@
+//! The figures on envelopes. Both sides get the same lists of times and values, make their envelope
+//! of them, do the work so many times in one call, and must leave the same bits.
+use crate::figure::{Figure, Side};
+use crate::inputs;
+use std::hint::black_box;
+
+/// The two C functions of a figure. Both take the lists of times and values and a curve's code, then
+/// what is written here.
+macro_rules! pair {
+    ($rattle:ident, $rust:ident, ($($arg:ident: $type:ty),*)) => {
+        extern "C" {
+            fn $rattle(times: *const f64, times_len: usize, values: *const f32, values_len: usize, curve: u32, $($arg: $type),*) -> u64;
+            fn $rust(times: *const f64, times_len: usize, values: *const f32, values_len: usize, curve: u32, $($arg: $type),*) -> u64;
+        }
+    };
+}
+
+pair!(rattle_get_value_at, rust_get_value_at, (at: *const f64, at_len: usize));
+pair!(rattle_get_value_at_sample, rust_get_value_at_sample, (at: *const u64, at_len: usize));
+pair!(rattle_to_buffer, rust_to_buffer, (rate: f64, duration: f64, turns: u32, out: *mut f32, out_len: usize));
+pair!(rattle_render, rust_render, (rate: f64, first: u64, turns: u32, out: *mut f32, out_len: usize));
+pair!(rattle_edit, rust_edit, (which: u32, x: f64, y: f64, turns: u32, times: *mut f64, times_len: usize, values: *mut f32, values_len: usize));
+pair!(rattle_get_range, rust_get_range, (start: f64, end: f64, turns: u32));
+pair!(rattle_get_range_samples, rust_get_range_samples, (start: u64, end: u64, turns: u32));
+pair!(rattle_get_slope_at, rust_get_slope_at, (at: *const f64, at_len: usize));
+pair!(rattle_find_peaks, rust_find_peaks, (turns: u32, times: *mut f64, times_len: usize, values: *mut f32, values_len: usize));
+
+/// What a call is given: times that rise from 0 to 1, and values from 0 up to 1.
+struct Input {
+    times: Vec<f64>,
+    values: Vec<f32>,
+    curve: u32,
+    /// times to look up, and samples
+    at: Vec<f64>,
+    samples: Vec<u64>,
+}
+
+const LOOKUPS: usize = 200;
+
+fn input(points: usize, curve: u32) -> &'static Input {
+    let at: Vec<f64> = inputs::fractions().into_iter().take(LOOKUPS).collect();
+    Box::leak(Box::new(Input {
+        times: inputs::rising(points),
+        values: inputs::singles(inputs::fractions())
+            .into_iter()
+            .take(points)
+            .collect(),
+        curve,
+        samples: at.iter().map(|t| (t * RATE) as u64).collect(),
+        at,
+    }))
+}
+
+/// The lists that a call may fill.
+struct Room {
+    times: Vec<f64>,
+    values: Vec<f32>,
+}
+
+/// A figure of one of the pairs. Both sides must say and leave the same bits.
+fn figure(
+    name: impl ToString,
+    units: usize,
+    most: Option<f64>,
+    symbols: (&'static str, &'static str),
+    room: usize,
+    call: impl Fn(bool, &mut Room) -> u64 + Copy + 'static,
+) -> Figure {
+    let pass = move |rattle: bool| {
+        let mut left = Room {
+            times: vec![0.0; room],
+            values: vec![0.0; room],
+        };
+        let said = call(rattle, &mut left);
+        (said, left)
+    };
+    let bits = |(said, left): (u64, Room)| {
+        let times: Vec<u64> = left.times.into_iter().map(f64::to_bits).collect();
+        let values: Vec<u32> = left.values.into_iter().map(f32::to_bits).collect();
+        (said, times, values)
+    };
+    Figure {
+        name: name.to_string(),
+        units,
+        most,
+        agree: Box::new(move || bits(pass(true)) == bits(pass(false))),
+        rattle: Side::new(symbols.0, move || {
+            black_box(pass(true));
+        }),
+        rust: Side::new(symbols.1, move || {
+            black_box(pass(false));
+        }),
+    }
+}
+
+/// A figure whose call has an input's lists and more arguments, which may use the lists to fill.
+macro_rules! record {
+    ($name:expr, $units:expr, $most:expr, $input:expr, $rattle:ident, $rust:ident, $room:expr, |$left:ident| ($($arg:expr),*)) => {{
+        let i: &'static Input = $input;
+        figure($name, $units, $most, (stringify!($rattle), stringify!($rust)), $room, move |rattle, $left| {
+            let call = if rattle { $rattle } else { $rust };
+            unsafe { call(i.times.as_ptr(), i.times.len(), i.values.as_ptr(), i.values.len(), i.curve, $($arg),*) }
+        })
+    }};
+}
+
+const LINEAR: u32 = 0;
+/// A curve, its code, and the most that rendering at 2, 16 and 256 points may take of the Rust's time.
+const CURVES: [(&str, u32, [f64; 3]); 5] = [
+    ("Linear", LINEAR, [1.0, 0.65, 0.45]),
+    ("CubicInOut", 15, [1.0, 0.65, 0.45]),
+    ("Bezier", 5, [1.0, 0.65, 0.45]),
+    ("Logarithmic", 2, [2.2, 1.3, 0.85]),
+    ("Circular", 9, [2.2, 1.3, 0.85]),
+];
+const RATE: f64 = 48_000.0;
+const SAMPLES: usize = 48_000;
+
+fn rendering() -> Vec<Figure> {
+    const TURNS: u32 = 4;
+    let mut all = Vec::new();
+    for (curve, code, most) in CURVES {
+        for (points, most) in [2, 16, 256].into_iter().zip(most) {
+            let name = format!("to_buffer, {curve}, {points}");
+            let units = SAMPLES * TURNS as usize;
+            all.push(record!(
+                name,
+                units,
+                Some(most),
+                input(points, code),
+                rattle_to_buffer,
+                rust_to_buffer,
+                SAMPLES,
+                |left| (RATE, 1.0, TURNS, left.values.as_mut_ptr(), SAMPLES)
+            ));
+        }
+    }
+    const BLOCKS: u32 = 100;
+    for (curve, code, _) in CURVES {
+        let name = format!("64 samples, {curve}, 256");
+        all.push(record!(
+            name,
+            BLOCKS as usize,
+            Some(1.5),
+            input(256, code),
+            rattle_render,
+            rust_render,
+            64,
+            |left| (RATE, 24_000, BLOCKS, left.values.as_mut_ptr(), 64)
+        ));
+    }
+    all
+}
+
+fn lookups() -> Vec<Figure> {
+    let mut all = Vec::new();
+    for points in [2, 256] {
+        let most = (points == 256).then_some(3.0);
+        let i = input(points, LINEAR);
+        all.push(record!(
+            format!("get_value_at, {points}"),
+            LOOKUPS,
+            most,
+            i,
+            rattle_get_value_at,
+            rust_get_value_at,
+            0,
+            |_left| (i.at.as_ptr(), LOOKUPS)
+        ));
+        all.push(record!(
+            format!("get_value_at_sample, {points}"),
+            LOOKUPS,
+            most,
+            i,
+            rattle_get_value_at_sample,
+            rust_get_value_at_sample,
+            0,
+            |_left| (i.samples.as_ptr(), LOOKUPS)
+        ));
+    }
+    all
+}
+
+/// The edits by their numbers in the two functions, with their arguments.
+const EDITS: [(&str, u32, f64, f64); 28] = [
+    ("add_point, a new first", 0, -1.0, 0.5),
+    ("add_point, a new last", 0, 2.0, 0.5),
+    ("remove_point_at, the first", 1, 0.0, 0.0),
+    ("remove_point_at, none", 1, 2.0, 0.0),
+    ("shift_points", 2, 0.25, 0.0),
+    ("scale_time", 3, 1.5, 0.0),
+    ("trim, all stay", 4, -1.0, 2.0),
+    ("reverse", 5, 0.0, 0.0),
+    ("invert_values", 6, 0.0, 1.0),
+    ("quantize_time", 7, 0.0001, 0.0),
+    ("simplify, all stay", 8, 0.0, 0.0),
+    ("normalize", 9, 0.0, 2.0),
+    ("scale", 10, 1.5, 0.0),
+    ("offset", 11, 0.5, 0.0),
+    ("clamp_values", 12, 0.25, 0.75),
+    ("apply_fade_in", 13, 0.5, 0.0),
+    ("apply_fade_out", 14, 0.5, 0.0),
+    ("apply_fades", 15, 0.25, 0.25),
+    ("apply_gate", 16, 0.5, 0.0),
+    ("apply_compression", 17, 0.5, 2.0),
+    ("fade_in", 18, 1.0, 0.0),
+    ("fade_out", 19, 1.0, 0.0),
+    ("pulse", 20, 1.0, 2.0),
+    ("ramp", 21, 1.0, 0.5),
+    ("set_enabled", 22, 0.0, 0.0),
+    ("set_min", 23, 0.5, 0.0),
+    ("set_max", 24, 0.5, 0.0),
+    ("set_step", 25, 0.5, 0.0),
+];
+const MERGE: (&str, u32, f64, f64) = ("merge, 128 and 128", 26, 0.001, 0.0);
+const PLACES: usize = 256;
+
+fn edits() -> Vec<Figure> {
+    let edit = |(name, which, x, y): (&'static str, u32, f64, f64), i: &'static Input| {
+        const TURNS: u32 = 200;
+        record!(
+            name,
+            TURNS as usize,
+            Some(4.0),
+            i,
+            rattle_edit,
+            rust_edit,
+            PLACES,
+            |left| (
+                which,
+                x,
+                y,
+                TURNS,
+                left.times.as_mut_ptr(),
+                PLACES,
+                left.values.as_mut_ptr(),
+                PLACES
+            )
+        )
+    };
+    let i = input(255, LINEAR);
+    let mut all: Vec<Figure> = EDITS.into_iter().map(|e| edit(e, i)).collect();
+    all.push(edit(MERGE, input(128, LINEAR)));
+    all
+}
+
+fn analyses() -> Vec<Figure> {
+    const TURNS: u32 = 20;
+    let units = TURNS as usize;
+    let i = input(256, LINEAR);
+    vec![
+        record!(
+            "get_range, 256",
+            units,
+            Some(2.0),
+            i,
+            rattle_get_range,
+            rust_get_range,
+            0,
+            |_left| (0.1, 0.9, TURNS)
+        ),
+        record!(
+            "get_range_samples, 256",
+            units,
+            None,
+            i,
+            rattle_get_range_samples,
+            rust_get_range_samples,
+            0,
+            |_left| (4_800, 43_200, TURNS)
+        ),
+        record!(
+            "get_slope_at, 256",
+            LOOKUPS,
+            None,
+            i,
+            rattle_get_slope_at,
+            rust_get_slope_at,
+            0,
+            |_left| (i.at.as_ptr(), LOOKUPS)
+        ),
+        record!(
+            "find_peaks, 256",
+            units,
+            None,
+            i,
+            rattle_find_peaks,
+            rust_find_peaks,
+            PLACES,
+            |left| (
+                TURNS,
+                left.times.as_mut_ptr(),
+                PLACES,
+                left.values.as_mut_ptr(),
+                PLACES
+            )
+        ),
+    ]
+}
+
+pub fn figures() -> Vec<Figure> {
+    let mut all = rendering();
+    all.extend(lookups());
+    all.extend(edits());
+    all.extend(analyses());
+    all
+}

@@ -1,0 +1,59 @@
+use Prim.Native.Nat.{_≤_, _-_}
+use mathlib.Core.Path.{_≡_, refl, _∙_}
+use native.Mathlib.Omega.{arith}
+use lib.ListN.{length}
+use Rattle.bench_exports.proofs.player.rattle_to_buffer.Statement.{statement}
+use Rattle.bench_exports.proofs.player.rattle_to_buffer.Tie as tie
+
+abbrev Inv-loop : tie.InvT-loop
+Inv-loop times values curve rate duration turns out₀ e good₀ i₀ out good i = (i ≤ turns) × (length out ≡ length out₀)
+
+abbrev μ-loop : tie.MeasureT-loop
+μ-loop times values curve rate duration turns out₀ e good₀ i₀ out good i = turns - i
+
+made-requires : tie.Need-made-requires Inv-loop μ-loop
+made-requires c κs = tt
+
+loop-holds : tie.Need-loop-holds Inv-loop μ-loop
+loop-holds c = (omega arith, refl)
+
+to-buffer-requires : tie.Need-to-buffer-requires Inv-loop μ-loop
+to-buffer-requires c κs = tt
+
+accepted-requires : tie.Need-accepted-requires Inv-loop μ-loop
+accepted-requires c κs = tt
+
+wrapping-add-u64-requires : tie.Need-wrapping-add-u64-requires Inv-loop μ-loop
+wrapping-add-u64-requires c κs = tt
+
+add-i : tie.Need-add-i Inv-loop μ-loop
+add-i c = omega arith
+
+loop-less : tie.Need-loop-less Inv-loop μ-loop
+loop-less c = omega arith
+
+loop-again : tie.Need-loop-again Inv-loop μ-loop
+loop-again c = (omega arith, c .before .before .before .before .to-buffer .kept .1 .1 .1 .0 ∙ c .before .before .before .before .before .before .before .loop .inv .1)
+
+same-length : tie.Need-same-length Inv-loop μ-loop
+same-length c = c .before .loop .inv .1
+
+returns : tie.Need-returns Inv-loop μ-loop
+returns c = tt
+
+pub rattle-to-buffer-spec : {M : Type 1} → statement M
+rattle-to-buffer-spec =
+    tie.close
+    (tie.spec
+    Inv-loop
+    μ-loop
+    made-requires
+    loop-holds
+    to-buffer-requires
+    accepted-requires
+    wrapping-add-u64-requires
+    add-i
+    loop-less
+    loop-again
+    same-length
+    returns)

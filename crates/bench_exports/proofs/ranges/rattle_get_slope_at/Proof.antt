@@ -1,0 +1,66 @@
+use Prim.Native.Nat.{_≤_, _-_}
+use native.Mathlib.Omega.{arith}
+use lib.ListN.{length}
+use Rattle.bench_exports.proofs.ranges.rattle_get_slope_at.Statement.{statement}
+use Rattle.bench_exports.proofs.ranges.rattle_get_slope_at.Tie as tie
+
+abbrev Inv-loop : tie.InvT-loop
+Inv-loop times values curve at points limits sum₀ i₀ sum i = (i ≤ length at)
+
+abbrev μ-loop : tie.MeasureT-loop
+μ-loop times values curve at points limits sum₀ i₀ sum i = length at - i
+
+made-requires : tie.Need-made-requires Inv-loop μ-loop
+made-requires c κs = tt
+
+limits-requires : tie.Need-limits-requires Inv-loop μ-loop
+limits-requires c κs = tt
+
+loop-holds : tie.Need-loop-holds Inv-loop μ-loop
+loop-holds c = omega arith
+
+mul-get-slope-at : tie.Need-mul-get-slope-at Inv-loop μ-loop
+mul-get-slope-at c = omega arith
+
+shared-slice-read-get-slope-at : tie.Need-shared-slice-read-get-slope-at Inv-loop μ-loop
+shared-slice-read-get-slope-at c = omega arith
+
+get-slope-at-requires : tie.Need-get-slope-at-requires Inv-loop μ-loop
+get-slope-at-requires c κs = tt
+
+bits-requires : tie.Need-bits-requires Inv-loop μ-loop
+bits-requires c κs = tt
+
+wrapping-add-u64-requires : tie.Need-wrapping-add-u64-requires Inv-loop μ-loop
+wrapping-add-u64-requires c κs = tt
+
+add-i : tie.Need-add-i Inv-loop μ-loop
+add-i c = omega arith
+
+loop-less : tie.Need-loop-less Inv-loop μ-loop
+loop-less c = omega arith
+
+loop-again : tie.Need-loop-again Inv-loop μ-loop
+loop-again c = omega arith
+
+returns : tie.Need-returns Inv-loop μ-loop
+returns c = tt
+
+pub rattle-get-slope-at-spec : {M : Type 1} → statement M
+rattle-get-slope-at-spec =
+    tie.close
+    (tie.spec
+    Inv-loop
+    μ-loop
+    made-requires
+    limits-requires
+    loop-holds
+    mul-get-slope-at
+    shared-slice-read-get-slope-at
+    get-slope-at-requires
+    bits-requires
+    wrapping-add-u64-requires
+    add-i
+    loop-less
+    loop-again
+    returns)
