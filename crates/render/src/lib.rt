@@ -83,7 +83,13 @@ impl Segment {
     {
         let c = self.curve;
         let t = lookup::time::fraction(self.from, self.to, time);
-        limits.apply_constraints(c.interpolate(self.start, self.end, t))
+        // the longest of the plain curves, without the call and its jump
+        if let CurveType::Bezier(cp1, cp2) = c {
+            let t_eased = curve::cubic_bezier(curve::clamp(t), cp1, cp2);
+            limits.apply_constraints(self.start + (self.end - self.start) * t_eased)
+        } else {
+            limits.apply_constraints(c.interpolate(self.start, self.end, t))
+        }
     }
 }
 
