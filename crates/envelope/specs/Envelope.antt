@@ -7,7 +7,6 @@ use lib.Ieee.{eq}
 use Rattle.points.specs.Refusal.{Said, refuses, gives}
 use Rattle.points.specs.Point.{matching}
 use Rattle.points.specs.Points.{listOf, holding, everyPair}
-use Rattle.points.specs.declared.Points.{Points}
 use Rattle.lookup.specs.Limits.{valid}
 use Rattle.lookup.specs.declared.Limit.{Limit}
 use Rattle.lookup.specs.declared.Limit.the-variants as limit

@@ -1,4 +1,4 @@
-use mathlib.Core.Path.{_≡_, ap, _∙_}
+use mathlib.Core.Path.{ap, _∙_}
 use mathlib.Core.Bool.{true}
 use Rattle.edits.specs.declared.EditedPoints.{EditedPoints}
 use Rattle.envelope.specs.declared.AutomationEnvelope.{AutomationEnvelope}

@@ -1,4 +1,4 @@
-use mathlib.Core.Path.{_≡_, sym, ap, _∙_}
+use mathlib.Core.Path.{sym, ap, _∙_}
 use Rattle.points.specs.Refusal.{gives}
 use Rattle.points.specs.Laws.{and-both}
 use Rattle.envelope.specs.Envelope.{envelopesEqual}

@@ -1,4 +1,4 @@
-use mathlib.Core.Path.{_≡_, ap, _∙_}
+use mathlib.Core.Path.{ap, _∙_}
 use Rattle.lookup.specs.Lookup.{getValueAtSample}
 use Rattle.lookup.specs.declared.Limits.{Limits}
 use borrow.Author.Needs.{needs}

@@ -1,7 +1,4 @@
-use mathlib.Core.Path.{_≡_, ap, _∙_}
-use lib.Ieee.{Float}
-use mathlib.Core.List.{List}
-use Rattle.points.specs.Refusal.{Said}
+use mathlib.Core.Path.{ap, _∙_}
 use Rattle.render.specs.Render.{render}
 use Rattle.lookup.specs.declared.Limits.{Limits}
 use borrow.Author.Needs.{needs}

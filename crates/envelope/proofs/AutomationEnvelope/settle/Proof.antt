@@ -1,10 +1,8 @@
-use mathlib.Core.Path.{_≡_, refl, sym, ap, _∙_}
+use mathlib.Core.Path.{sym, ap, _∙_}
 use Rattle.lookup.specs.Limits.{finiteLimits}
 use Rattle.lookup.specs.declared.Limits.{Limits}
 use Rattle.points.specs.Refusal.{said}
-use Rattle.points.specs.declared.Points.{Points}
 use Rattle.envelope.specs.declared.AutomationEnvelope.{AutomationEnvelope}
-use Rattle.envelope.specs.declared.Edited.{Edited}
 use Rattle.envelope.specs.Edit.{EditTold, toldEdit, edited}
 use borrow.Author.Needs.{needs}
 use Rattle.envelope.proofs.AutomationEnvelope.settle.Statement.{statement}
