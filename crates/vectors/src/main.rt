@@ -12,6 +12,7 @@ mod calls_edit;
 mod calls_numbers;
 mod calls_player;
 mod calls_render;
+mod calls_session;
 mod calls_walk;
 mod edit_fields;
 mod lists;
@@ -26,9 +27,17 @@ fn buffer() -> [u8; 131072]
     [0; 131072]
 }
 
+// Room for the step memory of a session.
+fn memory() -> [u64; 20480]
+    ensures { λ r. ⌜ 20480 ≡ length r ⌝ }
+{
+    [0; 20480]
+}
+
 fn main() {
     let mut buf = buffer();
-    let tally = replay::replay(&mut buf);
+    let mut memory = memory();
+    let tally = replay::replay(&mut buf, &mut memory);
     io::print_decimal(STDOUT_FILENO, tally.run);
     io::write_all(STDOUT_FILENO, b" run, ");
     io::print_decimal(STDOUT_FILENO, tally.differ);

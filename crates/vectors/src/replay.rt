@@ -10,17 +10,22 @@ use crate::calls_edit;
 use crate::calls_numbers;
 use crate::calls_player;
 use crate::calls_render;
+use crate::calls_session;
+use crate::calls_session::Played;
 use crate::calls_walk;
 use crate::text::Outcome;
 use crate::text::find;
+use crate::text::is;
 use libc::STDIN_FILENO;
 use libc::STDOUT_FILENO;
+use session::Session;
 use std::num::wrapping_add_u64;
 
-// How many lines were run, and how many of them differ.
+// How many lines were run, and how many of them differ; and the session that is open.
 pub struct Tally {
     pub run: u64,
     pub differ: u64,
+    pub session: Session,
 }
 
 // The whole lines of a part of the list are done, up to a place.
@@ -52,13 +57,18 @@ struct Reader {
 
 // One more line that was run.
 fn counted(t: Tally, differs: bool) -> Tally {
+    let session = t.session;
     let run = wrapping_add_u64(t.run, 1);
     let differ = if differs {
         wrapping_add_u64(t.differ, 1)
     } else {
         t.differ
     };
-    Tally { run, differ }
+    Tally {
+        run,
+        differ,
+        session,
+    }
 }
 
 // The same among the calls on envelopes but the Player's.
@@ -95,10 +105,21 @@ fn outcome(s: &[u8], name: usize) -> Outcome {
     outcome_on_envelopes(s, name)
 }
 
-// A call that no module knows counts as one that differs.
-fn differs(s: &[u8]) -> bool {
+// A call of the open session, or any other, which leaves that as it is.
+fn played(s: &[u8], session: Session, memory: &mut [u64]) -> Played {
     let name = find(s, 0, b' ');
-    match outcome(s, name) {
+    if is(s, name, b"session") {
+        return calls_session::run(s, session, memory);
+    }
+    Played {
+        outcome: outcome(s, name),
+        session,
+    }
+}
+
+// A call that no module knows counts as one that differs.
+fn differs(outcome: Outcome) -> bool {
+    match outcome {
         Outcome::Same => false,
         Outcome::Differs => true,
         Outcome::Unknown => true,
@@ -111,22 +132,31 @@ fn print_line(s: &[u8]) {
 }
 
 // A line without its newline. Empty lines and comments are passed over.
-fn line(s: &[u8], t: Tally) -> Tally {
+fn line(s: &[u8], t: Tally, memory: &mut [u64]) -> Tally {
     if s.len() == 0 {
         return t;
     }
     if s[0] == b'#' {
         return t;
     }
-    if differs(s) {
+    let before = t.session;
+    let played = played(s, before, memory);
+    let outcome = played.outcome;
+    let session = played.session;
+    let after = Tally {
+        run: t.run,
+        differ: t.differ,
+        session,
+    };
+    if differs(outcome) {
         print_line(s);
-        return counted(t, true);
+        return counted(after, true);
     }
-    counted(t, false)
+    counted(after, false)
 }
 
 // The lines from `start` on that end in a newline.
-fn lines(s: &[u8], start: usize, t: Tally) -> Done
+fn lines(s: &[u8], start: usize, t: Tally, memory: &mut [u64]) -> Done
     requires { ⌜ start ≤ length (now s) ⌝ }
     ensures { λ r. ⌜ (start ≤ r .at) × (r .at ≤ length (now (s .entry))) ⌝ }
 {
@@ -137,7 +167,7 @@ fn lines(s: &[u8], start: usize, t: Tally) -> Done
         if end == s.len() {
             break;
         }
-        tally = line(&s[at..end], tally);
+        tally = line(&s[at..end], tally, memory);
         at = end + 1;
     }
     Done { tally, at }
@@ -187,8 +217,8 @@ fn next_line(s: &[u8], long: bool) -> Start
 }
 
 // The list's last line, if it has no newline. A read that failed counts as a line that differs.
-fn last_line(s: &[u8], failed: bool, t: Tally) -> Tally {
-    let tally = line(s, t);
+fn last_line(s: &[u8], failed: bool, t: Tally, memory: &mut [u64]) -> Tally {
+    let tally = line(s, t, memory);
     if failed {
         print_line(b"the input cannot be read");
         return counted(tally, true);
@@ -219,7 +249,7 @@ fn held_over(buf: &[u8], held: usize, long: bool, tally: Tally) -> Reader
 }
 
 // One read after the bytes that are held, and the whole lines that are there then.
-fn turn(buf: &mut [u8], r: Reader) -> Reader
+fn turn(buf: &mut [u8], r: Reader, memory: &mut [u64]) -> Reader
     requires { ⌜ r .held < length (now buf) ⌝ }
     ensures { λ q. ⌜ q .held < length (now (buf .entry)) ⌝ }
 {
@@ -233,11 +263,11 @@ fn turn(buf: &mut [u8], r: Reader) -> Reader
             held: 0,
             long,
             ended: true,
-            tally: last_line(&buf[..full], read.failed, tally),
+            tally: last_line(&buf[..full], read.failed, tally, memory),
         };
     }
     let start = next_line(&buf[..full], long);
-    let done = lines(&buf[..full], start.at, tally);
+    let done = lines(&buf[..full], start.at, tally, memory);
     let rest = to_front(buf, done.at, full);
     let so_far = done.tally;
     held_over(buf, rest, start.long, so_far)
@@ -245,19 +275,23 @@ fn turn(buf: &mut [u8], r: Reader) -> Reader
 
 // Replays standard input. A proved loop has to end, and nothing says that a list does: so the turns
 // are counted down from a number that no run uses up.
-pub fn replay(buf: &mut [u8]) -> Tally
+pub fn replay(buf: &mut [u8], memory: &mut [u64]) -> Tally
     requires { ⌜ 0 < length (now buf) ⌝ }
 {
     let mut r = Reader {
         held: 0,
         long: false,
         ended: false,
-        tally: Tally { run: 0, differ: 0 },
+        tally: Tally {
+            run: 0,
+            differ: 0,
+            session: Session::open(0, memory),
+        },
     };
     let mut turns = u64::MAX;
     while turns > 0 {
         turns -= 1;
-        r = turn(buf, r);
+        r = turn(buf, r, memory);
         if r.ended {
             return r.tally;
         }

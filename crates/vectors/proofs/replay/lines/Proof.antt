@@ -2,46 +2,50 @@
 -- Assumes nothing.
 use Prim.Native.Nat.{_-_, _≤_}
 use native.Mathlib.Omega.{arith}
-use lib.ListN.{length}
 use borrow.Author.Needs.{needs}
+use lib.ListN.{length}
+use mathlib.Core.Path.{_≡_}
 use Rattle.vectors.proofs.replay.lines.Statement.{statement}
 use Rattle.vectors.proofs.replay.lines.Tie as tie
 
 abbrev Inv-loop : tie.InvT-loop
-Inv-loop s start tally₀ at₀ tally at = (start ≤ at) × (at ≤ length s)
+Inv-loop s start memory₀ tally₀ at₀ memory tally at = (start ≤ at) × (at ≤ length s) × (length memory ≡ length memory₀)
 
 abbrev μ-loop : tie.MeasureT-loop
-μ-loop s start tally₀ at₀ tally at = length s - at
+μ-loop s start memory₀ tally₀ at₀ memory tally at = length s - at
 
 loop-holds : tie.Need-loop-holds Inv-loop μ-loop
-loop-holds c = omega arith
+loop-holds c = search needs
 
 find-requires : tie.Need-find-requires Inv-loop μ-loop
-find-requires c κs = omega arith
+find-requires c κs = search needs
 
 sub-line : tie.Need-sub-line Inv-loop μ-loop
-sub-line c = omega arith
+sub-line c = search needs
 
 part-line-start : tie.Need-part-line-start Inv-loop μ-loop
-part-line-start c = omega arith
+part-line-start c = search needs
 
 part-line-end : tie.Need-part-line-end Inv-loop μ-loop
-part-line-end c = omega arith
+part-line-end c = search needs
 
 line-requires : tie.Need-line-requires Inv-loop μ-loop
 line-requires c κs = search needs
 
 add-at : tie.Need-add-at Inv-loop μ-loop
-add-at c = omega arith
+add-at c = search needs
 
 loop-less : tie.Need-loop-less Inv-loop μ-loop
 loop-less c = omega arith
 
 loop-again : tie.Need-loop-again Inv-loop μ-loop
-loop-again c = omega arith
+loop-again c = search needs
+
+same-length : tie.Need-same-length Inv-loop μ-loop
+same-length c = search needs
 
 returns : tie.Need-returns Inv-loop μ-loop
-returns c = omega arith
+returns c = search needs
 
 pub lines-spec : {M : Type 1} → statement M
 lines-spec =
@@ -58,4 +62,5 @@ lines-spec =
     add-at
     loop-less
     loop-again
+    same-length
     returns)

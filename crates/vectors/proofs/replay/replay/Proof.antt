@@ -1,21 +1,24 @@
 -- `vectors::replay::replay` ends: the measure is the number of turns that are left. A held line is always shorter than the buffer.
 -- Assumes nothing.
 use Prim.Native.Nat.{_<_}
-use mathlib.Core.Path.{_≡_}
 use native.Mathlib.Omega.{arith}
-use lib.ListN.{length}
 use borrow.Author.Needs.{needs}
+use lib.ListN.{length}
+use mathlib.Core.Path.{_≡_}
 use Rattle.vectors.proofs.replay.replay.Statement.{statement}
 use Rattle.vectors.proofs.replay.replay.Tie as tie
 
 abbrev Inv-loop : tie.InvT-loop
-Inv-loop buf₀ r₀ turns₀ buf r turns = (r .held < length buf) × (length buf ≡ length buf₀)
+Inv-loop buf₀ memory₀ r₀ turns₀ buf memory r turns = (r .held < length buf) × (length buf ≡ length buf₀) × (length memory ≡ length memory₀)
 
 abbrev μ-loop : tie.MeasureT-loop
-μ-loop buf₀ r₀ turns₀ buf r turns = turns
+μ-loop buf₀ memory₀ r₀ turns₀ buf memory r turns = turns
+
+open-requires : tie.Need-open-requires Inv-loop μ-loop
+open-requires c κs = search needs
 
 loop-holds : tie.Need-loop-holds Inv-loop μ-loop
-loop-holds c = omega arith
+loop-holds c = search needs
 
 sub-turns : tie.Need-sub-turns Inv-loop μ-loop
 sub-turns c = omega arith
@@ -26,6 +29,9 @@ turn-requires c κs = search needs
 same-length : tie.Need-same-length Inv-loop μ-loop
 same-length c = search needs
 
+same-length-2 : tie.Need-same-length-2 Inv-loop μ-loop
+same-length-2 c = search needs
+
 returns : tie.Need-returns Inv-loop μ-loop
 returns c = search needs
 
@@ -35,8 +41,11 @@ loop-less c = omega arith
 loop-again : tie.Need-loop-again Inv-loop μ-loop
 loop-again c = search needs
 
-same-length-2 : tie.Need-same-length-2 Inv-loop μ-loop
-same-length-2 c = search needs
+same-length-3 : tie.Need-same-length-3 Inv-loop μ-loop
+same-length-3 c = search needs
+
+same-length-4 : tie.Need-same-length-4 Inv-loop μ-loop
+same-length-4 c = search needs
 
 returns-2 : tie.Need-returns-2 Inv-loop μ-loop
 returns-2 c = search needs
@@ -47,12 +56,15 @@ replay-spec =
     (tie.spec
     Inv-loop
     μ-loop
+    open-requires
     loop-holds
     sub-turns
     turn-requires
     same-length
+    same-length-2
     returns
     loop-less
     loop-again
-    same-length-2
+    same-length-3
+    same-length-4
     returns-2)
