@@ -3,7 +3,7 @@
 //!
 //!     bench times [PART]       the time of each figure, or of those with PART in their name
 //!     bench list               the figures of one call: symbols, how often a pass calls them, name
-//!     bench pass FIGURE SIDE   one pass of one side, for callgrind to count
+//!     bench pass NAME SIDE     one pass of one side of a figure, for callgrind to count
 #[macro_use]
 mod figure;
 mod inputs;
@@ -51,10 +51,10 @@ fn main() {
             .filter(|f| f.name.contains(part))
             .for_each(Figure::print_times),
         ["list"] => calls().iter().for_each(Figure::print_symbols),
-        ["pass", figure, side] => {
-            let figure: usize = figure.parse().expect("a figure's number");
-            calls()[figure].side(side).pass();
-        }
-        _ => panic!("bench times | list | pass FIGURE SIDE"),
+        ["pass", name, side] => figures()
+            .iter()
+            .filter(|f| f.name == name)
+            .for_each(|f| f.side(side).pass()),
+        _ => panic!("bench times [PART] | list | pass NAME SIDE"),
     }
 }

@@ -212,35 +212,28 @@ const EDITS: [(&str, u32, f64, f64); 28] = [
     ("set_max", 24, 0.5, 0.0),
     ("set_step", 25, 0.5, 0.0),
 ];
-const MERGE: (&str, u32, f64, f64) = ("merge, 128 and 128", 26, 0.001, 0.0);
+/// Those that take a second envelope: itself, later by x. Of two of 128 points they make 256.
+const PAIRS: [(&str, u32, f64, f64, f64); 7] = [
+    ("merge, 128 and 128", 26, 0.001, 0.0, 4.0),
+    ("blend, 128 and 128", 27, 0.001, 0.25, 2.0),
+    ("add, 128 and 128", 28, 0.001, 0.0, 2.0),
+    ("multiply, 128 and 128", 29, 0.001, 0.0, 2.0),
+    ("min, 128 and 128", 30, 0.001, 0.0, 2.0),
+    ("max, 128 and 128", 31, 0.001, 0.0, 2.0),
+    ("subtract, 128 and 128", 32, 0.001, 0.0, 2.0),
+];
 const PLACES: usize = 256;
 
 fn edits() -> Vec<Figure> {
-    let edit = |(name, which, x, y): (&'static str, u32, f64, f64), i: &'static Input| {
+    let edit = |(name, which, x, y): (&'static str, u32, f64, f64), most: f64, i: &'static Input| {
         const TURNS: u32 = 200;
-        record!(
-            name,
-            TURNS as usize,
-            Some(4.0),
-            i,
-            rattle_edit,
-            rust_edit,
-            PLACES,
-            |left| (
-                which,
-                x,
-                y,
-                TURNS,
-                left.times.as_mut_ptr(),
-                PLACES,
-                left.values.as_mut_ptr(),
-                PLACES
-            )
-        )
+        record!(name, TURNS as usize, Some(most), i, rattle_edit, rust_edit, PLACES,
+            |left| (which, x, y, TURNS, left.times.as_mut_ptr(), PLACES, left.values.as_mut_ptr(), PLACES))
     };
     let i = input(255, LINEAR);
-    let mut all: Vec<Figure> = EDITS.into_iter().map(|e| edit(e, i)).collect();
-    all.push(edit(MERGE, input(128, LINEAR)));
+    let mut all: Vec<Figure> = EDITS.into_iter().map(|e| edit(e, 4.0, i)).collect();
+    let i = input(128, LINEAR);
+    all.extend(PAIRS.into_iter().map(|(name, which, x, y, most)| edit((name, which, x, y), most, i)));
     all
 }
 

@@ -390,3 +390,62 @@ pub fn set_max(e: Envelope, max: Option<f32>) -> Edited {
 pub fn set_step(e: Envelope, step: Option<f32>) -> Edited {
     set(e, finite_limit(step), |e| e.step_size = step)
 }
+
+/// 000's combine: the times of both in a set, a lookup in each, and a new point.
+#[inline(always)]
+fn combine(e: Envelope, other: Envelope, ok: bool, op: impl Fn(f32, f32) -> f32) -> Edited {
+    if !e.is_valid() || !other.is_valid() {
+        return refused(e, 1);
+    }
+    if !ok {
+        return refused(e, 3);
+    }
+    let times: BTreeSet<u64> = e.points().iter().chain(other.points()).map(|p| p.time.to_bits()).collect();
+    let mut new = Envelope::new(e.target);
+    let mut fits = true;
+    for time in times.into_iter().map(f64::from_bits) {
+        let a = e.get_value_at(time).unwrap_or(0.0);
+        let b = other.get_value_at(time).unwrap_or(0.0);
+        let value = op(a, b);
+        if !value.is_finite() {
+            return refused(e, 3);
+        }
+        fits = insert(&mut new, Point { time, value, ..UNUSED }) && fits;
+    }
+    if !fits {
+        return refused(e, 5);
+    }
+    accepted(new)
+}
+
+#[inline(never)]
+pub fn blend(e: Envelope, other: Envelope, factor: f32) -> Edited {
+    let ok = factor.is_finite();
+    let factor = factor.clamp(0.0, 1.0);
+    combine(e, other, ok, |a, b| a * (1.0 - factor) + b * factor)
+}
+
+#[inline(never)]
+pub fn add(e: Envelope, other: Envelope) -> Edited {
+    combine(e, other, true, |a, b| a + b)
+}
+
+#[inline(never)]
+pub fn multiply(e: Envelope, other: Envelope) -> Edited {
+    combine(e, other, true, |a, b| a * b)
+}
+
+#[inline(never)]
+pub fn min(e: Envelope, other: Envelope) -> Edited {
+    combine(e, other, true, f32::min)
+}
+
+#[inline(never)]
+pub fn max(e: Envelope, other: Envelope) -> Edited {
+    combine(e, other, true, f32::max)
+}
+
+#[inline(never)]
+pub fn subtract(e: Envelope, other: Envelope) -> Edited {
+    combine(e, other, true, |a, b| a - b)
+}

@@ -214,6 +214,7 @@ pub unsafe extern "C" fn rust_edit(
         value: yf,
         curve: CurveType::Linear,
     };
+    let other = edits::shift_points(e, x).envelope;
     let mut last = Edited { refusal: 0, envelope: e };
     for _ in 0..turns {
         let e = *black_box(&e);
@@ -244,7 +245,13 @@ pub unsafe extern "C" fn rust_edit(
             23 => edits::set_min(e, Some(xf)),
             24 => edits::set_max(e, Some(xf)),
             25 => edits::set_step(e, Some(xf)),
-            _ => edits::merge(e, e, x),
+            26 => edits::merge(e, e, x),
+            27 => edits::blend(e, *black_box(&other), yf),
+            28 => edits::add(e, *black_box(&other)),
+            29 => edits::multiply(e, *black_box(&other)),
+            30 => edits::min(e, *black_box(&other)),
+            31 => edits::max(e, *black_box(&other)),
+            _ => edits::subtract(e, *black_box(&other)),
         };
         black_box(&last);
     }

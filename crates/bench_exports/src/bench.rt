@@ -1,4 +1,4 @@
-// The Bench's edits, by their numbers here, each so many times on one envelope.
+// The Bench's edits, by their numbers here, each so many times on one envelope. The other one of a combination has the same points, later by x.
 ghost use mathlib.Core.Path.{_≡_};
 use crate::made::curve_of;
 use crate::made::made;
@@ -25,6 +25,8 @@ pub extern "C" fn rattle_edit(
     let yf = numbers::convert::f64_to_f32(y);
     let p = point(x, yf, curve_of(0));
     let limit = Limit::Number(xf);
+    let moved = e.shift_points(x);
+    let other = moved.envelope;
     let mut answer = Answer::Accepted;
     let mut last = e;
     let mut i: u32 = 0;
@@ -56,7 +58,13 @@ pub extern "C" fn rattle_edit(
             23 => e.set_min(limit),
             24 => e.set_max(limit),
             25 => e.set_step(limit),
-            _ => e.merge(e, x),
+            26 => e.merge(e, x),
+            27 => e.blend(other, yf),
+            28 => e.add(other),
+            29 => e.multiply(other),
+            30 => e.min(other),
+            31 => e.max(other),
+            _ => e.subtract(other),
         };
         answer = r.answer;
         last = r.envelope;

@@ -197,26 +197,6 @@ impl AutomationEnvelope {
         }
     }
 
-    // What a setting makes of it; `ok` says that its argument is finite.
-    fn set(self, ok: bool, changed: AutomationEnvelope) -> Edited
-        ensures { λ t. ⌜ toldEdit t ≡ setting self ok changed ⌝ }
-    {
-        if self.is_valid() {
-            if ok {
-                Edited {
-                    answer: Answer::Accepted,
-                    envelope: changed,
-                }
-            } else {
-                self.refuse(Refusal::NotFinite)
-            }
-        } else {
-            self.refuse(Refusal::NotValid)
-        }
-    }
-}
-
-impl AutomationEnvelope {
     // The same target and points with other settings.
     fn with_settings(self, enabled: bool, limits: Limits) -> AutomationEnvelope
         ensures { λ r. ⌜ r ≡ withSettings self enabled limits ⌝ }
@@ -235,6 +215,24 @@ impl AutomationEnvelope {
         }
     }
 
+    // What a setting makes of it; `ok` says that its argument is finite.
+    fn set(self, ok: bool, enabled: bool, limits: Limits) -> Edited
+        ensures { λ t. ⌜ toldEdit t ≡ setting self ok (withSettings self enabled limits) ⌝ }
+    {
+        if self.is_valid() {
+            if ok {
+                Edited {
+                    answer: Answer::Accepted,
+                    envelope: self.with_settings(enabled, limits),
+                }
+            } else {
+                self.refuse(Refusal::NotFinite)
+            }
+        } else {
+            self.refuse(Refusal::NotValid)
+        }
+    }
+
     // Any of 01's edits.
     pub fn edit(mut self, e: Edit) -> Edited
         ensures { λ r. ⌜ toldEdit r ≡ editOf e self ⌝ }
@@ -248,56 +246,39 @@ impl AutomationEnvelope {
             Edit::OfPoints(edit) => self.settle(edit.apply(points)),
             Edit::Replace(replacement) => self.replace(replacement.apply(points)),
             Edit::SetEnabled(on) => {
-                self.set(
-                    true,
-                    self.with_settings(
-                        on,
-                        Limits {
-                            min_value,
-                            max_value,
-                            step_size,
-                        },
-                    ),
-                )
+                let limits = Limits {
+                    min_value,
+                    max_value,
+                    step_size,
+                };
+                self.set(true, on, limits)
             }
             Edit::SetMin(l) => {
-                self.set(
-                    l.is_finite(),
-                    self.with_settings(
-                        enabled,
-                        Limits {
-                            min_value: l,
-                            max_value,
-                            step_size,
-                        },
-                    ),
-                )
+                let ok = l.is_finite();
+                let limits = Limits {
+                    min_value: l,
+                    max_value,
+                    step_size,
+                };
+                self.set(ok, enabled, limits)
             }
             Edit::SetMax(l) => {
-                self.set(
-                    l.is_finite(),
-                    self.with_settings(
-                        enabled,
-                        Limits {
-                            min_value,
-                            max_value: l,
-                            step_size,
-                        },
-                    ),
-                )
+                let ok = l.is_finite();
+                let limits = Limits {
+                    min_value,
+                    max_value: l,
+                    step_size,
+                };
+                self.set(ok, enabled, limits)
             }
             Edit::SetStep(l) => {
-                self.set(
-                    l.is_finite(),
-                    self.with_settings(
-                        enabled,
-                        Limits {
-                            min_value,
-                            max_value,
-                            step_size: l,
-                        },
-                    ),
-                )
+                let ok = l.is_finite();
+                let limits = Limits {
+                    min_value,
+                    max_value,
+                    step_size: l,
+                };
+                self.set(ok, enabled, limits)
             }
         }
     }
