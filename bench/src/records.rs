@@ -25,6 +25,9 @@ pair!(rattle_get_range_samples, rust_get_range_samples, (start: u64, end: u64, t
 pair!(rattle_get_slope_at, rust_get_slope_at, (at: *const f64, at_len: usize));
 pair!(rattle_find_peaks, rust_find_peaks, (turns: u32, times: *mut f64, times_len: usize, values: *mut f32, values_len: usize));
 
+pair!(rattle_session_edit, rust_session_edit, (turns: u32, memory: *mut u64, memory_len: usize));
+pair!(rattle_session_step, rust_session_step, (turns: u32, memory: *mut u64, memory_len: usize));
+
 /// What a call is given: times that rise from 0 to 1, and values from 0 up to 1.
 struct Input {
     times: Vec<f64>,
@@ -55,6 +58,7 @@ fn input(points: usize, curve: u32) -> &'static Input {
 struct Room {
     times: Vec<f64>,
     values: Vec<f32>,
+    memory: Vec<u64>,
 }
 
 /// A figure of one of the pairs. Both sides must say and leave the same bits.
@@ -70,6 +74,7 @@ fn figure(
         let mut left = Room {
             times: vec![0.0; room],
             values: vec![0.0; room],
+            memory: vec![0; room],
         };
         let said = call(rattle, &mut left);
         (said, left)
@@ -77,7 +82,7 @@ fn figure(
     let bits = |(said, left): (u64, Room)| {
         let times: Vec<u64> = left.times.into_iter().map(f64::to_bits).collect();
         let values: Vec<u32> = left.values.into_iter().map(f32::to_bits).collect();
-        (said, times, values)
+        (said, times, values, left.memory)
     };
     Figure {
         name: name.to_string(),
@@ -291,10 +296,26 @@ fn analyses() -> Vec<Figure> {
     ]
 }
 
+/// At step memories of one state, of 16 and of 256: what a call costs doesn't grow with them.
+fn sessions() -> Vec<Figure> {
+    const TURNS: u32 = 200;
+    let i = input(256, LINEAR);
+    let mut all = Vec::new();
+    for depth in [1, 16, 256] {
+        let words = depth * 1028;
+        all.push(record!(format!("session edit, D = {depth}"), TURNS as usize, Some(3.0), i, rattle_session_edit, rust_session_edit, words,
+            |left| (TURNS, left.memory.as_mut_ptr(), words)));
+        all.push(record!(format!("session step, D = {depth}"), 2 * TURNS as usize, Some(3.0), i, rattle_session_step, rust_session_step, words,
+            |left| (TURNS, left.memory.as_mut_ptr(), words)));
+    }
+    all
+}
+
 pub fn figures() -> Vec<Figure> {
     let mut all = rendering();
     all.extend(lookups());
     all.extend(edits());
     all.extend(analyses());
+    all.extend(sessions());
     all
 }

@@ -6,6 +6,7 @@ use std::hint::black_box;
 mod edits;
 mod fixed;
 pub mod records;
+mod session;
 
 #[no_mangle]
 #[inline(never)]

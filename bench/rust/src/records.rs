@@ -1,6 +1,7 @@
 //! The counterparts of the exports on envelopes: the same work on the same lists, `turns` times.
 use crate::edits;
 use crate::fixed::{Edited, Envelope, Point, PLACES};
+use crate::session::{self, Session};
 use source::curve::CurveType;
 use source::envelope::{AutomationEnvelope, AutomationPoint};
 use std::hint::black_box;
@@ -446,4 +447,64 @@ pub unsafe extern "C" fn rust_find_peaks(
         let found = find_peaks(*black_box(&e), black_box(out_times), black_box(out_values));
         sum.wrapping_add(found.map_or(1000, |n| n as u64))
     })
+}
+
+// ---- the session
+
+fn started(envelope: Envelope, length: usize) -> Session {
+    Session {
+        envelope,
+        length,
+        at: 0,
+        kept: 0,
+        ahead: 0,
+    }
+}
+
+/// # Safety
+/// As above.
+#[no_mangle]
+#[inline(never)]
+pub unsafe extern "C" fn rust_session_edit(
+    times: *const f64,
+    times_len: usize,
+    values: *const f32,
+    values_len: usize,
+    curve: u32,
+    turns: u32,
+    memory: *mut u64,
+    memory_len: usize,
+) -> u64 {
+    let e = made(from_raw_parts(times, times_len), from_raw_parts(values, values_len), curve);
+    let mut s = started(e, memory_len);
+    let memory = from_raw_parts_mut(memory, memory_len);
+    for i in 0..turns {
+        let offset = if i % 2 == 0 { 0.25 } else { -0.25 };
+        s = session::shift_points(*black_box(&s), offset, black_box(memory)).session;
+    }
+    s.kept as u64
+}
+
+/// # Safety
+/// As above.
+#[no_mangle]
+#[inline(never)]
+pub unsafe extern "C" fn rust_session_step(
+    times: *const f64,
+    times_len: usize,
+    values: *const f32,
+    values_len: usize,
+    curve: u32,
+    turns: u32,
+    memory: *mut u64,
+    memory_len: usize,
+) -> u64 {
+    let e = made(from_raw_parts(times, times_len), from_raw_parts(values, values_len), curve);
+    let memory = from_raw_parts_mut(memory, memory_len);
+    let mut s = session::shift_points(started(e, memory_len), 0.25, memory).session;
+    for _ in 0..turns {
+        s = session::back(*black_box(&s), black_box(memory)).session;
+        s = session::forward(*black_box(&s), black_box(memory)).session;
+    }
+    s.kept as u64
 }

@@ -12,6 +12,7 @@ mod bench;
 mod made;
 mod player;
 mod ranges;
+mod rehearsal;
 
 use curve::CurveType;
 

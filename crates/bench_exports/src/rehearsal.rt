@@ -1,0 +1,69 @@
+// A session's calls, each so many times, over the lent step memory.
+ghost use mathlib.Core.Path.{_≡_};
+use crate::made::made;
+use envelope::AutomationEnvelope;
+use envelope::edit::Edit;
+use envelope::edit::PointsEdit;
+use session::Session;
+
+// A session whose envelope is that one, with no edit yet.
+fn started(envelope: AutomationEnvelope, length: usize) -> Session {
+    Session {
+        envelope,
+        length,
+        at: 0,
+        kept: 0,
+        ahead: 0,
+    }
+}
+
+fn shift(x: f64) -> Edit {
+    Edit::OfPoints(PointsEdit::ShiftPoints(x))
+}
+
+// To and fro.
+fn turn(i: u32) -> f64 {
+    if i % 2 == 0 { 0.25 } else { -0.25 }
+}
+
+// Edits, one for each turn.
+#[no_mangle]
+pub extern "C" fn rattle_session_edit(
+    times: &[f64],
+    values: &[f32],
+    curve: u32,
+    turns: u32,
+    memory: &mut [u64],
+) -> u64 {
+    let mut s = started(made(times, values, curve), memory.len());
+    let mut i: u32 = 0;
+    while i < turns {
+        let r = s.edit(shift(turn(i)), memory);
+        s = r.session;
+        i += 1;
+    }
+    s.kept as u64
+}
+
+// An edit, then a step back and a step forward for each turn.
+#[no_mangle]
+pub extern "C" fn rattle_session_step(
+    times: &[f64],
+    values: &[f32],
+    curve: u32,
+    turns: u32,
+    memory: &mut [u64],
+) -> u64 {
+    let begun = started(made(times, values, curve), memory.len());
+    let first = begun.edit(shift(0.25), memory);
+    let mut s = first.session;
+    let mut i: u32 = 0;
+    while i < turns {
+        let back = s.back(memory);
+        let before = back.session;
+        let forward = before.forward(memory);
+        s = forward.session;
+        i += 1;
+    }
+    s.kept as u64
+}
