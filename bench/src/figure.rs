@@ -69,27 +69,34 @@ impl Figure {
         (unit(rattle), unit(rust))
     }
 
-    /// Name, both times, their ratio, and what it may be at most, marked where it is more.
-    pub fn print_times(&self) {
+    /// Both times and their ratio, once the two sides were seen to agree.
+    fn measured(&self) -> (f64, f64, f64) {
         assert!((self.agree)(), "{}: the two sides differ", self.name);
         let (rattle, rust) = self.times();
-        let ratio = rattle / rust;
+        (rattle, rust, rattle / rust)
+    }
+
+    /// A row: name, both times, their ratio, and the most that it may be; `over` where it is more.
+    pub fn print_row(&self) {
+        let (rattle, rust, ratio) = self.measured();
         let most = self.most.map_or(String::new(), |m| format!("{m:.2}"));
         let over = if self.most.is_some_and(|m| ratio > m) {
-            "over"
+            " over"
         } else {
             ""
         };
         let digits = if rust < 100.0 { 2 } else { 0 };
         println!(
-            "{}\tns\t{rattle:.digits$}\t{rust:.digits$}\t{ratio:.2}\t{most}\t{over}",
+            "| {} | {rattle:.digits$} | {rust:.digits$} | {ratio:.2} | {most}{over} |",
             self.name
         );
     }
 
-    pub fn print_symbols(&self) {
+    /// The symbols, how often a pass calls them, the name, both times, and their ratio.
+    pub fn print_call(&self) {
+        let (rattle, rust, ratio) = self.measured();
         println!(
-            "{}\t{}\t{}\t{}",
+            "{}\t{}\t{}\t{}\t{rattle:.2}\t{rust:.2}\t{ratio:.2}",
             self.rattle.symbol, self.rust.symbol, self.units, self.name
         );
     }

@@ -1,8 +1,8 @@
 //! Measures the port's functions beside the Rust's, on the same inputs in the same run. bench/run
 //! builds both sides and starts this program; bench/README.md says what the figures mean.
 //!
-//!     bench times [PART]       the time of each figure, or of those with PART in their name
-//!     bench list               the figures of one call: symbols, how often a pass calls them, name
+//!     bench calls              a line for each figure of one call
+//!     bench rows [PART]        a row for each figure on an envelope, or for those with PART in their name
 //!     bench pass NAME SIDE     one pass of one side of a figure, for callgrind to count
 #[macro_use]
 mod figure;
@@ -35,26 +35,21 @@ fn calls() -> Vec<Figure> {
     ]
 }
 
-fn figures() -> Vec<Figure> {
-    let mut all = calls();
-    all.extend(records::figures());
-    all
-}
-
 fn main() {
     let words: Vec<String> = std::env::args().skip(1).collect();
     let words: Vec<&str> = words.iter().map(String::as_str).collect();
     match words[..] {
-        ["times"] => figures().iter().for_each(Figure::print_times),
-        ["times", part] => figures()
+        ["calls"] => calls().iter().for_each(Figure::print_call),
+        ["rows"] => records::figures().iter().for_each(Figure::print_row),
+        ["rows", part] => records::figures()
             .iter()
             .filter(|f| f.name.contains(part))
-            .for_each(Figure::print_times),
-        ["list"] => calls().iter().for_each(Figure::print_symbols),
-        ["pass", name, side] => figures()
+            .for_each(Figure::print_row),
+        ["pass", name, side] => calls()
             .iter()
+            .chain(&records::figures())
             .filter(|f| f.name == name)
             .for_each(|f| f.side(side).pass()),
-        _ => panic!("bench times [PART] | list | pass NAME SIDE"),
+        _ => panic!("bench calls | rows [PART] | pass NAME SIDE"),
     }
 }

@@ -2,6 +2,7 @@
 //! of them, do the work so many times in one call, and must leave the same bits.
 use crate::figure::{Figure, Side};
 use crate::inputs;
+use std::cell::RefCell;
 use std::hint::black_box;
 
 /// The two C functions of a figure. Both take the lists of times and values and a curve's code, then
@@ -61,6 +62,22 @@ struct Room {
     memory: Vec<u64>,
 }
 
+impl Room {
+    fn new(places: usize) -> Self {
+        Room {
+            times: vec![0.0; places],
+            values: vec![0.0; places],
+            memory: vec![0; places],
+        }
+    }
+
+    fn bits(self) -> (Vec<u64>, Vec<u32>, Vec<u64>) {
+        let times = self.times.into_iter().map(f64::to_bits).collect();
+        let values = self.values.into_iter().map(f32::to_bits).collect();
+        (times, values, self.memory)
+    }
+}
+
 /// A figure of one of the pairs. Both sides must say and leave the same bits.
 fn figure(
     name: impl ToString,
@@ -70,31 +87,24 @@ fn figure(
     room: usize,
     call: impl Fn(bool, &mut Room) -> u64 + Copy + 'static,
 ) -> Figure {
-    let pass = move |rattle: bool| {
-        let mut left = Room {
-            times: vec![0.0; room],
-            values: vec![0.0; room],
-            memory: vec![0; room],
-        };
-        let said = call(rattle, &mut left);
-        (said, left)
+    let once = move |rattle: bool| {
+        let mut left = Room::new(room);
+        (call(rattle, &mut left), left.bits())
     };
-    let bits = |(said, left): (u64, Room)| {
-        let times: Vec<u64> = left.times.into_iter().map(f64::to_bits).collect();
-        let values: Vec<u32> = left.values.into_iter().map(f32::to_bits).collect();
-        (said, times, values, left.memory)
+    // what a pass fills is there before it is timed
+    let side = |symbol, rattle: bool| {
+        let left = RefCell::new(Room::new(room));
+        Side::new(symbol, move || {
+            black_box(call(rattle, &mut left.borrow_mut()));
+        })
     };
     Figure {
         name: name.to_string(),
         units,
         most,
-        agree: Box::new(move || bits(pass(true)) == bits(pass(false))),
-        rattle: Side::new(symbols.0, move || {
-            black_box(pass(true));
-        }),
-        rust: Side::new(symbols.1, move || {
-            black_box(pass(false));
-        }),
+        agree: Box::new(move || once(true) == once(false)),
+        rattle: side(symbols.0, true),
+        rust: side(symbols.1, false),
     }
 }
 
@@ -232,13 +242,34 @@ const PLACES: usize = 256;
 fn edits() -> Vec<Figure> {
     let edit = |(name, which, x, y): (&'static str, u32, f64, f64), most: f64, i: &'static Input| {
         const TURNS: u32 = 200;
-        record!(name, TURNS as usize, Some(most), i, rattle_edit, rust_edit, PLACES,
-            |left| (which, x, y, TURNS, left.times.as_mut_ptr(), PLACES, left.values.as_mut_ptr(), PLACES))
+        record!(
+            name,
+            TURNS as usize,
+            Some(most),
+            i,
+            rattle_edit,
+            rust_edit,
+            PLACES,
+            |left| (
+                which,
+                x,
+                y,
+                TURNS,
+                left.times.as_mut_ptr(),
+                PLACES,
+                left.values.as_mut_ptr(),
+                PLACES
+            )
+        )
     };
     let i = input(255, LINEAR);
     let mut all: Vec<Figure> = EDITS.into_iter().map(|e| edit(e, 4.0, i)).collect();
     let i = input(128, LINEAR);
-    all.extend(PAIRS.into_iter().map(|(name, which, x, y, most)| edit((name, which, x, y), most, i)));
+    all.extend(
+        PAIRS
+            .into_iter()
+            .map(|(name, which, x, y, most)| edit((name, which, x, y), most, i)),
+    );
     all
 }
 
@@ -303,10 +334,26 @@ fn sessions() -> Vec<Figure> {
     let mut all = Vec::new();
     for depth in [1, 16, 256] {
         let words = depth * 1028;
-        all.push(record!(format!("session edit, D = {depth}"), TURNS as usize, Some(3.0), i, rattle_session_edit, rust_session_edit, words,
-            |left| (TURNS, left.memory.as_mut_ptr(), words)));
-        all.push(record!(format!("session step, D = {depth}"), 2 * TURNS as usize, Some(3.0), i, rattle_session_step, rust_session_step, words,
-            |left| (TURNS, left.memory.as_mut_ptr(), words)));
+        all.push(record!(
+            format!("session edit, D = {depth}"),
+            TURNS as usize,
+            Some(3.0),
+            i,
+            rattle_session_edit,
+            rust_session_edit,
+            words,
+            |left| (TURNS, left.memory.as_mut_ptr(), words)
+        ));
+        all.push(record!(
+            format!("session step, D = {depth}"),
+            2 * TURNS as usize,
+            Some(3.0),
+            i,
+            rattle_session_step,
+            rust_session_step,
+            words,
+            |left| (TURNS, left.memory.as_mut_ptr(), words)
+        ));
     }
     all
 }
