@@ -81,13 +81,14 @@ impl Segment {
     fn value_at(self, limits: Limits, time: f64) -> f32
         ensures { λ r. ⌜ r ≡ segmentAt limits self time ⌝ }
     {
-        let c = self.curve;
         let t = lookup::time::fraction(self.from, self.to, time);
-        // the longest of the plain curves, without the call and its jump
-        if let CurveType::Bezier(cp1, cp2) = c {
+        // its controls stay in registers; the other curves are passed on to the call by reference
+        let bezier = self.curve;
+        if let CurveType::Bezier(cp1, cp2) = bezier {
             let t_eased = curve::cubic_bezier(curve::clamp(t), cp1, cp2);
             limits.apply_constraints(self.start + (self.end - self.start) * t_eased)
         } else {
+            let c = self.curve;
             limits.apply_constraints(c.interpolate(self.start, self.end, t))
         }
     }

@@ -19,8 +19,8 @@ by-bezier c start end t cp1 cp2 h = ap (λ (x : CurveType). interpolated x start
 fraction-requires : tie.Need-fraction-requires
 fraction-requires c κs = search needs
 
-enum-known-c : tie.Need-enum-known-c
-enum-known-c c = search needs
+enum-known-bezier : tie.Need-enum-known-bezier
+enum-known-bezier c = search needs
 
 clamp-requires : tie.Need-clamp-requires
 clamp-requires c κs = search needs
@@ -43,7 +43,7 @@ returns c =
     let a = c .before .before .before .before .before .before .before .before .before .args in
     let s = a .self in
     let t = c .before .before .before .before .before .before .before .before .fraction in
-    let k = c .before .before .before .before .before .before .c .given in
+    let k = c .before .before .before .before .before .before .bezier .given in
     c .apply-constraints .ensures
     ∙ ap (constrained (a .limits))
     (ap (λ (x : Float). add binary32 (s .start) (mul binary32 (sub binary32 (s .end) (s .start)) x))
@@ -62,7 +62,7 @@ value-at-spec =
     tie.close
     (tie.spec
     fraction-requires
-    enum-known-c
+    enum-known-bezier
     clamp-requires
     cubic-bezier-requires
     apply-constraints-requires
