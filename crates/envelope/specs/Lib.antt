@@ -2,7 +2,6 @@
 pub mod Envelope
 pub mod Edit
 pub mod Typed
-pub mod Table
 -- Laws that the crates above cite too.
 pub mod EditLaws
 pub mod TypedLists

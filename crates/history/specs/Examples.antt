@@ -31,11 +31,7 @@ add time value = edit (alone (OfPoints (AddPoint (pointWith (ofBits binary64 tim
 abbrev pub p13-calls : List Call
 p13-calls = add 0 0 ∷ add 0x3FF0_0000_0000_0000 0x3F80_0000 ∷ back ∷ back ∷ forward ∷ []
 
-pub p13 : answersAfter (new 3) 1 newHist p13-calls ≡ gives tt ∷ gives tt ∷ gives tt ∷ refuses 10 ∷ gives tt ∷ []
-unfolding answersAfter ruleOf upTo made new editOf edited pointsEdited editPoints settle insertPoint validPoints every risingBy finite finiteControls controls code orderKey ofBits toBits
-p13 = refl
-
--- the same by what the functions answer, on a step memory of 1,028 words
+-- what the functions answer to them, on a step memory of 1,028 words; the rule's answers are P13 of the table
 unfoldable pub answersOf : Session → List ℕ → List Call → List (Said (Unit {0}))
 answersOf s m [] = []
 answersOf s m (c ∷ cs) = callOf c s m .said ∷ answersOf (callOf c s m .session) (callOf c s m .memory) cs

@@ -5,3 +5,4 @@ pub mod Entries
 pub mod History
 pub mod Run
 pub mod Examples
+pub mod Table

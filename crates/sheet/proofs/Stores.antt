@@ -6,13 +6,13 @@ use mathlib.Core.List.{List, [], _∷_, _++_}
 use native.Mathlib.Nat.{add-zero}
 use native.Mathlib.Numerals.{add-one}
 use native.Mathlib.Omega.{arith}
-use borrow.Author.Tests.{eq-eqb, ne-eqb, eqb-true, eqb-false}
+use borrow.Author.Tests.{eq-eqb, ne-eqb, eqb-true, eqb-false, le-leb, lt-leb}
 use lib.Dec.{eqb}
 use lib.ListN.{length, set, drop, getD, length-append, drop-of-length-le}
 use lib.Seq.{sets, set-comm, drop-cons, length-sets}
 use Rattle.sheet.specs.Lines.{dashes}
 use Rattle.sheet.specs.Text.{digitByte, digitsOf, numberText, optionalText, controlsText}
-use Rattle.sheet.specs.Told.{Put}
+use Rattle.sheet.specs.Told.{Put, Fitted}
 use Rattle.sheet.specs.declared.field.Optional.{Optional}
 use Rattle.sheet.specs.declared.field.Optional.the-variants as optional
 
@@ -42,6 +42,18 @@ module _ {l u b : List ℕ} {at n : ℕ} (p : Put l at u b n) where
     next = omega (arith, p .next, q .next, length-append u v);
     bytes = q .bytes ∙ rw (p .bytes, p .next) (sym (sets-append l at u v));
   }
+
+-- ---- a text that is put if it fits
+
+module _ {l w : List ℕ} {at : ℕ} where
+  pub put-fits : {m : List ℕ} {n : ℕ} → Fitted l at w m n → at + length w ≤ length l → Put l at w m n
+  put-fits f h = let e = le-leb (at + length w) (length l) h in record { next = f .next ∙ rw e; bytes = f .bytes ∙ rw e }
+
+  pub fits : {m : List ℕ} {n : ℕ} → Put l at w m n → at + length w ≤ length l → Fitted l at w m n
+  fits p h = let e = le-leb (at + length w) (length l) h in record { next = rw e (p .next); bytes = rw e (p .bytes) }
+
+pub not-fits : (l : List ℕ) (at : ℕ) (w : List ℕ) → length l < at + length w → Fitted l at w l at
+not-fits l at w h = let e = lt-leb (at + length w) (length l) h in record { next = rw e; bytes = rw e }
 
 -- ---- a number
 

@@ -1,13 +1,13 @@
 -- How long a sheet's lines are, and the points' lines one after the other. Assumes nothing.
-use Prim.Native.Nat.{ℕ, zero, suc, _+_, _-_, _*_, _^_, _/_, _≤_, _<_, min}
+use Prim.Native.Nat.{ℕ, zero, suc, _+_, _-_, _*_, _/_, _≤_, _<_}
 use mathlib.Core.Path.{_≡_, refl, sym, ap, _∙_}
-use mathlib.Core.Bool.{Bool, true, false, cond}
+use mathlib.Core.Bool.{Bool, true, false, cond, _&&_}
 use mathlib.Core.List.{List, [], _∷_, _++_, append-assoc, append-nil}
-use native.Mathlib.Nat.{pow-suc, div-lt-iff-lt-mul, zero-add}
+use native.Mathlib.Nat.{zero-add}
 use native.Mathlib.Numerals.{add-one}
 use native.Mathlib.Omega.{arith}
-use borrow.Author.Tests.{lt-ltb, le-ltb, ltb-true, ltb-false}
-use lib.Dec.{ltb}
+use borrow.Author.Tests.{lt-ltb, le-ltb, ltb-true, ltb-false, leb-true, leb-false}
+use lib.Dec.{ltb, leb}
 use lib.ListN.{length, take, drop, getD, length-append, length-take}
 use lib.Seq.{take-suc, sets-eq}
 use Rattle.points.specs.Laws.{and-right, and-left}
@@ -33,6 +33,18 @@ pub places-one : (k v : ℕ) → v < 10 → placesOf (suc k) v ≡ 1
 unfolding placesOf
 places-one k v h = rw (lt-ltb v 10 h)
 
+-- at most one
+pub place-one : (v : ℕ) → placesOf 1 v ≡ 1
+unfolding placesOf
+place-one v = go (ltb v 10)
+  where
+    one : ℕ
+    one = 1
+
+    go : (t : Bool) → cond t one one ≡ one
+    go true = refl
+    go false = refl
+
 pub places-le : (k v : ℕ) → placesOf k v ≤ k
 unfolding placesOf
 places-le zero v = omega arith
@@ -42,40 +54,38 @@ places-le (suc k) v = go (ltb v 10) (places-le k (v / 10))
     go true h = omega arith
     go false h = omega arith
 
--- the loop that counts them
+-- the loop that counts them, up to ten
 pub record Counting (v left places : ℕ) : Type 0 where
   pub few : places ≤ 10
-  pub small : left < 10 ^ (11 - places)
   pub so-far : placesOf 10 v + 1 ≡ places + placesOf (11 - places) left
 
-pub counting : (v : ℕ) → v < 2 ^ 32 → Counting v v 1
-counting v h = record { few = omega arith; small = omega arith; so-far = omega arith }
+pub counting : (v : ℕ) → Counting v v 1
+counting v = record { few = omega arith; so-far = omega arith }
 
 module _ {v left places : ℕ} (c : Counting v left places) where
-  many : 10 ≤ left → places < 10
-  many h = go (ltb places 10) refl
-    where
-      go : (t : Bool) → ltb places 10 ≡ t → places < 10
-      go true e = ltb-true places 10 e
-      go false e = let k : places ≡ 10 = omega (arith, ltb-false places 10 e, c .few) in absurd (omega (arith, rw k at (c .small)))
+  pub again : (leb 10 left && ltb places 10) ≡ true → (10 ≤ left) × (places < 10)
+  again h = (leb-true 10 left (and-left (leb 10 left) (ltb places 10) h), ltb-true places 10 (and-right (leb 10 left) (ltb places 10) h))
 
-  pub counts : 10 ≤ left → Counting v (left / 10) (places + 1)
-  counts h =
-      let m = many h in
-      let ten : 0 < 10 = omega arith in
+  pub counts : 10 ≤ left → places < 10 → Counting v (left / 10) (places + 1)
+  counts h m =
       let k : 11 - places ≡ suc (11 - (places + 1)) = omega arith in
-      let s : left < 10 ^ (11 - (places + 1)) * 10 = rw (k, pow-suc) at (c .small) in
       record {
         few = omega arith;
-        small = div-lt-iff-lt-mul ten .1 s;
         so-far = c .so-far ∙ rw (k, places-more (11 - (places + 1)) left h) (omega arith);
       }
 
-  pub counted : left < 10 → places ≡ placesOf 10 v
-  counted h =
-      let k : 11 - places ≡ suc (10 - places) = omega (arith, c .few) in
-      let o : placesOf (11 - places) left ≡ 1 = rw k (places-one (10 - places) left h) in
-      omega (arith, c .so-far)
+  -- the loop's test fails
+  pub counted : (leb 10 left && ltb places 10) ≡ false → places ≡ placesOf 10 v
+  counted h = omega (arith, c .so-far, last (leb 10 left) refl (ltb places 10) refl h)
+    where
+      last : (s : Bool) → leb 10 left ≡ s → (t : Bool) → ltb places 10 ≡ t → (s && t) ≡ false → placesOf (11 - places) left ≡ 1
+      last false e t q z =
+          let k : 11 - places ≡ suc (10 - places) = omega (arith, c .few) in
+          rw k (places-one (10 - places) left (leb-false 10 left e))
+      last true e false q z =
+          let k : 11 - places ≡ 1 = omega (arith, c .few, ltb-false places 10 q) in
+          rw k (place-one left)
+      last true e true q z = let n : _≡_ {A = ℕ} 0 1 = cc in absurd (omega arith)
 
 -- ---- lines
 

@@ -1,7 +1,9 @@
 -- What the code's answers say, in the terms of the definitions. In the answers a place of the slice s stands for the bytes from there on.
 use Prim.Native.Nat.{ℕ, _+_, _<_}
 use mathlib.Core.Path.{_≡_}
+use mathlib.Core.Bool.{Bool, cond}
 use mathlib.Core.List.{List}
+use lib.Dec.{leb}
 use lib.ListN.{length, drop, getD}
 use lib.Seq.{sets}
 use Rattle.points.specs.Refusal.{number, Said, refuses, gives}
@@ -138,6 +140,14 @@ toldInput r = inputBy (r .answer) (r .envelope) (record { rate = r .rate; durati
 pub record Put (l : List ℕ) (at : ℕ) (w : List ℕ) (m : List ℕ) (after : ℕ) : Type 0 where
   pub next : after ≡ at + length w
   pub bytes : m ≡ sets l at w
+
+-- a text put at a place if it fits there, else nothing
+abbrev pub fits : List ℕ → ℕ → List ℕ → Bool
+fits l at w = leb (at + length w) (length l)
+
+pub record Fitted (l : List ℕ) (at : ℕ) (w : List ℕ) (m : List ℕ) (after : ℕ) : Type 0 where
+  pub next : after ≡ cond (fits l at w) (at + length w) at
+  pub bytes : m ≡ cond (fits l at w) (sets l at w) l
 
 unfoldable pub toldWritten : Written → Said ℕ
 toldWritten (written.Bytes n) = gives n

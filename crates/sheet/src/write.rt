@@ -8,7 +8,7 @@ ghost use Rattle.points.specs.Points.{listOf, every};
 ghost use Rattle.lookup.specs.Limits.{finiteLimit, finiteLimits};
 ghost use Rattle.envelope.specs.Envelope.{limitsOf, validEnvelope};
 ghost use Rattle.sheet.specs.Text.{digitByte, numberText, optionalText, placesOf, decimalText, settingsText, controlsText, pointText, limitBits, rawSettings, positionBits, rawPoint, pointTexts, sheetText, writeSheet};
-ghost use Rattle.sheet.specs.Told.{Put, toldWritten};
+ghost use Rattle.sheet.specs.Told.{Put, Fitted, toldWritten};
 use crate::field::Optional;
 use crate::point::RawPoint;
 use crate::settings::RawSettings;
@@ -104,17 +104,58 @@ fn put_point(out: &mut [u8], at: usize, r: RawPoint) -> usize
     put_controls(&mut *out, d, r.curve, r.cp1, r.cp2)
 }
 
-// How many decimal digits a number has.
-fn places_of(v: u32) -> usize
+// How many decimal digits a number has, ten at most.
+fn places_of(v: u64) -> usize
     ensures { λ r. ⌜ r ≡ placesOf 10 v ⌝ }
 {
     let mut left = v;
     let mut places: usize = 1;
-    while 10 <= left {
+    while (10 <= left) & (places < 10) {
         left = left / 10;
         places += 1;
     }
     places
+}
+
+// ---- open to callers: what fits from the place on is put, else nothing
+
+pub fn fit_text(out: &mut [u8], at: usize, w: &[u8]) -> usize
+    ensures { λ r. ⌜ Fitted (now (out .entry)) at (now (w .entry)) (now (out .exit)) r ⌝ }
+{
+    if out.len() < w.len() {
+        return at;
+    }
+    if out.len() - w.len() < at {
+        return at;
+    }
+    put_text(&mut *out, at, w)
+}
+
+fn fit_number(out: &mut [u8], at: usize, v: u64, base: u64, width: usize, end: u8) -> usize
+    requires { ⌜ (0 < base) × (base ≤ 16) ⌝ }
+    ensures { λ r. ⌜ Fitted (now (out .entry)) at (numberText base width end v) (now (out .exit)) r ⌝ }
+{
+    if out.len() <= width {
+        return at;
+    }
+    if out.len() - width <= at {
+        return at;
+    }
+    put_number(&mut *out, at, v, base, width, end)
+}
+
+// A number in decimal, and the byte `end`.
+pub fn fit_decimal(out: &mut [u8], at: usize, v: u64, end: u8) -> usize
+    ensures { λ r. ⌜ Fitted (now (out .entry)) at (decimalText end v) (now (out .exit)) r ⌝ }
+{
+    fit_number(out, at, v, 10, places_of(v), end)
+}
+
+// The bits of an f32 in hexadecimal, and the byte `end`.
+pub fn fit_bits(out: &mut [u8], at: usize, v: u32, end: u8) -> usize
+    ensures { λ r. ⌜ Fitted (now (out .entry)) at (numberText 16 8 end v) (now (out .exit)) r ⌝ }
+{
+    fit_number(out, at, v as u64, 16, 8, end)
 }
 
 // The settings line.
@@ -125,7 +166,7 @@ fn put_settings(out: &mut [u8], at: usize, r: RawSettings) -> usize
     let min = r.min;
     let max = r.max;
     let step = r.step;
-    let places = places_of(r.target);
+    let places = places_of(r.target as u64);
     let a = put_number(&mut *out, at, r.target as u64, 10, places, b' ');
     let b = put_number(&mut *out, a, r.enabled as u64, 2, 1, b' ');
     let c = put_optional(&mut *out, b, min, 8, b' ');
@@ -215,7 +256,7 @@ fn settings_length(r: RawSettings) -> usize
     let min = r.min;
     let max = r.max;
     let step = r.step;
-    places_of(r.target)
+    places_of(r.target as u64)
         + 3
         + optional_length(min, 8)
         + optional_length(max, 8)

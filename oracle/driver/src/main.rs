@@ -5,7 +5,9 @@ mod domain;
 mod edges;
 mod edits;
 mod envelopes;
+mod plays;
 mod random;
+mod reader;
 mod records;
 mod rules;
 mod session;
@@ -20,7 +22,8 @@ use text::{arguments, Read, Registers, Words, OPERATIONS};
 const USAGE: &str = "oracle_driver [--raw]
 oracle_driver --gen SEED N [OPERATION,..]
 oracle_driver --vectors SEED N [OPERATION,..]
-oracle_driver --sessions SEED N [WORDS]";
+oracle_driver --sessions SEED N [WORDS]
+oracle_driver --plays SEED N FOLDER";
 
 fn main() -> Result<()> {
     std::panic::set_hook(Box::new(|_| {}));
@@ -30,6 +33,12 @@ fn main() -> Result<()> {
     match words[..] {
         [] => replies(&mut out, false)?,
         ["--raw"] => replies(&mut out, true)?,
+        ["--plays", seed, count, folder] => {
+            let (Ok(seed), Ok(count)) = (seed.parse(), count.parse()) else {
+                panic_usage();
+            };
+            plays::write(std::path::Path::new(folder), seed, count)?;
+        }
         [mode @ ("--gen" | "--vectors" | "--sessions"), seed, count, ref rest @ ..] => {
             let (Ok(seed), Ok(count)) = (seed.parse(), count.parse()) else {
                 panic_usage();

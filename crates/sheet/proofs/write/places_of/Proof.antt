@@ -1,5 +1,6 @@
 use native.Mathlib.Omega.{arith}
-use Rattle.sheet.proofs.Texts.{Counting, counting, counted, counts}
+use borrow.Author.Tests.{not-true, not-false}
+use Rattle.sheet.proofs.Texts.{Counting, counting, again, counted, counts}
 use Rattle.sheet.proofs.write.places_of.Statement.{statement}
 use Rattle.sheet.proofs.write.places_of.Tie as tie
 use Rattle.sheet.proofs.write.places_of.Reads as reads
@@ -11,25 +12,25 @@ Inv-loop v left₀ places₀ left places = Counting v left places
 abbrev μ-loop : tie.MeasureT-loop
 μ-loop v left₀ places₀ left places = left
 
--- src/write.rt:119:5
+-- src/write.rt:113:5
 loop-holds : tie.Need-loop-holds Inv-loop μ-loop
-loop-holds c = counting (c .args .v) (omega arith)
+loop-holds c = counting (c .args .v)
 
--- src/write.rt:121:9
+-- src/write.rt:115:9
 add-places : tie.Need-add-places Inv-loop μ-loop
-add-places c = omega (arith, c .before .loop .inv .few)
+add-places c = omega (arith, again (c .before .loop .inv) (c .loop-test .taken))
 
--- src/write.rt:119:5
+-- src/write.rt:113:5
 loop-less : tie.Need-loop-less Inv-loop μ-loop
-loop-less c = omega arith
+loop-less c = omega (arith, again (c .before .loop .inv) (c .loop-test .taken))
 
--- src/write.rt:119:5
+-- src/write.rt:113:5
 loop-again : tie.Need-loop-again Inv-loop μ-loop
-loop-again c = counts (c .before .loop .inv) (omega arith)
+loop-again c = counts (c .before .loop .inv) (again (c .before .loop .inv) (c .loop-test .taken) .0) (again (c .before .loop .inv) (c .loop-test .taken) .1)
 
--- src/write.rt:114:1
+-- src/write.rt:108:1
 returns : tie.Need-returns Inv-loop μ-loop
-returns c = counted (c .before .loop .inv) (omega arith)
+returns c = counted (c .before .loop .inv) (c .loop-test .left)
 
 pub places-of-spec : {M : Type 1} → statement M
 places-of-spec =

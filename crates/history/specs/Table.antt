@@ -1,4 +1,4 @@
--- 01's "Proved examples": "These are one table in the specs, established together". P1 to P12 and P14; P13, a session's, joins them in the crate that has sessions.
+-- 01's "Proved examples": "These are one table in the specs, established together". P1 to P14.
 use Prim.Native.Nat.{ℕ}
 use mathlib.Core.Path.{_≡_, refl}
 use mathlib.Core.List.{List, [], _∷_}
@@ -14,7 +14,7 @@ use Rattle.curve.specs.Curve.{code, controls, finiteControls, clamped, cubicBez
 use Rattle.curve.specs.declared.CurveType.{CurveType}
 use Rattle.curve.specs.declared.CurveType.the-variants.{Linear, Logarithmic, Bezier, QuadIn, CubicInOut}
 use Rattle.points.specs.Points.{holding, every, risingBy, validPoints}
-use Rattle.points.specs.Refusal.{Said, gives}
+use Rattle.points.specs.Refusal.{Said, refuses, gives}
 use Rattle.points.specs.Search.{placeBy}
 use Rattle.points.specs.declared.AutomationPoint.{AutomationPoint}
 use Rattle.points.specs.declared.SamplePosition.the-variants as position
@@ -24,9 +24,13 @@ use Rattle.lookup.specs.Runs.{run}
 use Rattle.lookup.specs.declared.Limit.{Limit}
 use Rattle.lookup.specs.declared.Limit.the-variants as limit
 use Rattle.analysis.specs.Analysis.{heardOf, rangeOf, rawInside, getRange}
 use Rattle.envelope.specs.Envelope.{new, limitsOf}
-use Rattle.envelope.specs.Edit.{withPoints, withSettings}
+use Rattle.envelope.specs.Edit.{withPoints, withSettings, editOf, edited, pointsEdited}
 use Rattle.envelope.specs.declared.AutomationEnvelope.{AutomationEnvelope}
+use Rattle.edits.specs.Insert.{insertPoint}
+use Rattle.edits.specs.Settle.{editPoints, settle}
+use Rattle.history.specs.Rule.{newHist, made, upTo, ruleOf, answersAfter}
+use Rattle.history.specs.Examples.{p13-calls}
 
 -- ---- numbers by their bits
 
@@ -154,9 +158,11 @@ pub record Table : Type 0 where
   pub p11 : ofInt binary32 (pos 16777219) ≡ f32 0x4B80_0002
   -- "P12 value 2, maximum 1, time 0, range 0 to 1: (1, 2)."
   pub p12 : range (limited (limit.Number one) limit.None two) t0 t1 ≡ gives (some (one, two))
+  -- "P13 D = 1: edit, edit, back, back (10), forward."
+  pub p13 : answersAfter (new 3) 1 newHist p13-calls ≡ gives tt ∷ gives tt ∷ gives tt ∷ refuses 10 ∷ gives tt ∷ []
   -- "P14 square root of 2: 3FB504F3."
   pub p14 : sqrt binary32 two ≡ f32 0x3FB5_04F3
 
 pub table : Table
-unfolding new getValueAt getValueAtSample getRange rangeOf heardOf rawInside run validPoints every risingBy rawAt rawAtSample surrounded placeBy fraction constrained code controls finiteControls clamped cubicBezier inOut eased interpolated finite minNum maxNum narrow orderKey sqrt roundAway ofBits toBits ofInt toUnsigned round neg add sub mul div lt le isNan
-table = record { p1 = refl; p2 = refl; p3 = refl; p4 = refl; p5 = refl; p6 = refl; p7 = refl; p8 = refl; p9-alone = refl; p9-middle = refl; p10-silent = refl; p10-first = refl; p11 = refl; p12 = refl; p14 = refl }
+unfolding answersAfter ruleOf upTo made editOf edited pointsEdited editPoints settle insertPoint new getValueAt getValueAtSample getRange rangeOf heardOf rawInside run validPoints every risingBy rawAt rawAtSample surrounded placeBy fraction constrained code controls finiteControls clamped cubicBezier inOut eased interpolated finite minNum maxNum narrow orderKey sqrt roundAway ofBits toBits ofInt toUnsigned round neg add sub mul div lt le isNan
+table = record { p1 = refl; p2 = refl; p3 = refl; p4 = refl; p5 = refl; p6 = refl; p7 = refl; p8 = refl; p9-alone = refl; p9-middle = refl; p10-silent = refl; p10-first = refl; p11 = refl; p12 = refl; p13 = refl; p14 = refl }

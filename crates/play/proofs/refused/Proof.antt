@@ -1,0 +1,25 @@
+use native.Mathlib.Omega.{arith}
+use Rattle.points.specs.Refusal.{number}
+use Rattle.play.proofs.Opening.{refused-opens}
+use borrow.Author.Needs.{needs}
+use Rattle.play.proofs.refused.Statement.{statement}
+use Rattle.play.proofs.refused.Tie as tie
+use Rattle.play.proofs.refused.Reads as reads
+use Rattle.play.proofs.refused.Lts as lts
+use Rattle.envelope.proofs.AutomationEnvelope.new.Reads as new-reads
+use Rattle.play.proofs.text.put_refusal.Reads as put-refusal-reads
+
+-- src/lib.rt:39:9
+put-refusal-requires : tie.Need-put-refusal-requires
+put-refusal-requires c κs = search needs
+
+-- src/lib.rt:40:9
+new-requires : tie.Need-new-requires
+new-requires c κs = search needs
+
+-- src/lib.rt:36:1
+returns : tie.Need-returns
+returns c = refused-opens (number (c .before .before .before .args .why)) (c .before .before .before .args .line) (c .new .ensures) (c .before .put-refusal .ensures) (search needs)
+
+pub refused-spec : {M : Type 1} → statement M
+refused-spec = tie.close (tie.spec put-refusal-requires new-requires returns)

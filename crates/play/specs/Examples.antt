@@ -1,0 +1,43 @@
+-- 01's example of "The sheet", played, and refusals printed.
+use Prim.Native.Nat.{ℕ}
+use mathlib.Core.Path.{_≡_, refl}
+use mathlib.Core.List.{List, [], _∷_, _++_, map}
+use lib.Ieee.{ofBits, toBits, toUnsigned, ofInt, round, add, sub, mul, div, lt, le}
+use Rattle.numbers.specs.Bounds.{finite}
+use Rattle.numbers.specs.Narrow.{narrow}
+use Rattle.numbers.specs.Order.{orderKey}
+use Rattle.curve.specs.Curve.{code, controls, finiteControls, interpolated, eased, clamped, curveOf}
+use Rattle.points.specs.Points.{every, risingBy, validPoints}
+use Rattle.points.specs.Search.{placeBy}
+use Rattle.lookup.specs.Limits.{constrained}
+use Rattle.lookup.specs.Lookup.{surrounded, fraction, rawAt}
+use Rattle.lookup.specs.Runs.{run}
+use Rattle.sheet.specs.Form.{text, startsWith, nextIs, readDigits, numberForm, optionalForm, decimals, nextDigit, targetForm}
+use Rattle.sheet.specs.Lines.{settingsForm, limitOf, finiteBits, settingsMeaning, settingsLine, controlsForm, pointForm, positionOf, pointMeaning, pointLine, blockForm, blockMeaning, blockLine}
+use Rattle.sheet.specs.Sheet.{isEmpty, pointsEnd, pointLines, sheetLines, playInput}
+use Rattle.sheet.specs.Text.{digitByte, digitsOf, placesOf}
+use Rattle.play.specs.Play.{sampleLine, sampleLines, refusalText, counted, printed, output}
+
+-- 01's input, with a line of rate and duration
+abbrev sheet : List ℕ
+sheet =
+    text "target enabled min max step\n" ++ text "0 1 - - -\n"
+    ++ text "time position value curve cp1 cp2\n" ++ text "0000000000000000 - 00000000 00 - -\n" ++ text "4010000000000000 - 3F800000 00 - -\n"
+    ++ text "rate duration\n"
+
+abbrev cases : List (List ℕ × List ℕ)
+cases =
+    -- 01's example
+    (sheet ++ text "3FF0000000000000 4008000000000000\n", text "sample value\n0 00000000\n1 3E800000\n2 3F000000\n")
+    -- "1e10 seconds at 48,000": 13 has line 0
+    ∷ (sheet ++ text "40E7700000000000 4202A05F20000000\n", text "refusal line\n13 0\n")
+    -- a lower-case digit, and nothing at all
+    ∷ (sheet ++ text "3ff0000000000000 4008000000000000\n", text "refusal line\n9 7\n")
+    ∷ ([], text "refusal line\n9 1\n")
+    -- no samples: "prints names"
+    ∷ (sheet ++ text "3FF0000000000000 C008000000000000\n", text "sample value\n")
+    ∷ []
+
+pub cases-hold : map (λ c. output (c .0)) cases ≡ map (λ c. c .1) cases
+unfolding output printed counted refusalText sampleLines sampleLine digitByte digitsOf placesOf run playInput sheetLines pointLines pointsEnd isEmpty startsWith nextIs readDigits numberForm optionalForm decimals nextDigit targetForm settingsForm limitOf finiteBits settingsMeaning settingsLine controlsForm pointForm positionOf pointMeaning pointLine blockForm blockMeaning blockLine finite ofBits toBits orderKey risingBy curveOf validPoints every rawAt surrounded placeBy fraction constrained finiteControls controls code narrow interpolated eased clamped toUnsigned ofInt round add sub mul div lt le
+cases-hold = refl

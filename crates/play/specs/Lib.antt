@@ -1,0 +1,6 @@
+-- 01, "The sheet": what the program prints, and how it is written in blocks.
+pub mod Play
+pub mod Blocks
+pub mod Output
+-- 01's example.
+pub mod Examples

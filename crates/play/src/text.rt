@@ -1,0 +1,72 @@
+// The lines that are printed. Each function that puts something returns the place after it.
+ghost use mathlib.Core.Path.{_≡_};
+ghost use Prim.Native.Nat.{_+_, _*_, _≤_};
+ghost use lib.ListN.{length, take};
+ghost use lib.Ieee.{binary32, toBits};
+ghost use Rattle.points.specs.Refusal.{number};
+ghost use Rattle.sheet.specs.Told.{Put};
+ghost use Rattle.play.specs.Play.{sampleLine, sampleLines, refusalText};
+use points::refusal::Refusal;
+
+// 01's number of a refusal.
+fn number_of(why: Refusal) -> u64
+    ensures { λ r. ⌜ r ≡ number why ⌝ }
+{
+    match why {
+        Refusal::NotValid => 1,
+        Refusal::SheetCurve => 2,
+        Refusal::NotFinite => 3,
+        Refusal::BoundsCross => 4,
+        Refusal::TooManyPoints => 5,
+        Refusal::TimesDontRise => 6,
+        Refusal::KeysDontRise => 7,
+        Refusal::NoRoom => 8,
+        Refusal::SheetForm => 9,
+        Refusal::NoStep => 10,
+        Refusal::MemoryLength => 11,
+        Refusal::StoredState => 12,
+        Refusal::TooManySamples => 13,
+    }
+}
+
+// The names above a refusal, and the line of both numbers.
+pub(crate) fn put_refusal(out: &mut [u8], why: Refusal, line: u64) -> usize
+    requires { ⌜ 35 ≤ length (now out) ⌝ }
+    ensures { λ r. ⌜ Put (now (out .entry)) 0 (refusalText (number why) line) (now (out .exit)) r ⌝ }
+{
+    let a = sheet::write::fit_text(&mut *out, 0, b"refusal line\n");
+    let b = sheet::write::fit_decimal(&mut *out, a, number_of(why), b' ');
+    sheet::write::fit_decimal(&mut *out, b, line, b'\n')
+}
+
+// A sample's bits. A NaN's are not determined: it is printed as the quiet one without a sign.
+fn bits_of(x: f32) -> u32
+    ensures { λ r. ⌜ r ≡ toBits binary32 x ⌝ }
+{
+    if x != x {
+        return 0x7FC0_0000;
+    }
+    f32::to_bits(x)
+}
+
+fn put_line(out: &mut [u8], at: usize, number: u64, x: f32) -> usize
+    requires { ⌜ at + 20 ≤ length (now out) ⌝ }
+    ensures { λ r. ⌜ Put (now (out .entry)) at (sampleLine number x) (now (out .exit)) r ⌝ }
+{
+    let a = sheet::write::fit_decimal(&mut *out, at, number, b' ');
+    sheet::write::fit_bits(&mut *out, a, bits_of(x), b'\n')
+}
+
+// The lines of the first n samples, numbered from `first` on.
+pub(crate) fn put_lines(out: &mut [u8], samples: &[f32; 1024], first: u64, n: usize) -> usize
+    requires { ⌜ (n ≤ 1024) × (n ≤ length (now samples)) × (first + n ≤ 4294967295) × (20 * n ≤ length (now out)) ⌝ }
+    ensures { λ r. ⌜ Put (now (out .entry)) 0 (sampleLines first (take n (now (samples .entry)))) (now (out .exit)) r ⌝ }
+{
+    let mut at: usize = 0;
+    let mut i: usize = 0;
+    while i < n {
+        at = put_line(&mut *out, at, first + i as u64, samples[i]);
+        i += 1;
+    }
+    at
+}

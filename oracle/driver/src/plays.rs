@@ -1,0 +1,257 @@
+//! Inputs of the program, and what it prints for them: the Rust's samples, with the signs of zeros
+//! that document 01 fixes.
+use crate::random::Random;
+use crate::reader::read;
+use crate::records::{AutomationPoint, Envelope};
+use crate::rules::{bare, value_at};
+use crate::text::{double, sheet, single};
+use std::path::Path;
+
+const EXAMPLE: &str = "target enabled min max step
+0 1 - - -
+time position value curve cp1 cp2
+0000000000000000 - 00000000 00 - -
+4010000000000000 - 3F800000 00 - -
+rate duration
+3FF0000000000000 4008000000000000
+";
+
+fn refusal(number: u32, line: usize) -> String {
+    format!("refusal line\n{number} {line}\n")
+}
+
+/// What the program prints.
+pub fn output(input: &[u8]) -> String {
+    let p = match read(input) {
+        Ok(p) => p,
+        Err((number, line)) => return refusal(number, line),
+    };
+    let count = (p.duration * p.rate) as u64;
+    if count > u32::MAX as u64 {
+        return refusal(13, 0);
+    }
+    let raw = bare(&p.envelope);
+    let mut out = String::from("sample value\n");
+    for i in 0..count {
+        let v = value_at(&p.envelope, &raw, i as f64 / p.rate).map_or(0.0, |v| v.0);
+        out += &format!("{i} {}\n", single(v));
+    }
+    out
+}
+
+fn input(e: &Envelope, rate: f64, duration: f64) -> Vec<u8> {
+    format!(
+        "{}rate duration\n{} {}\n",
+        sheet(e),
+        double(rate),
+        double(duration)
+    )
+    .into_bytes()
+}
+
+/// 01's example, what is left of it after each byte, each byte at each kind of place, and a line for
+/// each cause of a refusal.
+fn fixed() -> Vec<Vec<u8>> {
+    let example = EXAMPLE.as_bytes();
+    let mut all: Vec<Vec<u8>> = (0..=example.len()).map(|n| example[..n].to_vec()).collect();
+    // the target, a space, enabled, a line's end, digits of a time, a value, a curve and the rate, a
+    // position's `-`, a control's
+    for place in [28, 29, 30, 37, 72, 91, 101, 156, 89, 103] {
+        for b in 0..=255 {
+            let mut changed = example.to_vec();
+            changed[place] = b;
+            all.push(changed);
+        }
+    }
+    let lines: Vec<&str> = EXAMPLE.lines().collect();
+    let mut with = |k: usize, line: &str| {
+        let mut changed = lines.clone();
+        changed[k - 1] = line;
+        all.push((changed.join("\n") + "\n").into_bytes());
+    };
+    for settings in [
+        "00 1 - - -",
+        "4294967295 1 - - -",
+        "4294967296 1 - - -",
+        "99999999999999999999 1 - - -",
+        " 1 - - -",
+        "0 2 - - -",
+        "0 1 7F800000 - -",
+        "0 1 - FF800000 -",
+        "0 1 - - 7FC00000",
+        "0 1 - - 3F800000 -",
+        "0 1 - -",
+        "0 0 - - -",
+    ] {
+        with(2, settings);
+    }
+    for point in [
+        "7FF0000000000000 - 00000000 00 - -",
+        "FFF8000000000000 - 00000000 06 - -",
+        "4010000000000000 - FF800000 22 - -",
+        "4010000000000000 - 3F800000 06 - -",
+        "4010000000000000 - 3F800000 22 - -",
+        "4010000000000000 - 3F800000 99 - -",
+        "4010000000000000 - 3F800000 05 - -",
+        "4010000000000000 - 3F800000 05 00000000 7F800000",
+        "4010000000000000 - 3F800000 05 7FC00000 7F800000",
+        "4010000000000000 - 3F800000 05 3F800000 3F800000",
+        "4010000000000000 - 3F800000 06 3F800000 3F800000",
+        "4010000000000000 - 3F800000 0 - -",
+        "4010000000000000 FFFFFFFFFFFFFFFF 3F800000 00 - -",
+        "4010000000000000 0 3F800000 00 - -",
+        "4010000000000000  3F800000 00 - -",
+        "4010000000000000 - 3F800000 00 - - ",
+        "0000000000000000 - 3F800000 00 - -",
+        "8000000000000000 - 3F800000 00 - -",
+        "C010000000000000 - 3F800000 00 - -",
+        "0000000000000001 - 3F800000 00 - -",
+        "7FF0000000000000 - 3F800000 00 - x",
+        "",
+    ] {
+        with(5, point);
+    }
+    for block in [
+        "7FF0000000000000 4008000000000000",
+        "3FF0000000000000 FFF0000000000000",
+        "7FF8000000000000 7FF8000000000000",
+        "BFF0000000000000 C008000000000000",
+        "BFF0000000000000 4008000000000000",
+        "0000000000000000 4008000000000000",
+        "8000000000000000 C008000000000000",
+        "40E7700000000000 4202A05F20000000",
+        "3FF0000000000000 41F0000000000000",
+        "3FF0000000000000",
+        "3FF0000000000000 4008000000000000 ",
+    ] {
+        with(7, block);
+    }
+    for names in [
+        "rate duration ",
+        "Rate duration",
+        "rate duration\r",
+        "rate  duration",
+    ] {
+        with(6, names);
+    }
+    for more in ["\n", "x", "3FF0000000000000 4008000000000000\n"] {
+        all.push([example, more.as_bytes()].concat());
+    }
+    // long lines, at the front and in the place of a point
+    all.push(vec![b'0'; 1 << 20]);
+    all.push([&example[..72], &vec![b'0'; 1 << 20]].concat());
+    all
+}
+
+/// A random play of 1 to 256 points, of every curve, or of an envelope with edge cases.
+fn random(r: &mut Random) -> Vec<u8> {
+    if r.once_in(2) {
+        let (e, rate) = (r.envelope(), r.rate());
+        let mut duration = r.duration(rate);
+        let count = (duration * rate) as u64;
+        if (10_000..=u32::MAX as u64).contains(&count) {
+            duration = 100.0 / rate;
+        }
+        return input(&e, rate, duration);
+    }
+    let count = if r.once_in(3) {
+        1 + r.below(256)
+    } else {
+        1 + r.below(12)
+    };
+    let mut e = Envelope::new(r.below(1 << 32) as u32);
+    e.enabled = !r.once_in(16);
+    let mut time = (r.unit() - 0.5) * 2.0;
+    for _ in 0..count {
+        let value = (r.unit() as f32 - 0.25) * 100.0;
+        let position = r.once_in(3).then(|| r.below(1 << 20));
+        e.points.push(AutomationPoint {
+            time,
+            sample_position: position,
+            value,
+            curve: r.curve(),
+        });
+        time += r.unit() + 0.001;
+    }
+    if r.once_in(3) {
+        e.min_value = Some(r.unit() as f32 * 20.0);
+    }
+    if r.once_in(3) {
+        e.max_value = Some(r.unit() as f32 * 60.0);
+    }
+    if r.once_in(3) {
+        e.step_size = Some(r.unit() as f32 * 5.0 - 0.5);
+    }
+    let samples = if r.once_in(4) {
+        1000 + r.below(5000)
+    } else {
+        r.below(200)
+    };
+    let rate = samples as f64 / (time.abs() + 1.0);
+    input(&e, rate, time.abs() + 1.0)
+}
+
+/// A byte changed, taken out or put in, or a line taken out, put twice or moved.
+fn spoiled(r: &mut Random, mut l: Vec<u8>) -> Vec<u8> {
+    let at = r.below(l.len() as u64) as usize;
+    match r.below(7) {
+        0 => l[at] = r.below(256) as u8,
+        1 => l[at] = r.one_of(b"0123456789ABCDEF -\n"),
+        2 => drop(l.remove(at)),
+        3 => l.insert(at, r.one_of(b"0123456789ABCDEFabcdef -\n\r")),
+        4 => l.truncate(at),
+        _ => {
+            let mut lines: Vec<Vec<u8>> = l.split_inclusive(|b| *b == b'\n').map(<[u8]>::to_vec).collect();
+            let (i, j) = (
+                r.below(lines.len() as u64) as usize,
+                r.below(lines.len() as u64) as usize,
+            );
+            match r.below(3) {
+                0 => drop(lines.remove(i)),
+                1 => lines.insert(j, lines[i].clone()),
+                _ => lines.swap(i, j),
+            }
+            l = lines.concat();
+        }
+    }
+    l
+}
+
+/// A sheet of exactly so many points, and what follows them.
+fn full(r: &mut Random, points: u64, rest: &str) -> Vec<u8> {
+    let mut e = Envelope::new(7);
+    for i in 0..points {
+        e.points.push(AutomationPoint {
+            time: i as f64,
+            sample_position: Some(i),
+            value: r.unit() as f32,
+            curve: r.curve(),
+        });
+    }
+    (sheet(&e) + rest).into_bytes()
+}
+
+/// Writes n.in and n.out, from 1 on: the fixed inputs, those around 256 points, and so many random ones.
+pub fn write(folder: &Path, seed: u64, count: u64) -> std::io::Result<()> {
+    let mut r = Random(seed);
+    let mut all = fixed();
+    for points in 255..=258 {
+        let block = "rate duration\n4024000000000000 4059000000000000\n";
+        for rest in [block, "", "\n", "rate duration", &block[..30], "x\n"] {
+            all.push(full(&mut r, points, rest));
+        }
+    }
+    for _ in 0..count {
+        let input = random(&mut r);
+        if r.once_in(3) {
+            all.push(spoiled(&mut r, input));
+        } else {
+            all.push(input);
+        }
+    }
+    for (i, input) in all.iter().enumerate() {
+        std::fs::write(folder.join(format!("{}.in", i + 1)), input)?;
+        std::fs::write(folder.join(format!("{}.out", i + 1)), output(input))?;
+    }
+    Ok(())
+}
