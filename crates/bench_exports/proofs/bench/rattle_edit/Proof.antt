@@ -3,133 +3,242 @@ use native.Mathlib.Omega.{arith}
 use lib.ListN.{length}
 use Rattle.bench_exports.proofs.bench.rattle_edit.Statement.{statement}
 use Rattle.bench_exports.proofs.bench.rattle_edit.Tie as tie
+use Rattle.bench_exports.proofs.bench.rattle_edit.Reads as reads
+use Rattle.bench_exports.proofs.bench.rattle_edit.Lts as lts
+use Rattle.bench_exports.proofs.made.curve_of.Reads as curve-of-reads
+use Rattle.bench_exports.proofs.made.made.Reads as made-reads
+use Rattle.bench_exports.proofs.made.point.Reads as point-reads
+use Rattle.bench_exports.proofs.made.shown.Reads as shown-reads
+use Rattle.envelope.proofs.AutomationEnvelope.add.Reads as add-reads
+use Rattle.envelope.proofs.AutomationEnvelope.add_point.Reads as add-point-reads
+use Rattle.envelope.proofs.AutomationEnvelope.apply_compression.Reads as apply-compression-reads
+use Rattle.envelope.proofs.AutomationEnvelope.apply_fade_in.Reads as apply-fade-in-reads
+use Rattle.envelope.proofs.AutomationEnvelope.apply_fade_out.Reads as apply-fade-out-reads
+use Rattle.envelope.proofs.AutomationEnvelope.apply_fades.Reads as apply-fades-reads
+use Rattle.envelope.proofs.AutomationEnvelope.apply_gate.Reads as apply-gate-reads
+use Rattle.envelope.proofs.AutomationEnvelope.blend.Reads as blend-reads
+use Rattle.envelope.proofs.AutomationEnvelope.clamp_values.Reads as clamp-values-reads
+use Rattle.envelope.proofs.AutomationEnvelope.fade_in.Reads as fade-in-reads
+use Rattle.envelope.proofs.AutomationEnvelope.fade_out.Reads as fade-out-reads
+use Rattle.envelope.proofs.AutomationEnvelope.invert_values.Reads as invert-values-reads
+use Rattle.envelope.proofs.AutomationEnvelope.max.Reads as max-reads
+use Rattle.envelope.proofs.AutomationEnvelope.merge.Reads as merge-reads
+use Rattle.envelope.proofs.AutomationEnvelope.min.Reads as min-reads
+use Rattle.envelope.proofs.AutomationEnvelope.multiply.Reads as multiply-reads
+use Rattle.envelope.proofs.AutomationEnvelope.normalize.Reads as normalize-reads
+use Rattle.envelope.proofs.AutomationEnvelope.offset.Reads as offset-reads
+use Rattle.envelope.proofs.AutomationEnvelope.pulse.Reads as pulse-reads
+use Rattle.envelope.proofs.AutomationEnvelope.quantize_time.Reads as quantize-time-reads
+use Rattle.envelope.proofs.AutomationEnvelope.ramp.Reads as ramp-reads
+use Rattle.envelope.proofs.AutomationEnvelope.remove_point_at.Reads as remove-point-at-reads
+use Rattle.envelope.proofs.AutomationEnvelope.reverse.Reads as reverse-reads
+use Rattle.envelope.proofs.AutomationEnvelope.scale.Reads as scale-reads
+use Rattle.envelope.proofs.AutomationEnvelope.scale_time.Reads as scale-time-reads
+use Rattle.envelope.proofs.AutomationEnvelope.set_enabled.Reads as set-enabled-reads
+use Rattle.envelope.proofs.AutomationEnvelope.set_max.Reads as set-max-reads
+use Rattle.envelope.proofs.AutomationEnvelope.set_min.Reads as set-min-reads
+use Rattle.envelope.proofs.AutomationEnvelope.set_step.Reads as set-step-reads
+use Rattle.envelope.proofs.AutomationEnvelope.shift_points.Reads as shift-points-reads
+use Rattle.envelope.proofs.AutomationEnvelope.simplify.Reads as simplify-reads
+use Rattle.envelope.proofs.AutomationEnvelope.subtract.Reads as subtract-reads
+use Rattle.envelope.proofs.AutomationEnvelope.trim.Reads as trim-reads
+use Rattle.numbers.proofs.convert.f64_to_f32.Reads as f64-to-f32-reads
 
 abbrev Inv-loop : tie.InvT-loop
-Inv-loop times values curve which x y turns out-times out-values e c xf yf p limit answer₀ last₀ i₀ answer last i = (i ≤ turns)
+Inv-loop times values curve which x y turns out-times out-values e c xf yf p limit other answer₀ last₀ i₀ answer last i = (i ≤ turns)
 
 abbrev μ-loop : tie.MeasureT-loop
-μ-loop times values curve which x y turns out-times out-values e c xf yf p limit answer₀ last₀ i₀ answer last i = turns - i
+μ-loop times values curve which x y turns out-times out-values e c xf yf p limit other answer₀ last₀ i₀ answer last i = turns - i
 
+-- src/bench.rt:22:9
 made-requires : tie.Need-made-requires Inv-loop μ-loop
 made-requires c κs = tt
 
+-- src/bench.rt:23:9
 curve-of-requires : tie.Need-curve-of-requires Inv-loop μ-loop
 curve-of-requires c κs = tt
 
+-- src/bench.rt:24:9
 f64-to-f32-requires : tie.Need-f64-to-f32-requires Inv-loop μ-loop
 f64-to-f32-requires c κs = tt
 
+-- src/bench.rt:25:9
 f64-to-f32-requires-2 : tie.Need-f64-to-f32-requires-2 Inv-loop μ-loop
 f64-to-f32-requires-2 c κs = tt
 
+-- src/bench.rt:26:26
 curve-of-requires-2 : tie.Need-curve-of-requires-2 Inv-loop μ-loop
 curve-of-requires-2 c κs = tt
 
+-- src/bench.rt:26:9
 point-requires : tie.Need-point-requires Inv-loop μ-loop
 point-requires c κs = tt
 
-loop-holds : tie.Need-loop-holds Inv-loop μ-loop
-loop-holds c = omega arith
-
-add-point-requires : tie.Need-add-point-requires Inv-loop μ-loop
-add-point-requires c κs = tt
-
-remove-point-at-requires : tie.Need-remove-point-at-requires Inv-loop μ-loop
-remove-point-at-requires c κs = tt
-
+-- src/bench.rt:28:9
 shift-points-requires : tie.Need-shift-points-requires Inv-loop μ-loop
 shift-points-requires c κs = tt
 
+-- src/bench.rt:33:5
+loop-holds : tie.Need-loop-holds Inv-loop μ-loop
+loop-holds c = omega arith
+
+-- src/bench.rt:35:18
+add-point-requires : tie.Need-add-point-requires Inv-loop μ-loop
+add-point-requires c κs = tt
+
+-- src/bench.rt:36:18
+remove-point-at-requires : tie.Need-remove-point-at-requires Inv-loop μ-loop
+remove-point-at-requires c κs = tt
+
+-- src/bench.rt:37:18
+shift-points-requires-2 : tie.Need-shift-points-requires-2 Inv-loop μ-loop
+shift-points-requires-2 c κs = tt
+
+-- src/bench.rt:38:18
 scale-time-requires : tie.Need-scale-time-requires Inv-loop μ-loop
 scale-time-requires c κs = tt
 
+-- src/bench.rt:39:18
 trim-requires : tie.Need-trim-requires Inv-loop μ-loop
 trim-requires c κs = tt
 
+-- src/bench.rt:40:18
 reverse-requires : tie.Need-reverse-requires Inv-loop μ-loop
 reverse-requires c κs = tt
 
+-- src/bench.rt:41:18
 invert-values-requires : tie.Need-invert-values-requires Inv-loop μ-loop
 invert-values-requires c κs = tt
 
+-- src/bench.rt:42:18
 quantize-time-requires : tie.Need-quantize-time-requires Inv-loop μ-loop
 quantize-time-requires c κs = tt
 
+-- src/bench.rt:43:18
 simplify-requires : tie.Need-simplify-requires Inv-loop μ-loop
 simplify-requires c κs = tt
 
+-- src/bench.rt:44:18
 normalize-requires : tie.Need-normalize-requires Inv-loop μ-loop
 normalize-requires c κs = tt
 
+-- src/bench.rt:45:19
 scale-requires : tie.Need-scale-requires Inv-loop μ-loop
 scale-requires c κs = tt
 
+-- src/bench.rt:46:19
 offset-requires : tie.Need-offset-requires Inv-loop μ-loop
 offset-requires c κs = tt
 
+-- src/bench.rt:47:19
 clamp-values-requires : tie.Need-clamp-values-requires Inv-loop μ-loop
 clamp-values-requires c κs = tt
 
+-- src/bench.rt:48:19
 apply-fade-in-requires : tie.Need-apply-fade-in-requires Inv-loop μ-loop
 apply-fade-in-requires c κs = tt
 
+-- src/bench.rt:49:19
 apply-fade-out-requires : tie.Need-apply-fade-out-requires Inv-loop μ-loop
 apply-fade-out-requires c κs = tt
 
+-- src/bench.rt:50:19
 apply-fades-requires : tie.Need-apply-fades-requires Inv-loop μ-loop
 apply-fades-requires c κs = tt
 
+-- src/bench.rt:51:19
 apply-gate-requires : tie.Need-apply-gate-requires Inv-loop μ-loop
 apply-gate-requires c κs = tt
 
+-- src/bench.rt:52:19
 apply-compression-requires : tie.Need-apply-compression-requires Inv-loop μ-loop
 apply-compression-requires c κs = tt
 
+-- src/bench.rt:53:19
 fade-in-requires : tie.Need-fade-in-requires Inv-loop μ-loop
 fade-in-requires c κs = tt
 
+-- src/bench.rt:54:19
 fade-out-requires : tie.Need-fade-out-requires Inv-loop μ-loop
 fade-out-requires c κs = tt
 
+-- src/bench.rt:55:19
 pulse-requires : tie.Need-pulse-requires Inv-loop μ-loop
 pulse-requires c κs = tt
 
+-- src/bench.rt:56:19
 ramp-requires : tie.Need-ramp-requires Inv-loop μ-loop
 ramp-requires c κs = tt
 
+-- src/bench.rt:57:19
 set-enabled-requires : tie.Need-set-enabled-requires Inv-loop μ-loop
 set-enabled-requires c κs = tt
 
+-- src/bench.rt:58:19
 set-min-requires : tie.Need-set-min-requires Inv-loop μ-loop
 set-min-requires c κs = tt
 
+-- src/bench.rt:59:19
 set-max-requires : tie.Need-set-max-requires Inv-loop μ-loop
 set-max-requires c κs = tt
 
+-- src/bench.rt:60:19
 set-step-requires : tie.Need-set-step-requires Inv-loop μ-loop
 set-step-requires c κs = tt
 
+-- src/bench.rt:61:19
 merge-requires : tie.Need-merge-requires Inv-loop μ-loop
 merge-requires c κs = tt
 
-add-i : tie.Need-add-i Inv-loop μ-loop
-add-i c = omega arith
+-- src/bench.rt:62:19
+blend-requires : tie.Need-blend-requires Inv-loop μ-loop
+blend-requires c κs = tt
 
+-- src/bench.rt:63:19
+add-requires : tie.Need-add-requires Inv-loop μ-loop
+add-requires c κs = tt
+
+-- src/bench.rt:64:19
+multiply-requires : tie.Need-multiply-requires Inv-loop μ-loop
+multiply-requires c κs = tt
+
+-- src/bench.rt:65:19
+min-requires : tie.Need-min-requires Inv-loop μ-loop
+min-requires c κs = tt
+
+-- src/bench.rt:66:19
+max-requires : tie.Need-max-requires Inv-loop μ-loop
+max-requires c κs = tt
+
+-- src/bench.rt:67:18
+subtract-requires : tie.Need-subtract-requires Inv-loop μ-loop
+subtract-requires c κs = tt
+
+-- src/bench.rt:71:9
+add-i : tie.Need-add-i Inv-loop μ-loop
+add-i c = omega (arith, c .before .before .before .before .before .before .before .before .before .before .before .before .before .before .before .before .fits .turns .fits)
+
+-- src/bench.rt:33:5
 loop-less : tie.Need-loop-less Inv-loop μ-loop
 loop-less c = omega arith
 
+-- src/bench.rt:33:5
 loop-again : tie.Need-loop-again Inv-loop μ-loop
 loop-again c = omega arith
 
+-- src/bench.rt:73:5
 shown-requires : tie.Need-shown-requires Inv-loop μ-loop
 shown-requires c κs = tt
 
+-- src/bench.rt:10:1
 same-length : tie.Need-same-length Inv-loop μ-loop
 same-length c = omega arith
 
+-- src/bench.rt:10:1
 same-length-2 : tie.Need-same-length-2 Inv-loop μ-loop
 same-length-2 c = omega arith
 
+-- src/bench.rt:10:1
 returns : tie.Need-returns Inv-loop μ-loop
 returns c = tt
 
@@ -145,10 +254,11 @@ rattle-edit-spec =
     f64-to-f32-requires-2
     curve-of-requires-2
     point-requires
+    shift-points-requires
     loop-holds
     add-point-requires
     remove-point-at-requires
-    shift-points-requires
+    shift-points-requires-2
     scale-time-requires
     trim-requires
     reverse-requires
@@ -173,6 +283,12 @@ rattle-edit-spec =
     set-max-requires
     set-step-requires
     merge-requires
+    blend-requires
+    add-requires
+    multiply-requires
+    min-requires
+    max-requires
+    subtract-requires
     add-i
     loop-less
     loop-again
