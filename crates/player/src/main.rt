@@ -59,14 +59,18 @@ fn print_blocks(play: Play, out: &mut [u8; 20480]) {
     }
 }
 
+// Prints all that the input gives.
+fn print_play(s: &[u8], out: &mut [u8; 20480]) {
+    let opened = play::open(s, &mut *out);
+    let play = opened.play;
+    if print(&mut *out, opened.bytes) {
+        print_blocks(play, &mut *out);
+    }
+}
+
 fn main() {
     let mut input = room();
     let n = io::read_full(STDIN_FILENO, &mut input);
     let mut out = [0u8; 20480];
-    let opened = play::open(&input[..n], &mut out);
-    let play = opened.play;
-    let bytes = opened.bytes;
-    if print(&mut out, bytes) {
-        print_blocks(play, &mut out);
-    }
+    print_play(&input[..n], &mut out);
 }

@@ -1,3 +1,5 @@
+use mathlib.Core.Path.{sym}
+use lib.Seq.{length-take-le}
 use borrow.Author.Needs.{needs}
 use Rattle.player.proofs.print.Statement.{statement}
 use Rattle.player.proofs.print.Tie as tie
@@ -11,7 +13,7 @@ slice-reshare-prefix-write-all c = search needs
 
 -- src/main.rt:27:34
 slice-aggregate-write-all : tie.Need-slice-aggregate-write-all
-slice-aggregate-write-all c = ?
+slice-aggregate-write-all c = sym (length-take-le (c .before .before .args .n) (c .before .before .args .out .now) (c .before .before .pre))
 
 -- src/main.rt:27:5
 write-all-requires : tie.Need-write-all-requires
