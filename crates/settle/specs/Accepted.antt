@@ -1,28 +1,24 @@
 -- An accepted edit gives valid points: one law for all edits. Assumes nothing.
 use mathlib.Core.Path.{_≡_, refl, _∙_}
 use mathlib.Core.Bool.{Bool, true, false, cond, _&&_}
-use mathlib.Core.List.{List, map}
+use mathlib.Core.List.{List}
 use Prim.Native.Nat.{ℕ}
 use native.Mathlib.Omega.{arith}
 use lib.Dec.{leb}
-use lib.Ieee.{Float, lt}
 use lib.ListN.{length}
-use Rattle.numbers.specs.Bounds.{finite}
 use Rattle.points.specs.Point.{finitePoint}
-use Rattle.points.specs.Points.{every, rising, listOf, validPoints, holding}
+use Rattle.points.specs.Points.{every, rising, validPoints, holding}
 use Rattle.points.specs.ValidLaws.{holding-valid}
 use Rattle.points.specs.declared.AutomationPoint.{AutomationPoint}
 use Rattle.points.specs.declared.Points.{Points}
 use Rattle.points.specs.declared.refusal.Refusal.{Refusal}
-use Rattle.points.specs.declared.refusal.Refusal.the-variants.{NotValid, NotFinite, BoundsCross, TooManyPoints, TimesDontRise}
+use Rattle.points.specs.declared.refusal.Refusal.the-variants.{NotValid, NotFinite, TooManyPoints, TimesDontRise}
 use Rattle.points.specs.declared.refusal.Answer.the-variants.{Accepted, Refused}
-use Rattle.edits.specs.Settle.{refused, settle, editPoints}
-use Rattle.edits.specs.Each.{changed, clampedEdit}
-use Rattle.edits.specs.declared.EditedPoints.{EditedPoints}
-use Rattle.edits.specs.declared.each.Change.the-variants.{Clamp}
+use Rattle.settle.specs.Settle.{refused, settle, editPoints}
+use Rattle.settle.specs.declared.EditedPoints.{EditedPoints}
 
 -- a refusal accepts nothing
-not-accepted : {A : Type 0} (r : Refusal) → Refused r ≡ Accepted → A
+pub not-accepted : {A : Type 0} (r : Refusal) → Refused r ≡ Accepted → A
 not-accepted r h = let z : _≡_ {A = ℕ} 0 1 = cc in absurd (omega arith)
 
 -- an accepted edit holds its list, which is finite, rises and has at most 256 points
@@ -56,16 +52,3 @@ accepted-holding ps ok l h = edited ps ok l h .0
 
 pub accepted-valid : (ps : Points) (ok : Bool) (l : List AutomationPoint) → editPoints ps ok l .answer ≡ Accepted → validPoints (editPoints ps ok l .points) ≡ true
 accepted-valid ps ok l h = edited ps ok l h .1
-
--- clamp_values too: where it is accepted it is an edit like the others
-pub accepted-clamped : (ps : Points) (min max : Float) → clampedEdit ps min max .answer ≡ Accepted
-    → clampedEdit ps min max ≡ editPoints ps (finite min && finite max) (map (changed (Clamp min max)) (listOf ps))
-unfolding clampedEdit editPoints
-accepted-clamped ps min max = go (validPoints ps) (finite min && finite max) (lt max min) (settle ps (map (changed (Clamp min max)) (listOf ps)))
-  where
-    go : (a b c : Bool) (s : EditedPoints) → cond a (cond b (cond c (refused ps BoundsCross) s) (refused ps NotFinite)) (refused ps NotValid) .answer ≡ Accepted
-        → cond a (cond b (cond c (refused ps BoundsCross) s) (refused ps NotFinite)) (refused ps NotValid) ≡ cond a (cond b s (refused ps NotFinite)) (refused ps NotValid)
-    go true true true s h = not-accepted BoundsCross h
-    go true true false s h = refl
-    go true false c s h = refl
-    go false b c s h = refl

@@ -10,7 +10,7 @@ use Rattle.points.specs.declared.Points.{Points}
 use Rattle.points.specs.declared.refusal.Refusal.{Refusal}
 use Rattle.points.specs.declared.refusal.Refusal.the-variants.{NotValid, NotFinite, TooManyPoints, TimesDontRise}
 use Rattle.points.specs.declared.refusal.Answer.the-variants.{Accepted, Refused}
-use Rattle.edits.specs.declared.EditedPoints.{EditedPoints}
+use Rattle.settle.specs.declared.EditedPoints.{EditedPoints}
 
 -- "A refusal returns its number .. and changes nothing"
 abbrev pub refused : Points → Refusal → EditedPoints

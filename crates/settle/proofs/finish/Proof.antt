@@ -1,9 +1,9 @@
 use mathlib.Core.Path.{sym, _∙_}
 use borrow.Author.Tests.{not-true, not-false}
-use Rattle.edits.specs.Finish.{finished}
+use Rattle.settle.specs.Finish.{finished}
 use borrow.Author.Needs.{needs}
-use Rattle.edits.proofs.finish.finish.Statement.{statement}
-use Rattle.edits.proofs.finish.finish.Tie as tie
+use Rattle.settle.proofs.finish.Statement.{statement}
+use Rattle.settle.proofs.finish.Tie as tie
 
 is-valid-requires : tie.Need-is-valid-requires
 is-valid-requires c κs = search needs
