@@ -6,9 +6,9 @@ use lib.Ieee.{Float, lt}
 use Rattle.numbers.specs.Bounds.{finite}
 use Rattle.points.specs.Points.{listOf, validPoints}
 use Rattle.points.specs.declared.Points.{Points}
-use Rattle.edits.specs.Settle.{editPoints}
-use Rattle.edits.specs.Each.{changed, clampedEdit}
-use Rattle.edits.specs.declared.each.Change.the-variants.{Clamp}
+use Rattle.settle.specs.Settle.{editPoints}
+use Rattle.pointwise.specs.Each.{changed, clampedEdit}
+use Rattle.pointwise.specs.declared.Change.the-variants.{Clamp}
 
 module _ (ps : Points) (min max : Float) where
   pub in-order : lt max min ≡ false → editPoints ps (finite min && finite max) (map (changed (Clamp min max)) (listOf ps)) ≡ clampedEdit ps min max

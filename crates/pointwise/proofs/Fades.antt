@@ -8,11 +8,11 @@ use Rattle.curve.specs.declared.CurveType.{CurveType}
 use Rattle.points.specs.Points.{listOf, holding}
 use Rattle.points.specs.ValidLaws.{listOf-holding}
 use Rattle.points.specs.declared.AutomationPoint.{AutomationPoint}
-use Rattle.edits.specs.Finish.{mappedIn, fadedInPlaces, fadedOutPlaces}
-use Rattle.edits.specs.Each.{zero64, changed, firstTime, lastTime, fadedInAll, fadedOutAll}
-use Rattle.edits.specs.declared.each.Change.{Change}
-use Rattle.edits.specs.declared.each.Change.the-variants.{FadeIn, FadeOut}
-use Rattle.edits.proofs.Ends.{mapped-holding}
+use Rattle.pointwise.specs.Places.{mappedIn, fadedInPlaces, fadedOutPlaces}
+use Rattle.pointwise.specs.Each.{zero64, changed, firstTime, lastTime, fadedInAll, fadedOutAll}
+use Rattle.pointwise.specs.declared.Change.{Change}
+use Rattle.pointwise.specs.declared.Change.the-variants.{FadeIn, FadeOut}
+use Rattle.pointwise.proofs.Mapped.{mapped-holding}
 
 -- the points as they are, or each changed by what the list says
 kept-or-mapped : (b : Bool) (change : List AutomationPoint → Change) (l : List AutomationPoint)

@@ -10,7 +10,7 @@ use Rattle.points.specs.Points.{listOf}
 use Rattle.points.specs.Laws.{take-min}
 use Rattle.points.specs.declared.AutomationPoint.{AutomationPoint}
 use Rattle.points.specs.declared.Points.{Points}
-use Rattle.edits.specs.Each.{zero64, firstTime, lastTime}
+use Rattle.pointwise.specs.Each.{zero64, firstTime, lastTime}
 
 first-at : (l : List AutomationPoint) (n : ℕ) (d : AutomationPoint) → 0 < n → 0 < length l → getD l 0 d .time ≡ firstTime (take n l)
 first-at l zero d h k = absurd (not-suc-le-zero h)

@@ -11,10 +11,10 @@ use Rattle.points.specs.Points.{listOf, validPoints}
 use Rattle.points.specs.declared.AutomationPoint.{AutomationPoint}
 use Rattle.points.specs.declared.Points.{Points}
 use Rattle.points.specs.declared.refusal.Refusal.the-variants.{NotValid, NotFinite, BoundsCross}
-use Rattle.edits.specs.Settle.{refused, settle}
-use Rattle.edits.specs.declared.EditedPoints.{EditedPoints}
-use Rattle.edits.specs.declared.each.Change.{Change}
-use Rattle.edits.specs.declared.each.Change.the-variants.{Shift, ScaleTime, Reflect, Quantize, Invert, Normalize, Scale, Offset, Clamp, FadeIn, FadeOut, Gate, Compress}
+use Rattle.settle.specs.Settle.{refused, settle}
+use Rattle.settle.specs.declared.EditedPoints.{EditedPoints}
+use Rattle.pointwise.specs.declared.Change.{Change}
+use Rattle.pointwise.specs.declared.Change.the-variants.{Shift, ScaleTime, Reflect, Quantize, Invert, Normalize, Scale, Offset, Clamp, FadeIn, FadeOut, Gate, Compress}
 
 -- 0.0 and 1.0, of either format
 abbrev pub zero64 : Float

@@ -1,4 +1,4 @@
-// The edits that change each point by itself.
+// The edits of 000 that change each point by itself. Source: envelope.rs (000).
 ghost use mathlib.Core.Path.{_≡_};
 ghost use mathlib.Core.Bool.{_&&_};
 ghost use mathlib.Core.List.{map, _++_};
@@ -6,17 +6,17 @@ ghost use lib.ListN.{take, drop};
 ghost use Rattle.numbers.specs.Bounds.{finite};
 ghost use Rattle.curve.specs.Curve.{finiteControls};
 ghost use Rattle.points.specs.Points.{listOf};
-ghost use Rattle.edits.specs.Settle.{editPoints};
-ghost use Rattle.edits.specs.Finish.{mappedIn, fadedInPlaces, fadedOutPlaces};
-ghost use Rattle.edits.specs.Each.{withTime, withValue, clampedTo, fadeFraction, fadedIn, fadedOut, gated, compressed, changed, scaledTime, lowestValue, highestValue, normalized, firstTime, lastTime, fadedInAll, fadedOutAll, clampedEdit};
-ghost use Rattle.edits.specs.declared.each.Change.the-variants.{Shift, Invert, Scale, Offset, Gate, Compress};
-use crate::EditedPoints;
-use crate::finish::finish;
-use crate::finish::refuse;
+ghost use Rattle.settle.specs.Settle.{editPoints};
+ghost use Rattle.pointwise.specs.Places.{mappedIn, fadedInPlaces, fadedOutPlaces};
+ghost use Rattle.pointwise.specs.Each.{withTime, withValue, clampedTo, fadeFraction, fadedIn, fadedOut, gated, compressed, changed, scaledTime, lowestValue, highestValue, normalized, firstTime, lastTime, fadedInAll, fadedOutAll, clampedEdit};
+ghost use Rattle.pointwise.specs.declared.Change.the-variants.{Shift, Invert, Scale, Offset, Gate, Compress};
 use curve::CurveType;
 use points::AutomationPoint;
 use points::Points;
 use points::refusal::Refusal;
+use settle::EditedPoints;
+use settle::finish;
+use settle::refuse;
 
 // What 000's loops do to a point.
 pub enum Change {
@@ -157,7 +157,7 @@ impl Change {
 }
 
 // Each point changed in its place.
-pub(crate) fn map_points(mut points: Points, change: Change) -> Points
+pub fn map_points(mut points: Points, change: Change) -> Points
     ensures { λ r. ⌜ r ≡ mappedIn (changed change) points ⌝ }
 {
     let n = points.used();
@@ -299,7 +299,7 @@ fn first_time(points: Points) -> f64
     p.time
 }
 
-pub(crate) fn last_time(points: Points) -> f64
+pub fn last_time(points: Points) -> f64
     ensures { λ r. ⌜ r ≡ lastTime (listOf points) ⌝ }
 {
     let n = points.used();

@@ -1,12 +1,12 @@
 use Rattle.points.specs.Laws.{and-both}
 use Rattle.points.proofs.Good.{places}
-use Rattle.edits.specs.Each.{fadedInAll}
-use Rattle.edits.specs.Finish.{fadedInPlaces}
-use Rattle.edits.proofs.Ends.{ends-kept}
-use Rattle.edits.proofs.Fades.{faded-in-holding, faded-in-length}
+use Rattle.settle.proofs.Ends.{ends-kept}
+use Rattle.pointwise.specs.Each.{fadedInAll}
+use Rattle.pointwise.specs.Places.{fadedInPlaces}
+use Rattle.pointwise.proofs.Fades.{faded-in-holding, faded-in-length}
 use borrow.Author.Needs.{needs}
-use Rattle.edits.proofs.each.apply_fade_in.Statement.{statement}
-use Rattle.edits.proofs.each.apply_fade_in.Tie as tie
+use Rattle.pointwise.proofs.apply_fade_in.Statement.{statement}
+use Rattle.pointwise.proofs.apply_fade_in.Tie as tie
 
 is-finite-requires : tie.Need-is-finite-requires
 is-finite-requires c κs = search needs

@@ -1,12 +1,12 @@
 use Rattle.points.specs.Laws.{and-both}
 use Rattle.points.proofs.Good.{places}
-use Rattle.edits.specs.Each.{fadedOutAll}
-use Rattle.edits.specs.Finish.{fadedOutPlaces}
-use Rattle.edits.proofs.Ends.{ends-kept}
-use Rattle.edits.proofs.Fades.{faded-out-holding, faded-out-length}
+use Rattle.settle.proofs.Ends.{ends-kept}
+use Rattle.pointwise.specs.Each.{fadedOutAll}
+use Rattle.pointwise.specs.Places.{fadedOutPlaces}
+use Rattle.pointwise.proofs.Fades.{faded-out-holding, faded-out-length}
 use borrow.Author.Needs.{needs}
-use Rattle.edits.proofs.each.apply_fade_out.Statement.{statement}
-use Rattle.edits.proofs.each.apply_fade_out.Tie as tie
+use Rattle.pointwise.proofs.apply_fade_out.Statement.{statement}
+use Rattle.pointwise.proofs.apply_fade_out.Tie as tie
 
 is-finite-requires : tie.Need-is-finite-requires
 is-finite-requires c κs = search needs

@@ -1,13 +1,13 @@
 use mathlib.Core.Path.{ap, _∙_}
 use Rattle.points.specs.Laws.{and-both}
 use Rattle.points.proofs.Good.{places}
-use Rattle.edits.specs.Each.{fadedInAll, fadedOutAll}
-use Rattle.edits.specs.Finish.{fadedInPlaces, fadedOutPlaces}
-use Rattle.edits.proofs.Ends.{ends-kept}
-use Rattle.edits.proofs.Fades.{fades-holding, fades-length}
+use Rattle.settle.proofs.Ends.{ends-kept}
+use Rattle.pointwise.specs.Each.{fadedInAll, fadedOutAll}
+use Rattle.pointwise.specs.Places.{fadedInPlaces, fadedOutPlaces}
+use Rattle.pointwise.proofs.Fades.{fades-holding, fades-length}
 use borrow.Author.Needs.{needs}
-use Rattle.edits.proofs.each.apply_fades.Statement.{statement}
-use Rattle.edits.proofs.each.apply_fades.Tie as tie
+use Rattle.pointwise.proofs.apply_fades.Statement.{statement}
+use Rattle.pointwise.proofs.apply_fades.Tie as tie
 
 is-finite-requires : tie.Need-is-finite-requires
 is-finite-requires c κs = search needs

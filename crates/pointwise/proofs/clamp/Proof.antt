@@ -1,6 +1,6 @@
-use Rattle.edits.specs.Each.{clampedTo}
-use Rattle.edits.proofs.each.clamp.Statement.{statement}
-use Rattle.edits.proofs.each.clamp.Tie as tie
+use Rattle.pointwise.specs.Each.{clampedTo}
+use Rattle.pointwise.proofs.clamp.Statement.{statement}
+use Rattle.pointwise.proofs.clamp.Tie as tie
 
 returns : tie.Need-returns
 unfolding clampedTo

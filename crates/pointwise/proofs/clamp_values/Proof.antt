@@ -4,13 +4,13 @@ use mathlib.Core.List.{map}
 use mathlib.Core.Logic.{⊎-elim}
 use Rattle.points.specs.Points.{listOf}
 use Rattle.points.specs.Laws.{and-both}
-use Rattle.edits.specs.Settle.{editPoints}
-use Rattle.edits.specs.Each.{changed, clampedEdit}
-use Rattle.edits.specs.declared.each.Change.the-variants.{Clamp}
-use Rattle.edits.proofs.Clamped.{in-order, not-finite, invalid}
+use Rattle.settle.specs.Settle.{editPoints}
+use Rattle.pointwise.specs.Each.{changed, clampedEdit}
+use Rattle.pointwise.specs.declared.Change.the-variants.{Clamp}
+use Rattle.pointwise.proofs.Clamped.{in-order, not-finite, invalid}
 use borrow.Author.Needs.{needs}
-use Rattle.edits.proofs.each.clamp_values.Statement.{statement}
-use Rattle.edits.proofs.each.clamp_values.Tie as tie
+use Rattle.pointwise.proofs.clamp_values.Statement.{statement}
+use Rattle.pointwise.proofs.clamp_values.Tie as tie
 
 is-finitef-requires : tie.Need-is-finitef-requires
 is-finitef-requires c κs = search needs

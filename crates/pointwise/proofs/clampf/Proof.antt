@@ -1,6 +1,6 @@
-use Rattle.edits.specs.Each.{clampedTo}
-use Rattle.edits.proofs.each.clampf.Statement.{statement}
-use Rattle.edits.proofs.each.clampf.Tie as tie
+use Rattle.pointwise.specs.Each.{clampedTo}
+use Rattle.pointwise.proofs.clampf.Statement.{statement}
+use Rattle.pointwise.proofs.clampf.Tie as tie
 
 returns : tie.Need-returns
 unfolding clampedTo

@@ -1,6 +1,6 @@
-use Rattle.edits.specs.Each.{compressed}
-use Rattle.edits.proofs.each.compressed.Statement.{statement}
-use Rattle.edits.proofs.each.compressed.Tie as tie
+use Rattle.pointwise.specs.Each.{compressed}
+use Rattle.pointwise.proofs.compressed.Statement.{statement}
+use Rattle.pointwise.proofs.compressed.Tie as tie
 
 returns : tie.Need-returns
 unfolding compressed

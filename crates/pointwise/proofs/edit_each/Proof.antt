@@ -1,10 +1,10 @@
 use mathlib.Core.Path.{refl}
 use Rattle.points.proofs.Good.{places}
-use Rattle.edits.specs.Each.{changed}
-use Rattle.edits.proofs.Ends.{ends-each}
+use Rattle.pointwise.specs.Each.{changed}
+use Rattle.pointwise.proofs.Mapped.{ends-each}
 use borrow.Author.Needs.{needs}
-use Rattle.edits.proofs.each.edit_each.Statement.{statement}
-use Rattle.edits.proofs.each.edit_each.Tie as tie
+use Rattle.pointwise.proofs.edit_each.Statement.{statement}
+use Rattle.pointwise.proofs.edit_each.Tie as tie
 
 map-points-requires : tie.Need-map-points-requires
 map-points-requires c κs = search needs

@@ -1,9 +1,9 @@
 use mathlib.Core.Path.{ap, _∙_}
 use Rattle.numbers.specs.Narrow.{narrow}
-use Rattle.edits.specs.Each.{fadeFraction}
+use Rattle.pointwise.specs.Each.{fadeFraction}
 use borrow.Author.Needs.{needs}
-use Rattle.edits.proofs.each.fade_fraction.Statement.{statement}
-use Rattle.edits.proofs.each.fade_fraction.Tie as tie
+use Rattle.pointwise.proofs.fade_fraction.Statement.{statement}
+use Rattle.pointwise.proofs.fade_fraction.Tie as tie
 
 clamp-requires : tie.Need-clamp-requires
 clamp-requires c κs = search needs

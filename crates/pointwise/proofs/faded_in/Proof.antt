@@ -1,7 +1,7 @@
-use Rattle.edits.specs.Each.{fadedIn}
+use Rattle.pointwise.specs.Each.{fadedIn}
 use borrow.Author.Needs.{needs}
-use Rattle.edits.proofs.each.faded_in.Statement.{statement}
-use Rattle.edits.proofs.each.faded_in.Tie as tie
+use Rattle.pointwise.proofs.faded_in.Statement.{statement}
+use Rattle.pointwise.proofs.faded_in.Tie as tie
 
 fade-fraction-requires : tie.Need-fade-fraction-requires
 fade-fraction-requires c κs = search needs

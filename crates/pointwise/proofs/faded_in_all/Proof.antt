@@ -1,11 +1,11 @@
 use mathlib.Core.Path.{ap, _∙_}
 use lib.Ieee.{Float}
-use Rattle.edits.specs.Finish.{mappedIn}
-use Rattle.edits.specs.Each.{changed}
-use Rattle.edits.specs.declared.each.Change.the-variants.{FadeIn}
+use Rattle.pointwise.specs.Places.{mappedIn}
+use Rattle.pointwise.specs.Each.{changed}
+use Rattle.pointwise.specs.declared.Change.the-variants.{FadeIn}
 use borrow.Author.Needs.{needs}
-use Rattle.edits.proofs.each.faded_in_all.Statement.{statement}
-use Rattle.edits.proofs.each.faded_in_all.Tie as tie
+use Rattle.pointwise.proofs.faded_in_all.Statement.{statement}
+use Rattle.pointwise.proofs.faded_in_all.Tie as tie
 
 returns : tie.Need-returns
 returns c = rw (c .if1 .taken)

@@ -1,7 +1,7 @@
-use Rattle.edits.specs.Each.{fadedOut}
+use Rattle.pointwise.specs.Each.{fadedOut}
 use borrow.Author.Needs.{needs}
-use Rattle.edits.proofs.each.faded_out.Statement.{statement}
-use Rattle.edits.proofs.each.faded_out.Tie as tie
+use Rattle.pointwise.proofs.faded_out.Statement.{statement}
+use Rattle.pointwise.proofs.faded_out.Tie as tie
 
 fade-fraction-requires : tie.Need-fade-fraction-requires
 fade-fraction-requires c κs = search needs

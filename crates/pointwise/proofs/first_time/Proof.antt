@@ -1,8 +1,8 @@
 use Rattle.points.proofs.Good.{places}
-use Rattle.edits.proofs.Times.{first-is}
+use Rattle.pointwise.proofs.Times.{first-is}
 use borrow.Author.Needs.{needs}
-use Rattle.edits.proofs.each.first_time.Statement.{statement}
-use Rattle.edits.proofs.each.first_time.Tie as tie
+use Rattle.pointwise.proofs.first_time.Statement.{statement}
+use Rattle.pointwise.proofs.first_time.Tie as tie
 
 returns : tie.Need-returns
 returns c = search needs

@@ -1,6 +1,6 @@
-use Rattle.edits.specs.Each.{gated}
-use Rattle.edits.proofs.each.gated.Statement.{statement}
-use Rattle.edits.proofs.each.gated.Tie as tie
+use Rattle.pointwise.specs.Each.{gated}
+use Rattle.pointwise.proofs.gated.Statement.{statement}
+use Rattle.pointwise.proofs.gated.Tie as tie
 
 returns : tie.Need-returns
 unfolding gated

@@ -1,6 +1,6 @@
 use borrow.Author.Needs.{needs}
-use Rattle.edits.proofs.each.invert_values.Statement.{statement}
-use Rattle.edits.proofs.each.invert_values.Tie as tie
+use Rattle.pointwise.proofs.invert_values.Statement.{statement}
+use Rattle.pointwise.proofs.invert_values.Tie as tie
 
 is-finitef-requires : tie.Need-is-finitef-requires
 is-finitef-requires c κs = search needs

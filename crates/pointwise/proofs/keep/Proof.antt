@@ -1,9 +1,9 @@
 use mathlib.Core.Path.{refl}
 use Rattle.points.proofs.Good.{places}
-use Rattle.edits.proofs.Ends.{ends-same}
+use Rattle.settle.proofs.Ends.{ends-same}
 use borrow.Author.Needs.{needs}
-use Rattle.edits.proofs.each.keep.Statement.{statement}
-use Rattle.edits.proofs.each.keep.Tie as tie
+use Rattle.pointwise.proofs.keep.Statement.{statement}
+use Rattle.pointwise.proofs.keep.Tie as tie
 
 finish-requires : tie.Need-finish-requires
 finish-requires c κs = search needs

@@ -1,8 +1,8 @@
 use Rattle.points.proofs.Good.{places}
-use Rattle.edits.proofs.Times.{last-none, last-is}
+use Rattle.pointwise.proofs.Times.{last-none, last-is}
 use borrow.Author.Needs.{needs}
-use Rattle.edits.proofs.each.last_time.Statement.{statement}
-use Rattle.edits.proofs.each.last_time.Tie as tie
+use Rattle.pointwise.proofs.last_time.Statement.{statement}
+use Rattle.pointwise.proofs.last_time.Tie as tie
 
 used-requires : tie.Need-used-requires
 used-requires c κs = search needs

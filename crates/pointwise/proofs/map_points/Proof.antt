@@ -2,11 +2,11 @@ use Prim.Native.Nat.{_≤_, _-_}
 use mathlib.Core.Path.{_≡_, refl, _∙_}
 use native.Mathlib.Omega.{arith}
 use Rattle.points.proofs.Good.{places}
-use Rattle.edits.specs.Each.{changed}
-use Rattle.edits.proofs.Lists.{mapUpTo}
-use Rattle.edits.proofs.Ends.{map-turn, map-end}
-use Rattle.edits.proofs.each.map_points.Statement.{statement}
-use Rattle.edits.proofs.each.map_points.Tie as tie
+use Rattle.pointwise.specs.Each.{changed}
+use Rattle.pointwise.proofs.Mapped.{mapUpTo}
+use Rattle.pointwise.proofs.Mapped.{map-turn, map-end}
+use Rattle.pointwise.proofs.map_points.Statement.{statement}
+use Rattle.pointwise.proofs.map_points.Tie as tie
 
 abbrev Inv-loop : tie.InvT-loop
 Inv-loop change points₀ n i₀ points i = (i ≤ n) × (points ≡ record { count = points₀ .count; places = mapUpTo (changed change) i (points₀ .places) })

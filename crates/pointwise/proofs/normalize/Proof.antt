@@ -1,6 +1,6 @@
 use borrow.Author.Needs.{needs}
-use Rattle.edits.proofs.each.normalize.Statement.{statement}
-use Rattle.edits.proofs.each.normalize.Tie as tie
+use Rattle.pointwise.proofs.normalize.Statement.{statement}
+use Rattle.pointwise.proofs.normalize.Tie as tie
 
 is-finitef-requires : tie.Need-is-finitef-requires
 is-finitef-requires c κs = search needs

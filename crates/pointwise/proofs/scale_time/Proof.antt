@@ -1,6 +1,6 @@
 use borrow.Author.Needs.{needs}
-use Rattle.edits.proofs.each.scale_time.Statement.{statement}
-use Rattle.edits.proofs.each.scale_time.Tie as tie
+use Rattle.pointwise.proofs.scale_time.Statement.{statement}
+use Rattle.pointwise.proofs.scale_time.Tie as tie
 
 is-finite-requires : tie.Need-is-finite-requires
 is-finite-requires c κs = search needs

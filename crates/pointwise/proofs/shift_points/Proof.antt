@@ -1,6 +1,6 @@
 use borrow.Author.Needs.{needs}
-use Rattle.edits.proofs.each.shift_points.Statement.{statement}
-use Rattle.edits.proofs.each.shift_points.Tie as tie
+use Rattle.pointwise.proofs.shift_points.Statement.{statement}
+use Rattle.pointwise.proofs.shift_points.Tie as tie
 
 is-finite-requires : tie.Need-is-finite-requires
 is-finite-requires c κs = search needs

@@ -7,10 +7,10 @@ use Rattle.numbers.specs.Bounds.{minNum, maxNum}
 use Rattle.points.specs.Point.{anyPoint}
 use Rattle.points.specs.Laws.{take-min}
 use Rattle.points.proofs.Good.{places}
-use Rattle.edits.specs.Each.{lowestValue, highestValue}
-use Rattle.edits.proofs.Lists.{fold-more}
-use Rattle.edits.proofs.each.value_range.Statement.{statement}
-use Rattle.edits.proofs.each.value_range.Tie as tie
+use Rattle.settle.proofs.Lists.{fold-more}
+use Rattle.pointwise.specs.Each.{lowestValue, highestValue}
+use Rattle.pointwise.proofs.value_range.Statement.{statement}
+use Rattle.pointwise.proofs.value_range.Tie as tie
 
 abbrev Inv-loop : tie.InvT-loop
 Inv-loop points n low₀ high₀ i₀ low high i = (i ≤ n) × (low ≡ lowestValue (take i (points .places))) × (high ≡ highestValue (take i (points .places)))

@@ -1,8 +1,8 @@
 use mathlib.Core.Path.{ap, _∙_}
-use Rattle.edits.specs.Each.{withValue}
+use Rattle.pointwise.specs.Each.{withValue}
 use borrow.Author.Needs.{needs}
-use Rattle.edits.proofs.each.Change.apply.Statement.{statement}
-use Rattle.edits.proofs.each.Change.apply.Tie as tie
+use Rattle.pointwise.proofs.Change.apply.Statement.{statement}
+use Rattle.pointwise.proofs.Change.apply.Tie as tie
 
 enum-known-self : tie.Need-enum-known-self
 enum-known-self c = search needs

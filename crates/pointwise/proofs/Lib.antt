@@ -1,0 +1,4 @@
+pub mod Mapped
+pub mod Times
+pub mod Fades
+pub mod Clamped
