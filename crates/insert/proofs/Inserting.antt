@@ -16,10 +16,10 @@ use Rattle.points.specs.ValidLaws.{listOf-holding}
 use Rattle.points.specs.Search.{placeBy, place-bound, place-at}
 use Rattle.points.specs.declared.AutomationPoint.{AutomationPoint}
 use Rattle.points.specs.declared.Points.{Points}
-use Rattle.edits.specs.Insert.{insertPoint, insertAll}
-use Rattle.edits.specs.Inserted.{Sorted}
-use Rattle.edits.proofs.Lists.{fold-more}
-use Rattle.edits.proofs.Ends.{pushed}
+use Rattle.settle.proofs.Lists.{fold-more}
+use Rattle.settle.proofs.Ends.{pushed}
+use Rattle.insert.specs.Insert.{insertPoint, insertAll}
+use Rattle.insert.specs.Inserted.{Sorted}
 
 -- ---- any element: a place that opens in a list
 

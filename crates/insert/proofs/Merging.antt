@@ -22,12 +22,13 @@ use Rattle.points.specs.declared.AutomationPoint.{AutomationPoint}
 use Rattle.points.specs.declared.Points.{Points}
 use Rattle.points.specs.declared.refusal.Refusal.the-variants.{NotValid, NotFinite, TooManyPoints}
 use Rattle.points.specs.declared.refusal.Answer.the-variants.{Accepted}
-use Rattle.edits.specs.Settle.{refused, settle, editPoints}
-use Rattle.edits.specs.Each.{zero64, zero32, one32, changed}
-use Rattle.edits.specs.Insert.{insertPoint, insertAll, merged, mergedPoints, pointWith, rampList, pulseList}
-use Rattle.edits.specs.Inserted.{Sorted}
-use Rattle.edits.specs.declared.each.Change.the-variants.{Shift}
-use Rattle.edits.proofs.Inserting.{every-all}
+use Rattle.settle.specs.Settle.{refused, settle, editPoints}
+use Rattle.settle.specs.NewPoint.{pointWith}
+use Rattle.pointwise.specs.Each.{zero64, zero32, one32, changed}
+use Rattle.pointwise.specs.declared.Change.the-variants.{Shift}
+use Rattle.insert.specs.Insert.{insertPoint, insertAll, merged, mergedPoints, rampList, pulseList}
+use Rattle.insert.specs.Inserted.{Sorted}
+use Rattle.insert.proofs.Inserting.{every-all}
 
 -- ---- the refusals, one by one
 

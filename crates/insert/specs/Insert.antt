@@ -10,11 +10,11 @@ use Rattle.points.specs.Points.{timeKey, listOf, validPoints}
 use Rattle.points.specs.declared.AutomationPoint.{AutomationPoint}
 use Rattle.points.specs.declared.Points.{Points}
 use Rattle.points.specs.declared.refusal.Refusal.the-variants.{NotValid}
-use Rattle.points.specs.declared.SamplePosition.the-variants as position
-use Rattle.edits.specs.declared.each.Change.the-variants.{Shift}
-use Rattle.edits.specs.declared.EditedPoints.{EditedPoints}
-use Rattle.edits.specs.Settle.{refused, editPoints}
-use Rattle.edits.specs.Each.{zero64, zero32, one32, changed}
+use Rattle.settle.specs.declared.EditedPoints.{EditedPoints}
+use Rattle.settle.specs.Settle.{refused, editPoints}
+use Rattle.settle.specs.NewPoint.{pointWith}
+use Rattle.pointwise.specs.declared.Change.the-variants.{Shift}
+use Rattle.pointwise.specs.Each.{zero64, zero32, one32, changed}
 
 -- "`add_point` replaces only at bit-equal time; otherwise it inserts"
 unfoldable pub insertPoint : AutomationPoint → List AutomationPoint → List AutomationPoint
@@ -34,10 +34,6 @@ merged l other offset = foldl (λ made p. insertPoint (changed (Shift offset) p)
 -- merge's refusals: 1 where either isn't valid, then those of an edit that makes this list
 unfoldable pub mergedPoints : Points → Points → Float → EditedPoints
 mergedPoints ps other offset = cond (validPoints other) (editPoints ps (finite offset) (merged (listOf ps) (listOf other) offset)) (refused ps NotValid)
-
--- 000's `AutomationPoint::with_curve`
-abbrev pub pointWith : Float → Float → CurveType → AutomationPoint
-pointWith time value c = record { time = time; «sample_position» = position.None; value = value; curve = c }
 
 -- fade_in, fade_out and ramp: from one value at 0 to another at the duration
 abbrev pub rampList : Float → Float → Float → CurveType → List AutomationPoint

@@ -8,8 +8,8 @@ use lib.ListN.{length}
 use Rattle.points.specs.Points.{rising, listOf, holding}
 use Rattle.points.specs.declared.AutomationPoint.{AutomationPoint}
 use Rattle.points.specs.declared.Points.{Points}
-use Rattle.edits.specs.Insert.{insertAll}
-use Rattle.edits.specs.declared.insert.Inserted.{Inserted}
+use Rattle.insert.specs.Insert.{insertAll}
+use Rattle.insert.specs.declared.Inserted.{Inserted}
 
 -- points that rise, in their places
 pub record Sorted (ps : Points) : Type 0 where

@@ -1,4 +1,4 @@
-// The edits that put points in.
+// The edits of 000 that put points in. Source: envelope.rs (000).
 ghost use mathlib.Core.Path.{_≡_};
 ghost use mathlib.Core.Bool.{true, _&&_};
 ghost use mathlib.Core.List.{[], _∷_};
@@ -6,20 +6,21 @@ ghost use Rattle.numbers.specs.Bounds.{finite};
 ghost use Rattle.curve.specs.Curve.{finiteControls};
 ghost use Rattle.points.specs.Point.{finitePoint};
 ghost use Rattle.points.specs.Points.{every, listOf, holding, validPoints};
-ghost use Rattle.edits.specs.Settle.{settle, editPoints};
-ghost use Rattle.edits.specs.Each.{zero32, one32};
-ghost use Rattle.edits.specs.Insert.{insertPoint, insertAll, mergedPoints, pointWith, rampList, pulseList};
-ghost use Rattle.edits.specs.Inserted.{Sorted, Inserts};
-use crate::EditedPoints;
-use crate::each::Change;
-use crate::each::map_points;
-use crate::finish::refuse;
+ghost use Rattle.settle.specs.Settle.{settle, editPoints};
+ghost use Rattle.settle.specs.NewPoint.{pointWith};
+ghost use Rattle.pointwise.specs.Each.{zero32, one32};
+ghost use Rattle.insert.specs.Insert.{insertPoint, insertAll, mergedPoints, rampList, pulseList};
+ghost use Rattle.insert.specs.Inserted.{Sorted, Inserts};
 use curve::CurveType;
 use points::AutomationPoint;
 use points::Points;
 use points::SamplePosition;
 use points::refusal::Answer;
 use points::refusal::Refusal;
+use pointwise::Change;
+use pointwise::map_points;
+use settle::EditedPoints;
+use settle::refuse;
 
 struct Inserted {
     // whether there was a place for each

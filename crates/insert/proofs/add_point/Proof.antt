@@ -6,12 +6,12 @@ use Rattle.points.specs.Point.{finitePoint}
 use Rattle.points.specs.Points.{listOf, every}
 use Rattle.points.specs.Laws.{every-one}
 use Rattle.points.specs.ValidLaws.{listOf-holding}
-use Rattle.edits.specs.Settle.{settle}
-use Rattle.edits.specs.Insert.{insertPoint, insertAll}
-use Rattle.edits.proofs.Merging.{not-valid, not-finite, settled}
+use Rattle.settle.specs.Settle.{settle}
+use Rattle.insert.specs.Insert.{insertPoint, insertAll}
+use Rattle.insert.proofs.Merging.{not-valid, not-finite, settled}
 use borrow.Author.Needs.{needs}
-use Rattle.edits.proofs.insert.add_point.Statement.{statement}
-use Rattle.edits.proofs.insert.add_point.Tie as tie
+use Rattle.insert.proofs.add_point.Statement.{statement}
+use Rattle.insert.proofs.add_point.Tie as tie
 
 is-valid-requires : tie.Need-is-valid-requires
 is-valid-requires c κs = search needs

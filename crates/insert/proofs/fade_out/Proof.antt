@@ -4,12 +4,12 @@ use lib.Ieee.{ofBits}
 use Rattle.numbers.specs.Bounds.{finite}
 use Rattle.curve.specs.Curve.{finiteControls}
 use Rattle.points.specs.Laws.{and-true}
-use Rattle.edits.specs.Settle.{editPoints}
-use Rattle.edits.specs.Each.{zero32, one32}
-use Rattle.edits.specs.Insert.{rampList}
+use Rattle.settle.specs.Settle.{editPoints}
+use Rattle.pointwise.specs.Each.{zero32, one32}
+use Rattle.insert.specs.Insert.{rampList}
 use borrow.Author.Needs.{needs}
-use Rattle.edits.proofs.insert.fade_out.Statement.{statement}
-use Rattle.edits.proofs.insert.fade_out.Tie as tie
+use Rattle.insert.proofs.fade_out.Statement.{statement}
+use Rattle.insert.proofs.fade_out.Tie as tie
 
 ramp-requires : tie.Need-ramp-requires
 ramp-requires c κs = search needs

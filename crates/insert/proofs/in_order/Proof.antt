@@ -8,12 +8,12 @@ use Rattle.points.specs.declared.AutomationPoint.{AutomationPoint}
 use Rattle.points.specs.Points.{listOf, holding, risingBy}
 use Rattle.points.specs.ValidLaws.{listOf-holding}
 use Rattle.points.proofs.Good.{places}
-use Rattle.edits.specs.Insert.{insertAll}
-use Rattle.edits.proofs.Ends.{listOf-few}
-use Rattle.edits.proofs.Inserting.{sorted-holding, all-few, rising-inserts}
+use Rattle.settle.proofs.Ends.{listOf-few}
+use Rattle.insert.specs.Insert.{insertAll}
+use Rattle.insert.proofs.Inserting.{sorted-holding, all-few, rising-inserts}
 use borrow.Author.Needs.{needs}
-use Rattle.edits.proofs.insert.in_order.Statement.{statement}
-use Rattle.edits.proofs.insert.in_order.Tie as tie
+use Rattle.insert.proofs.in_order.Statement.{statement}
+use Rattle.insert.proofs.in_order.Tie as tie
 
 times-rise-requires : tie.Need-times-rise-requires
 times-rise-requires c κs = search needs

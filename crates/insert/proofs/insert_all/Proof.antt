@@ -10,11 +10,11 @@ use Rattle.points.specs.Point.{anyPoint}
 use Rattle.points.specs.Points.{listOf, holding, timeKey}
 use Rattle.points.specs.Search.{lower-up-to}
 use Rattle.points.proofs.Good.{places}
-use Rattle.edits.specs.Insert.{insertAll}
-use Rattle.edits.specs.Inserted.{Sorted}
-use Rattle.edits.proofs.Inserting.{shifted, shift-start, shift-turn, sorted-places, search-end, add-same, same-few, add-last, add-between, new-long, insert-turn, insert-full}
-use Rattle.edits.proofs.insert.insert_all.Statement.{statement}
-use Rattle.edits.proofs.insert.insert_all.Tie as tie
+use Rattle.insert.specs.Insert.{insertAll}
+use Rattle.insert.specs.Inserted.{Sorted}
+use Rattle.insert.proofs.Inserting.{shifted, shift-start, shift-turn, sorted-places, search-end, add-same, same-few, add-last, add-between, new-long, insert-turn, insert-full}
+use Rattle.insert.proofs.insert_all.Statement.{statement}
+use Rattle.insert.proofs.insert_all.Tie as tie
 
 abbrev Inv-loop2 : tie.InvT-loop2
 Inv-loop2 points new m i p key n lo₀ hi₀ lo hi = (lo ≤ hi) × (hi ≤ n) × ((j : ℕ) → j < lo → timeKey (getD (points .places) j anyPoint) < key) × (hi < n → key ≤ timeKey (getD (points .places) hi anyPoint))

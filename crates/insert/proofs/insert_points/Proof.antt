@@ -6,13 +6,13 @@ use Rattle.points.specs.Point.{finitePoint}
 use Rattle.points.specs.Points.{listOf, every, rising}
 use Rattle.points.specs.ValidLaws.{valid-finite, valid-rising}
 use Rattle.points.proofs.Good.{places}
-use Rattle.edits.specs.Insert.{insertAll}
-use Rattle.edits.specs.declared.EditedPoints.{EditedPoints}
-use Rattle.edits.proofs.Inserting.{every-all, rising-all}
-use Rattle.edits.proofs.Merging.{room, no-room, valid-sorted}
+use Rattle.settle.specs.declared.EditedPoints.{EditedPoints}
+use Rattle.insert.specs.Insert.{insertAll}
+use Rattle.insert.proofs.Inserting.{every-all, rising-all}
+use Rattle.insert.proofs.Merging.{room, no-room, valid-sorted}
 use borrow.Author.Needs.{needs}
-use Rattle.edits.proofs.insert.insert_points.Statement.{statement}
-use Rattle.edits.proofs.insert.insert_points.Tie as tie
+use Rattle.insert.proofs.insert_points.Statement.{statement}
+use Rattle.insert.proofs.insert_points.Tie as tie
 
 insert-all-requires : tie.Need-insert-all-requires
 insert-all-requires c κs = valid-sorted (c .args .points) (c .pre .0) (places (c .args .points) _ (c .good .0))

@@ -6,15 +6,15 @@ use Rattle.points.specs.Point.{finitePoint}
 use Rattle.points.specs.Points.{listOf, every, validPoints}
 use Rattle.points.specs.ValidLaws.{valid-finite}
 use Rattle.points.proofs.Good.{places}
-use Rattle.edits.specs.Settle.{settle}
-use Rattle.edits.specs.Each.{changed}
-use Rattle.edits.specs.Insert.{insertAll, merged}
-use Rattle.edits.specs.declared.each.Change.the-variants.{Shift}
-use Rattle.edits.proofs.Kept.{mapped-list}
-use Rattle.edits.proofs.Merging.{not-finite, settled, bad-result, merged-is, merge-bad, merge-invalid, merge-other, merge-valid}
+use Rattle.settle.specs.Settle.{settle}
+use Rattle.pointwise.specs.Each.{changed}
+use Rattle.pointwise.specs.declared.Change.the-variants.{Shift}
+use Rattle.pointwise.proofs.Mapped.{mapped-list}
+use Rattle.insert.specs.Insert.{insertAll, merged}
+use Rattle.insert.proofs.Merging.{not-finite, settled, bad-result, merged-is, merge-bad, merge-invalid, merge-other, merge-valid}
 use borrow.Author.Needs.{needs}
-use Rattle.edits.proofs.insert.merge.Statement.{statement}
-use Rattle.edits.proofs.insert.merge.Tie as tie
+use Rattle.insert.proofs.merge.Statement.{statement}
+use Rattle.insert.proofs.merge.Tie as tie
 
 is-valid-requires : tie.Need-is-valid-requires
 is-valid-requires c κs = search needs

@@ -2,8 +2,8 @@ use mathlib.Core.Path.{ap}
 use lib.ListN.{set}
 use Rattle.points.specs.declared.Points.{Points}
 use borrow.Author.Needs.{needs}
-use Rattle.edits.proofs.insert.one.Statement.{statement}
-use Rattle.edits.proofs.insert.one.Tie as tie
+use Rattle.insert.proofs.one.Statement.{statement}
+use Rattle.insert.proofs.one.Tie as tie
 
 none-requires : tie.Need-none-requires
 none-requires c κs = search needs

@@ -3,10 +3,10 @@ use native.Mathlib.Omega.{arith}
 use lib.ListN.{set}
 use Rattle.points.specs.declared.Points.{Points}
 use Rattle.points.specs.Points.{holding}
-use Rattle.edits.proofs.Merging.{pair-up, pair-same, pair-down}
+use Rattle.insert.proofs.Merging.{pair-up, pair-same, pair-down}
 use borrow.Author.Needs.{needs}
-use Rattle.edits.proofs.insert.pair.Statement.{statement}
-use Rattle.edits.proofs.insert.pair.Tie as tie
+use Rattle.insert.proofs.pair.Statement.{statement}
+use Rattle.insert.proofs.pair.Tie as tie
 
 none-requires : tie.Need-none-requires
 none-requires c κs = search needs

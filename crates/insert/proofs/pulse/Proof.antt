@@ -12,13 +12,14 @@ use Rattle.points.specs.Point.{finitePoint}
 use Rattle.points.specs.Points.{listOf, holding, risingBy}
 use Rattle.points.specs.Laws.{and-both}
 use Rattle.points.specs.ValidLaws.{listOf-holding}
-use Rattle.edits.specs.Each.{zero64, zero32, one32}
-use Rattle.edits.specs.Insert.{insertAll, pointWith, pulseList}
-use Rattle.edits.proofs.Inserting.{holding-own, all-few, rising-all}
-use Rattle.edits.proofs.Merging.{not-valid, made-new, any-three, pulse-fine}
+use Rattle.settle.specs.NewPoint.{pointWith}
+use Rattle.pointwise.specs.Each.{zero64, zero32, one32}
+use Rattle.insert.specs.Insert.{insertAll, pulseList}
+use Rattle.insert.proofs.Inserting.{holding-own, all-few, rising-all}
+use Rattle.insert.proofs.Merging.{not-valid, made-new, any-three, pulse-fine}
 use borrow.Author.Needs.{needs}
-use Rattle.edits.proofs.insert.pulse.Statement.{statement}
-use Rattle.edits.proofs.insert.pulse.Tie as tie
+use Rattle.insert.proofs.pulse.Statement.{statement}
+use Rattle.insert.proofs.pulse.Tie as tie
 
 is-finite-requires : tie.Need-is-finite-requires
 is-finite-requires c κs = search needs

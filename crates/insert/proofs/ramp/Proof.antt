@@ -8,13 +8,14 @@ use Rattle.curve.specs.Curve.{finiteControls}
 use Rattle.curve.specs.declared.CurveType.the-variants.{Linear}
 use Rattle.points.specs.Points.{holding, risingBy}
 use Rattle.points.specs.Laws.{and-both}
-use Rattle.edits.specs.Each.{zero64}
-use Rattle.edits.specs.Insert.{insertAll, pointWith, rampList}
-use Rattle.edits.proofs.Inserting.{all-few, rising-all}
-use Rattle.edits.proofs.Merging.{not-valid, made-new, any-three, ramp-fine}
+use Rattle.settle.specs.NewPoint.{pointWith}
+use Rattle.pointwise.specs.Each.{zero64}
+use Rattle.insert.specs.Insert.{insertAll, rampList}
+use Rattle.insert.proofs.Inserting.{all-few, rising-all}
+use Rattle.insert.proofs.Merging.{not-valid, made-new, any-three, ramp-fine}
 use borrow.Author.Needs.{needs}
-use Rattle.edits.proofs.insert.ramp.Statement.{statement}
-use Rattle.edits.proofs.insert.ramp.Tie as tie
+use Rattle.insert.proofs.ramp.Statement.{statement}
+use Rattle.insert.proofs.ramp.Tie as tie
 
 is-finite-requires : tie.Need-is-finite-requires
 is-finite-requires c κs = search needs
