@@ -2,7 +2,7 @@
 use Prim.Native.Nat.{ℕ, zero, suc, _+_, _-_, _≤_, _<_, zero-le, suc-le-suc}
 use mathlib.Core.Path.{_≡_, refl, sym, ap, _∙_}
 use mathlib.Core.Bool.{Bool, true, false, cond, not, _&&_, false≢true}
-use mathlib.Core.List.{List, [], _∷_, _++_, map, append-nil, reverse, reverse-cons}
+use mathlib.Core.List.{List, [], _∷_, _++_, append-nil, reverse, reverse-cons}
 use native.Mathlib.Numerals.{add-one}
 use native.Mathlib.Nat.{le-of-suc-le-suc, not-suc-le-zero}
 use native.Mathlib.Omega.{arith}
@@ -11,15 +11,11 @@ use lib.Ieee.{Float}
 use lib.ListN.{length, take, getD, length-append}
 use lib.Seq.{take-suc}
 use borrow.Author.Tests.{eqb-true, not-true}
-use Rattle.points.specs.Points.{every, timeKey, listOf, validPoints}
+use Rattle.points.specs.Points.{every, timeKey}
 use Rattle.points.specs.Laws.{and-left, and-right}
 use Rattle.points.specs.Middles.{middles, keep-cons, keep-one}
-use Rattle.points.specs.ValidLaws.{listOf-holding, holding-listOf}
 use Rattle.points.specs.declared.AutomationPoint.{AutomationPoint}
-use Rattle.points.specs.declared.Points.{Points}
-use Rattle.edits.specs.Finish.{mappedIn}
-use Rattle.edits.specs.Shape.{keepIf, removeFirst, firstsAfter, firsts, differs, innerKept, simplified}
-use Rattle.edits.proofs.Ends.{mapped-holding}
+use Rattle.shape.specs.Shape.{keepIf, removeFirst, firstsAfter, firsts, differs, innerKept, simplified}
 
 -- a search that goes on while none has passed: the first is found
 pub none-here : (a b : Bool) → (a && b) ≡ true → false ≡ (a && not b)
@@ -207,11 +203,6 @@ inner-bound t p (q ∷ (r ∷ l)) = keep-one (differs t p q r) q (innerKept t (q
 pub simplified-bound : (t : Float) (l : List AutomationPoint) → length (simplified t l) ≤ length l
 simplified-bound t [] = zero-le
 simplified-bound t (p ∷ l) = suc-le-suc (inner-bound t p l)
-
--- ---- the points changed in their places, as a list
-
-pub mapped-list : (f : AutomationPoint → AutomationPoint) (ps : Points) → validPoints ps ≡ true → length (ps .places) ≡ 256 → listOf (mappedIn f ps) ≡ map f (listOf ps)
-mapped-list f ps v len = ap (λ (x : Points). listOf (mappedIn f x)) (sym (holding-listOf ps v len)) ∙ ap listOf (mapped-holding f (listOf ps)) ∙ listOf-holding (map f (listOf ps))
 
 pub reverse-long : {A : Type 0} (l : List A) → length (reverse l) ≡ length l
 reverse-long [] = refl

@@ -1,5 +1,5 @@
 -- The edits that change which points there are, as 000 has them.
-use mathlib.Core.Bool.{Bool, true, false, cond, _&&_}
+use mathlib.Core.Bool.{Bool, cond, _&&_}
 use mathlib.Core.List.{List, [], _∷_, map, reverse}
 use lib.Dec.{eqb}
 use lib.Ieee.{Float, binary32, binary64, sub, div, lt, le, ofBits}
@@ -8,8 +8,8 @@ use Rattle.curve.specs.Curve.{interpolated}
 use Rattle.points.specs.Point.{abs}
 use Rattle.points.specs.Points.{timeKey}
 use Rattle.points.specs.declared.AutomationPoint.{AutomationPoint}
-use Rattle.edits.specs.declared.each.Change.the-variants.{Reflect, Quantize}
-use Rattle.edits.specs.Each.{zero64, changed, lastTime}
+use Rattle.pointwise.specs.declared.Change.the-variants.{Reflect, Quantize}
+use Rattle.pointwise.specs.Each.{zero64, changed, lastTime}
 
 -- the elements that pass a test
 unfoldable pub keepIf : {A : Type 0} → (A → Bool) → List A → List A

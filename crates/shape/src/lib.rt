@@ -1,19 +1,19 @@
-// The edits that change which points there are. Each builds its points anew.
+// The edits of 000 that change which points there are. Each builds its points anew. Source: envelope.rs (000).
 ghost use mathlib.Core.Path.{_≡_};
 ghost use mathlib.Core.Bool.{true, _&&_};
 ghost use mathlib.Core.List.{reverse};
 ghost use lib.ListN.{take};
 ghost use Rattle.numbers.specs.Bounds.{finite};
 ghost use Rattle.points.specs.Points.{listOf, holding};
-ghost use Rattle.edits.specs.Settle.{editPoints};
-ghost use Rattle.edits.specs.Shape.{keepIf, inside, removeFirst, near, reversed, firsts, quantized, differs, simplified};
-use crate::EditedPoints;
-use crate::each::Change;
-use crate::each::last_time;
-use crate::each::map_points;
-use crate::finish::finish;
+ghost use Rattle.settle.specs.Settle.{editPoints};
+ghost use Rattle.shape.specs.Shape.{keepIf, inside, removeFirst, near, reversed, firsts, quantized, differs, simplified};
 use points::AutomationPoint;
 use points::Points;
+use pointwise::Change;
+use pointwise::last_time;
+use pointwise::map_points;
+use settle::EditedPoints;
+use settle::finish;
 
 fn is_inside(p: AutomationPoint, start_time: f64, end_time: f64) -> bool
     ensures { λ r. ⌜ r ≡ inside «start_time» «end_time» p ⌝ }

@@ -1,9 +1,9 @@
 use mathlib.Core.Path.{sym}
 use Rattle.points.specs.FloatLaws.{abs-above}
-use Rattle.edits.specs.Shape.{differs}
+use Rattle.shape.specs.Shape.{differs}
 use borrow.Author.Needs.{needs}
-use Rattle.edits.proofs.shape.differs.Statement.{statement}
-use Rattle.edits.proofs.shape.differs.Tie as tie
+use Rattle.shape.proofs.differs.Statement.{statement}
+use Rattle.shape.proofs.differs.Tie as tie
 
 f64-to-f32-requires : tie.Need-f64-to-f32-requires
 f64-to-f32-requires c κs = search needs

@@ -9,10 +9,10 @@ use Rattle.points.specs.declared.Points.{Points}
 use Rattle.points.specs.Point.{anyPoint}
 use Rattle.points.specs.Points.{listOf, holding}
 use Rattle.points.proofs.Good.{places}
-use Rattle.edits.proofs.Ends.{pushed}
+use Rattle.settle.proofs.Ends.{pushed}
 use borrow.Author.Needs.{needs}
-use Rattle.edits.proofs.shape.first_only.Statement.{statement}
-use Rattle.edits.proofs.shape.first_only.Tie as tie
+use Rattle.shape.proofs.first_only.Statement.{statement}
+use Rattle.shape.proofs.first_only.Tie as tie
 
 none-requires : tie.Need-none-requires
 none-requires c κs = search needs

@@ -1,8 +1,8 @@
 use mathlib.Core.Path.{sym}
 use lib.Ieee.{ofBits}
 use Rattle.points.specs.FloatLaws.{abs-below}
-use Rattle.edits.proofs.shape.is_near.Statement.{statement}
-use Rattle.edits.proofs.shape.is_near.Tie as tie
+use Rattle.shape.proofs.is_near.Statement.{statement}
+use Rattle.shape.proofs.is_near.Tie as tie
 
 returns : tie.Need-returns
 unfolding ofBits

@@ -10,11 +10,11 @@ use Rattle.points.specs.Point.{anyPoint}
 use Rattle.points.specs.Points.{listOf, holding}
 use Rattle.points.proofs.Good.{places}
 use Rattle.points.specs.Middles.{middles, middles-yes, middles-no, middles-two}
-use Rattle.edits.specs.Shape.{differs}
-use Rattle.edits.proofs.Ends.{pushed}
-use Rattle.edits.proofs.Kept.{simplified-is, simplified-few}
-use Rattle.edits.proofs.shape.kept_differing.Statement.{statement}
-use Rattle.edits.proofs.shape.kept_differing.Tie as tie
+use Rattle.settle.proofs.Ends.{pushed}
+use Rattle.shape.specs.Shape.{differs}
+use Rattle.shape.proofs.Kept.{simplified-is, simplified-few}
+use Rattle.shape.proofs.kept_differing.Statement.{statement}
+use Rattle.shape.proofs.kept_differing.Tie as tie
 
 abbrev Inv-loop : tie.InvT-loop
 Inv-loop tolerance points n out₀ i₀ out i = (2 ≤ i) × (i ≤ max 2 n) × (out .count < i) × (out ≡ holding (take 1 (listOf points) ++ middles (differs tolerance) (take i (listOf points))))

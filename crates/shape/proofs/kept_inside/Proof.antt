@@ -9,11 +9,11 @@ use Rattle.points.specs.Point.{anyPoint}
 use Rattle.points.specs.Points.{holding}
 use Rattle.points.specs.Laws.{take-min}
 use Rattle.points.proofs.Good.{places}
-use Rattle.edits.specs.Shape.{keepIf, inside}
-use Rattle.edits.proofs.Ends.{pushed}
-use Rattle.edits.proofs.Kept.{keep-yes, keep-no}
-use Rattle.edits.proofs.shape.kept_inside.Statement.{statement}
-use Rattle.edits.proofs.shape.kept_inside.Tie as tie
+use Rattle.settle.proofs.Ends.{pushed}
+use Rattle.shape.specs.Shape.{keepIf, inside}
+use Rattle.shape.proofs.Kept.{keep-yes, keep-no}
+use Rattle.shape.proofs.kept_inside.Statement.{statement}
+use Rattle.shape.proofs.kept_inside.Tie as tie
 
 abbrev Inv-loop : tie.InvT-loop
 Inv-loop start-time end-time points n out₀ i₀ out i = (i ≤ n) × (out .count ≤ i) × (out ≡ holding (keepIf (inside start-time end-time) (take i (points .places))))

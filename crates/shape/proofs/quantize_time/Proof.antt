@@ -7,15 +7,16 @@ use Rattle.numbers.specs.Bounds.{finite}
 use Rattle.points.specs.declared.AutomationPoint.{AutomationPoint}
 use Rattle.points.specs.Points.{listOf, holding}
 use Rattle.points.proofs.Good.{places}
-use Rattle.edits.specs.Settle.{editPoints}
-use Rattle.edits.specs.Each.{changed}
-use Rattle.edits.specs.Shape.{firsts}
-use Rattle.edits.specs.declared.each.Change.the-variants.{Quantize}
-use Rattle.edits.proofs.Ends.{ends-valid, ends-same, listOf-few}
-use Rattle.edits.proofs.Kept.{firsts-few, mapped-list}
+use Rattle.settle.specs.Settle.{editPoints}
+use Rattle.settle.proofs.Ends.{ends-valid, ends-same, listOf-few}
+use Rattle.pointwise.specs.Each.{changed}
+use Rattle.pointwise.specs.declared.Change.the-variants.{Quantize}
+use Rattle.pointwise.proofs.Mapped.{mapped-list}
+use Rattle.shape.specs.Shape.{firsts}
+use Rattle.shape.proofs.Kept.{firsts-few}
 use borrow.Author.Needs.{needs}
-use Rattle.edits.proofs.shape.quantize_time.Statement.{statement}
-use Rattle.edits.proofs.shape.quantize_time.Tie as tie
+use Rattle.shape.proofs.quantize_time.Statement.{statement}
+use Rattle.shape.proofs.quantize_time.Tie as tie
 
 is-finite-requires : tie.Need-is-finite-requires
 is-finite-requires c κs = search needs

@@ -1,12 +1,12 @@
 use native.Mathlib.Omega.{arith}
 use Rattle.points.specs.Points.{listOf}
 use Rattle.points.proofs.Good.{places}
-use Rattle.edits.specs.Shape.{removeFirst, near}
-use Rattle.edits.proofs.Ends.{ends, listOf-few}
-use Rattle.edits.proofs.Kept.{remove-few}
+use Rattle.settle.proofs.Ends.{ends, listOf-few}
+use Rattle.shape.specs.Shape.{removeFirst, near}
+use Rattle.shape.proofs.Kept.{remove-few}
 use borrow.Author.Needs.{needs}
-use Rattle.edits.proofs.shape.remove_point_at.Statement.{statement}
-use Rattle.edits.proofs.shape.remove_point_at.Tie as tie
+use Rattle.shape.proofs.remove_point_at.Statement.{statement}
+use Rattle.shape.proofs.remove_point_at.Tie as tie
 
 is-finite-requires : tie.Need-is-finite-requires
 is-finite-requires c κs = search needs

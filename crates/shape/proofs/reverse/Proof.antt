@@ -7,15 +7,16 @@ use lib.ListN.{length-map}
 use Rattle.points.specs.declared.AutomationPoint.{AutomationPoint}
 use Rattle.points.specs.Points.{listOf, holding}
 use Rattle.points.proofs.Good.{places}
-use Rattle.edits.specs.Finish.{mappedIn}
-use Rattle.edits.specs.Each.{changed, lastTime}
-use Rattle.edits.specs.Shape.{reversed}
-use Rattle.edits.specs.declared.each.Change.the-variants.{Reflect}
-use Rattle.edits.proofs.Ends.{ends-valid, listOf-few}
-use Rattle.edits.proofs.Kept.{mapped-list, reverse-long}
+use Rattle.settle.proofs.Ends.{ends-valid, listOf-few}
+use Rattle.pointwise.specs.Places.{mappedIn}
+use Rattle.pointwise.specs.Each.{changed, lastTime}
+use Rattle.pointwise.specs.declared.Change.the-variants.{Reflect}
+use Rattle.pointwise.proofs.Mapped.{mapped-list}
+use Rattle.shape.specs.Shape.{reversed}
+use Rattle.shape.proofs.Kept.{reverse-long}
 use borrow.Author.Needs.{needs}
-use Rattle.edits.proofs.shape.reverse.Statement.{statement}
-use Rattle.edits.proofs.shape.reverse.Tie as tie
+use Rattle.shape.proofs.reverse.Statement.{statement}
+use Rattle.shape.proofs.reverse.Tie as tie
 
 last-time-requires : tie.Need-last-time-requires
 last-time-requires c κs = search needs

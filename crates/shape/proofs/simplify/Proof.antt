@@ -1,12 +1,12 @@
 use native.Mathlib.Omega.{arith}
 use Rattle.points.specs.Points.{listOf}
 use Rattle.points.proofs.Good.{places}
-use Rattle.edits.specs.Shape.{simplified}
-use Rattle.edits.proofs.Ends.{ends, listOf-few}
-use Rattle.edits.proofs.Kept.{simplified-bound}
+use Rattle.settle.proofs.Ends.{ends, listOf-few}
+use Rattle.shape.specs.Shape.{simplified}
+use Rattle.shape.proofs.Kept.{simplified-bound}
 use borrow.Author.Needs.{needs}
-use Rattle.edits.proofs.shape.simplify.Statement.{statement}
-use Rattle.edits.proofs.shape.simplify.Tie as tie
+use Rattle.shape.proofs.simplify.Statement.{statement}
+use Rattle.shape.proofs.simplify.Tie as tie
 
 is-finitef-requires : tie.Need-is-finitef-requires
 is-finitef-requires c κs = search needs

@@ -2,12 +2,12 @@ use native.Mathlib.Omega.{arith}
 use Rattle.points.specs.Points.{listOf}
 use Rattle.points.specs.Laws.{and-both}
 use Rattle.points.proofs.Good.{places}
-use Rattle.edits.specs.Shape.{keepIf, inside}
-use Rattle.edits.proofs.Ends.{ends, listOf-few}
-use Rattle.edits.proofs.Kept.{keep-few}
+use Rattle.settle.proofs.Ends.{ends, listOf-few}
+use Rattle.shape.specs.Shape.{keepIf, inside}
+use Rattle.shape.proofs.Kept.{keep-few}
 use borrow.Author.Needs.{needs}
-use Rattle.edits.proofs.shape.trim.Statement.{statement}
-use Rattle.edits.proofs.shape.trim.Tie as tie
+use Rattle.shape.proofs.trim.Statement.{statement}
+use Rattle.shape.proofs.trim.Tie as tie
 
 is-finite-requires : tie.Need-is-finite-requires
 is-finite-requires c κs = search needs

@@ -10,9 +10,9 @@ use Rattle.points.specs.declared.Points.{Points}
 use Rattle.points.specs.Point.{anyPoint}
 use Rattle.points.specs.Points.{listOf, holding}
 use Rattle.points.proofs.Good.{places}
-use Rattle.edits.proofs.Ends.{pushed}
-use Rattle.edits.proofs.shape.turned.Statement.{statement}
-use Rattle.edits.proofs.shape.turned.Tie as tie
+use Rattle.settle.proofs.Ends.{pushed}
+use Rattle.shape.proofs.turned.Statement.{statement}
+use Rattle.shape.proofs.turned.Tie as tie
 
 abbrev Inv-loop : tie.InvT-loop
 Inv-loop points n out₀ i₀ out i = (i ≤ n) × (out .count + i ≡ n) × (out ≡ holding (reverse (drop i (listOf points))))

@@ -11,11 +11,11 @@ use Rattle.points.specs.Laws.{take-min, every-more, and-both}
 use Rattle.points.proofs.Good.{places}
 use mathlib.Core.Bool.{not}
 use Rattle.points.specs.Points.{every}
-use Rattle.edits.specs.Shape.{removeFirst, near}
-use Rattle.edits.proofs.Ends.{pushed}
-use Rattle.edits.proofs.Kept.{noneOf, none-here, none-past, remove-here, remove-past}
-use Rattle.edits.proofs.shape.without_first_near.Statement.{statement}
-use Rattle.edits.proofs.shape.without_first_near.Tie as tie
+use Rattle.settle.proofs.Ends.{pushed}
+use Rattle.shape.specs.Shape.{removeFirst, near}
+use Rattle.shape.proofs.Kept.{noneOf, none-here, none-past, remove-here, remove-past}
+use Rattle.shape.proofs.without_first_near.Statement.{statement}
+use Rattle.shape.proofs.without_first_near.Tie as tie
 
 abbrev Inv-loop : tie.InvT-loop
 Inv-loop time points n out₀ looking₀ i₀ out looking i = (i ≤ n) × (out .count ≤ i) × (looking ≡ noneOf (near time) (take i (points .places))) × (out ≡ holding (removeFirst (near time) (take i (points .places))))

@@ -10,11 +10,11 @@ use Rattle.points.specs.Point.{anyPoint}
 use Rattle.points.specs.Points.{listOf, holding, timeKey}
 use Rattle.points.proofs.Good.{places}
 use borrow.Author.Tests.{eq-eqb, ne-eqb}
-use Rattle.edits.specs.Shape.{firsts}
-use Rattle.edits.proofs.Ends.{pushed}
-use Rattle.edits.proofs.Kept.{firsts-yes, firsts-no, firsts-one}
-use Rattle.edits.proofs.shape.without_repeats.Statement.{statement}
-use Rattle.edits.proofs.shape.without_repeats.Tie as tie
+use Rattle.settle.proofs.Ends.{pushed}
+use Rattle.shape.specs.Shape.{firsts}
+use Rattle.shape.proofs.Kept.{firsts-yes, firsts-no, firsts-one}
+use Rattle.shape.proofs.without_repeats.Statement.{statement}
+use Rattle.shape.proofs.without_repeats.Tie as tie
 
 abbrev Inv-loop : tie.InvT-loop
 Inv-loop points n out₀ i₀ out i = (1 ≤ i) × (i ≤ max 1 n) × (out .count ≤ i) × (out ≡ holding (firsts (take i (listOf points))))
