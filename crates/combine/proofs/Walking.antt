@@ -20,8 +20,8 @@ use Rattle.points.specs.Search.{placeBy, place-at, rising-at, lower-up-to}
 use Rattle.points.specs.ValidLaws.{valid-count, valid-rising}
 use Rattle.points.specs.declared.AutomationPoint.{AutomationPoint}
 use Rattle.points.specs.declared.Points.{Points}
-use Rattle.edits.specs.Insert.{pointWith}
-use Rattle.edits.proofs.Ends.{pushed}
+use Rattle.settle.specs.NewPoint.{pointWith}
+use Rattle.settle.proofs.Ends.{pushed}
 use Rattle.lookup.specs.Lookup.{pointAt}
 use Rattle.combine.specs.Combine.{applied, mergeFrom, mergeTimes, timeOf, timesOf, sideAt, combinedPoint, combinedList}
 use Rattle.combine.specs.Walk.{endsOf, sideWith, nearAt, nextOf, walked}

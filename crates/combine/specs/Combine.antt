@@ -12,9 +12,9 @@ use Rattle.curve.specs.declared.CurveType.the-variants.{Linear}
 use Rattle.points.specs.Points.{listOf}
 use Rattle.points.specs.declared.AutomationPoint.{AutomationPoint}
 use Rattle.points.specs.declared.refusal.Refusal.the-variants.{NotValid}
-use Rattle.edits.specs.Settle.{refused, editPoints}
-use Rattle.edits.specs.Insert.{pointWith}
-use Rattle.edits.specs.declared.EditedPoints.{EditedPoints}
+use Rattle.settle.specs.Settle.{refused, editPoints}
+use Rattle.settle.specs.NewPoint.{pointWith}
+use Rattle.settle.specs.declared.EditedPoints.{EditedPoints}
 use Rattle.lookup.specs.Limits.{valid}
 use Rattle.lookup.specs.Lookup.{valueAt}
 use Rattle.combine.specs.declared.Operation.{Operation}

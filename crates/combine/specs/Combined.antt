@@ -15,9 +15,9 @@ use Rattle.points.specs.ValidLaws.{valid-rising}
 use Rattle.points.specs.declared.refusal.Refusal.{Refusal}
 use Rattle.points.specs.declared.refusal.Refusal.the-variants.{NotValid, NotFinite, TooManyPoints, TimesDontRise}
 use Rattle.points.specs.declared.refusal.Answer.the-variants.{Accepted, Refused}
-use Rattle.edits.specs.Settle.{refused, settle, editPoints}
-use Rattle.edits.specs.Accepted.{accepted-valid}
-use Rattle.edits.specs.declared.EditedPoints.{EditedPoints}
+use Rattle.settle.specs.Settle.{refused, settle, editPoints}
+use Rattle.settle.specs.Accepted.{accepted-valid}
+use Rattle.settle.specs.declared.EditedPoints.{EditedPoints}
 use Rattle.lookup.specs.Limits.{finiteLimits}
 use Rattle.combine.specs.Combine.{finiteOperation, mergeTimes, timeOf, timesOf, validSide, combinedPoint, combinedList, combinedPoints}
 use Rattle.combine.specs.Times.{merged-rising}

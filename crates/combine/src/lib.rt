@@ -4,17 +4,17 @@ ghost use mathlib.Core.Bool.{true};
 ghost use Prim.Native.Nat.{_-_, _≤_, min};
 ghost use Rattle.curve.specs.declared.CurveType.the-variants.{Linear};
 ghost use Rattle.points.specs.Points.{validPoints};
-ghost use Rattle.edits.specs.Insert.{pointWith};
+ghost use Rattle.settle.specs.NewPoint.{pointWith};
 ghost use Rattle.combine.specs.Combine.{finiteOperation, applied, validSide, combinedPoints};
 ghost use Rattle.combine.specs.Walk.{endsOf, sideWith, nearAt, nextOf, walked};
 use curve::CurveType;
-use edits::EditedPoints;
 use lookup::Limits;
 use points::AutomationPoint;
 use points::Points;
 use points::SamplePosition;
 use points::refusal::Answer;
 use points::refusal::Refusal;
+use settle::EditedPoints;
 
 // 000's closures, by name.
 pub enum Operation {
@@ -270,21 +270,21 @@ pub fn combine(operation: Operation, first: Side, other: Side) -> EditedPoints
 {
     let points = first.points;
     if !first.is_valid() {
-        return edits::finish::refuse(points, Refusal::NotValid);
+        return settle::refuse(points, Refusal::NotValid);
     }
     if !other.is_valid() {
-        return edits::finish::refuse(points, Refusal::NotValid);
+        return settle::refuse(points, Refusal::NotValid);
     }
     if !operation.is_finite() {
-        return edits::finish::refuse(points, Refusal::NotFinite);
+        return settle::refuse(points, Refusal::NotFinite);
     }
     let others = other.points;
     let made = walk(operation, points, first.ends(), others, other.ends());
     if !made.ok {
-        return edits::finish::refuse(points, Refusal::NotFinite);
+        return settle::refuse(points, Refusal::NotFinite);
     }
     if 256 < made.total {
-        return edits::finish::refuse(points, Refusal::TooManyPoints);
+        return settle::refuse(points, Refusal::TooManyPoints);
     }
     let points = made.points;
     EditedPoints {

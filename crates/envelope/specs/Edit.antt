@@ -12,12 +12,12 @@ use Rattle.points.specs.declared.Points.{Points}
 use Rattle.points.specs.declared.refusal.Refusal.{Refusal}
 use Rattle.points.specs.declared.refusal.Answer.{Answer}
 use Rattle.points.specs.declared.refusal.Answer.the-variants.{Accepted, Refused}
-use Rattle.edits.specs.Settle.{editPoints}
-use Rattle.edits.specs.Each.{zero32, one32, changed, scaledTime, normalized, clampedEdit, fadedInAll, fadedOutAll}
-use Rattle.edits.specs.Shape.{keepIf, inside, removeFirst, near, reversed, quantized, simplified}
-use Rattle.edits.specs.Insert.{insertPoint, mergedPoints, rampList, pulseList}
-use Rattle.edits.specs.declared.EditedPoints.{EditedPoints}
-use Rattle.edits.specs.declared.each.Change.the-variants as change
+use Rattle.settle.specs.Settle.{editPoints}
+use Rattle.settle.specs.declared.EditedPoints.{EditedPoints}
+use Rattle.pointwise.specs.Each.{zero32, one32, changed, scaledTime, normalized, clampedEdit, fadedInAll, fadedOutAll}
+use Rattle.pointwise.specs.declared.Change.the-variants as change
+use Rattle.insert.specs.Insert.{insertPoint, mergedPoints, rampList, pulseList}
+use Rattle.shape.specs.Shape.{keepIf, inside, removeFirst, near, reversed, quantized, simplified}
 use Rattle.lookup.specs.Limits.{finiteLimit, finiteLimits}
 use Rattle.lookup.specs.declared.Limits.{Limits}
 use Rattle.combine.specs.Combine.{combinedPoints}

@@ -17,11 +17,11 @@ use Rattle.points.specs.declared.Points.{Points}
 use Rattle.points.specs.declared.refusal.Refusal.{Refusal}
 use Rattle.points.specs.declared.refusal.Refusal.the-variants.{NotValid, NotFinite, BoundsCross, TooManyPoints, TimesDontRise}
 use Rattle.points.specs.declared.refusal.Answer.the-variants.{Accepted}
-use Rattle.edits.specs.Settle.{refused, settle, editPoints}
-use Rattle.edits.specs.Each.{changed, clampedEdit}
-use Rattle.edits.specs.Insert.{merged, mergedPoints}
-use Rattle.edits.specs.declared.EditedPoints.{EditedPoints}
-use Rattle.edits.specs.declared.each.Change.the-variants.{Clamp}
+use Rattle.settle.specs.Settle.{refused, settle, editPoints}
+use Rattle.settle.specs.declared.EditedPoints.{EditedPoints}
+use Rattle.pointwise.specs.Each.{changed, clampedEdit}
+use Rattle.pointwise.specs.declared.Change.the-variants.{Clamp}
+use Rattle.insert.specs.Insert.{merged, mergedPoints}
 use Rattle.lookup.specs.Limits.{finiteLimit, finiteLimits}
 use Rattle.envelope.specs.Envelope.{new, limitsOf, validEnvelope}
 use Rattle.envelope.specs.Edit.{EditTold, declined, pointsEdited, replacedPoints, withPoints, edited, replaced, setting, editOf, mergeOf}

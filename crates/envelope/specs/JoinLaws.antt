@@ -15,8 +15,8 @@ use Rattle.points.specs.Points.{every, listOf, holding, validPoints}
 use Rattle.points.specs.ValidLaws.{valid-count}
 use Rattle.points.specs.declared.refusal.Refusal.{Refusal}
 use Rattle.points.specs.declared.refusal.Refusal.the-variants.{NotValid}
-use Rattle.edits.specs.Settle.{refused}
-use Rattle.edits.specs.declared.EditedPoints.{EditedPoints}
+use Rattle.settle.specs.Settle.{refused}
+use Rattle.settle.specs.declared.EditedPoints.{EditedPoints}
 use Rattle.lookup.specs.Lookup.{valueAt}
 use Rattle.combine.specs.Combine.{finiteOperation, applied, mergeTimes, timeOf, timesOf, validSide, sideAt, combinedPoint, combinedList, combinedPoints}
 use Rattle.combine.specs.Times.{merged-every}

@@ -15,12 +15,12 @@ use Rattle.points.specs.declared.AutomationPoint.{AutomationPoint}
 use Rattle.points.specs.declared.Points.{Points}
 use Rattle.points.specs.declared.refusal.Answer.{Answer}
 use Rattle.points.specs.declared.refusal.Answer.the-variants.{Accepted, Refused}
-use Rattle.edits.specs.Settle.{editPoints}
-use Rattle.edits.specs.Each.{fadedInAll}
-use Rattle.edits.specs.Shape.{inside, near}
-use Rattle.edits.specs.Insert.{mergedPoints}
-use Rattle.edits.specs.declared.EditedPoints.{EditedPoints}
-use Rattle.edits.specs.declared.each.Change.the-variants as change
+use Rattle.settle.specs.Settle.{editPoints}
+use Rattle.settle.specs.declared.EditedPoints.{EditedPoints}
+use Rattle.pointwise.specs.Each.{fadedInAll}
+use Rattle.pointwise.specs.declared.Change.the-variants as change
+use Rattle.insert.specs.Insert.{mergedPoints}
+use Rattle.shape.specs.Shape.{inside, near}
 use Rattle.lookup.specs.Limits.{finiteLimit, finiteLimits}
 use Rattle.lookup.specs.declared.Limits.{Limits}
 use Rattle.envelope.specs.Envelope.{new, limitsOf, validEnvelope}

@@ -19,11 +19,12 @@ use Rattle.points.specs.Points.{every, timeKey, listOf, holding}
 use Rattle.points.specs.Laws.{and-left, and-right, every-append}
 use Rattle.points.specs.declared.AutomationPoint.{AutomationPoint}
 use Rattle.points.specs.declared.Points.{Points}
-use Rattle.edits.specs.Each.{zero64, zero32, one32, withTime, withValue, clampedTo, fadedIn, fadedOut, gated, compressed, changed, lowestValue, highestValue, firstTime, lastTime, scaledTime, normalized, fadedInAll, fadedOutAll}
-use Rattle.edits.specs.Shape.{keepIf, removeFirst, reversed, firstsAfter, firsts, quantized, differs, innerKept, simplified}
-use Rattle.edits.specs.Insert.{insertPoint, insertAll, merged, pointWith, rampList, pulseList}
-use Rattle.edits.specs.declared.each.Change.{Change}
-use Rattle.edits.specs.declared.each.Change.the-variants.{Shift, ScaleTime, Reflect, Quantize, Invert, Normalize, Scale, Offset, Clamp, FadeIn, FadeOut, Gate, Compress}
+use Rattle.settle.specs.NewPoint.{pointWith}
+use Rattle.pointwise.specs.Each.{zero64, zero32, one32, withTime, withValue, clampedTo, fadedIn, fadedOut, gated, compressed, changed, lowestValue, highestValue, firstTime, lastTime, scaledTime, normalized, fadedInAll, fadedOutAll}
+use Rattle.pointwise.specs.declared.Change.{Change}
+use Rattle.pointwise.specs.declared.Change.the-variants.{Shift, ScaleTime, Reflect, Quantize, Invert, Normalize, Scale, Offset, Clamp, FadeIn, FadeOut, Gate, Compress}
+use Rattle.insert.specs.Insert.{insertPoint, insertAll, merged, rampList, pulseList}
+use Rattle.shape.specs.Shape.{keepIf, removeFirst, reversed, firstsAfter, firsts, quantized, differs, innerKept, simplified}
 use Rattle.envelope.specs.Typed.{typedCurve, typedPosition, typedPoint, typedPoints}
 use Rattle.envelope.specs.EditLaws.{either, both, parts}
 

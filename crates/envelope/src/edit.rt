@@ -6,13 +6,13 @@ use crate::Edited;
 use combine::Operation;
 use combine::Side;
 use curve::CurveType;
-use edits::EditedPoints;
 use lookup::Limit;
 use lookup::Limits;
 use points::AutomationPoint;
 use points::Points;
 use points::refusal::Answer;
 use points::refusal::Refusal;
+use settle::EditedPoints;
 
 // The edits of the points.
 pub enum PointsEdit {
@@ -64,33 +64,29 @@ impl PointsEdit {
         ensures { λ r. ⌜ r ≡ pointsEdited self points ⌝ }
     {
         match self {
-            PointsEdit::AddPoint(p) => edits::insert::add_point(points, p),
-            PointsEdit::RemovePointAt(time) => edits::shape::remove_point_at(points, time),
-            PointsEdit::ShiftPoints(offset) => edits::each::shift_points(points, offset),
-            PointsEdit::ScaleTime(factor) => edits::each::scale_time(points, factor),
-            PointsEdit::Trim(start, end) => edits::shape::trim(points, start, end),
-            PointsEdit::Reverse => edits::shape::reverse(points),
-            PointsEdit::InvertValues(min, max) => edits::each::invert_values(points, min, max),
-            PointsEdit::QuantizeTime(grid) => edits::shape::quantize_time(points, grid),
-            PointsEdit::Simplify(tolerance) => edits::shape::simplify(points, tolerance),
-            PointsEdit::Normalize(min, max) => edits::each::normalize(points, min, max),
-            PointsEdit::Scale(factor) => edits::each::scale(points, factor),
-            PointsEdit::Offset(amount) => edits::each::offset(points, amount),
-            PointsEdit::ClampValues(min, max) => edits::each::clamp_values(points, min, max),
-            PointsEdit::ApplyFadeIn(duration, c) => edits::each::apply_fade_in(points, duration, c),
-            PointsEdit::ApplyFadeOut(duration, c) => edits::each::apply_fade_out(
-                points,
-                duration,
-                c,
-            ),
-            PointsEdit::ApplyFades(fade_in, fade_out, c) => edits::each::apply_fades(
+            PointsEdit::AddPoint(p) => insert::add_point(points, p),
+            PointsEdit::RemovePointAt(time) => shape::remove_point_at(points, time),
+            PointsEdit::ShiftPoints(offset) => pointwise::shift_points(points, offset),
+            PointsEdit::ScaleTime(factor) => pointwise::scale_time(points, factor),
+            PointsEdit::Trim(start, end) => shape::trim(points, start, end),
+            PointsEdit::Reverse => shape::reverse(points),
+            PointsEdit::InvertValues(min, max) => pointwise::invert_values(points, min, max),
+            PointsEdit::QuantizeTime(grid) => shape::quantize_time(points, grid),
+            PointsEdit::Simplify(tolerance) => shape::simplify(points, tolerance),
+            PointsEdit::Normalize(min, max) => pointwise::normalize(points, min, max),
+            PointsEdit::Scale(factor) => pointwise::scale(points, factor),
+            PointsEdit::Offset(amount) => pointwise::offset(points, amount),
+            PointsEdit::ClampValues(min, max) => pointwise::clamp_values(points, min, max),
+            PointsEdit::ApplyFadeIn(duration, c) => pointwise::apply_fade_in(points, duration, c),
+            PointsEdit::ApplyFadeOut(duration, c) => pointwise::apply_fade_out(points, duration, c),
+            PointsEdit::ApplyFades(fade_in, fade_out, c) => pointwise::apply_fades(
                 points,
                 fade_in,
                 fade_out,
                 c,
             ),
-            PointsEdit::ApplyGate(threshold) => edits::each::apply_gate(points, threshold),
-            PointsEdit::ApplyCompression(threshold, ratio) => edits::each::apply_compression(
+            PointsEdit::ApplyGate(threshold) => pointwise::apply_gate(points, threshold),
+            PointsEdit::ApplyCompression(threshold, ratio) => pointwise::apply_compression(
                 points,
                 threshold,
                 ratio,
@@ -104,16 +100,16 @@ impl Replacement {
         ensures { λ r. ⌜ r ≡ replacedPoints self points ⌝ }
     {
         match self {
-            Replacement::FadeIn(duration, c) => edits::insert::fade_in(points, duration, c),
-            Replacement::FadeOut(duration, c) => edits::insert::fade_out(points, duration, c),
-            Replacement::Pulse(fade_in, sustain, fade_out, c) => edits::insert::pulse(
+            Replacement::FadeIn(duration, c) => insert::fade_in(points, duration, c),
+            Replacement::FadeOut(duration, c) => insert::fade_out(points, duration, c),
+            Replacement::Pulse(fade_in, sustain, fade_out, c) => insert::pulse(
                 points,
                 fade_in,
                 sustain,
                 fade_out,
                 c,
             ),
-            Replacement::Ramp(duration, start, end, c) => edits::insert::ramp(
+            Replacement::Ramp(duration, start, end, c) => insert::ramp(
                 points,
                 duration,
                 start,
@@ -306,7 +302,7 @@ impl AutomationEnvelope {
         if limits.is_finite() {
             let points = self.points;
             let others = other.points;
-            self.settle(edits::insert::merge(points, others, offset))
+            self.settle(insert::merge(points, others, offset))
         } else {
             self.refuse(Refusal::NotValid)
         }

@@ -7,12 +7,13 @@ use lib.Ieee.{binary32, binary64, ofBits, toBits}
 use lib.ListN.{replicate}
 use Rattle.curve.specs.declared.CurveType.the-variants.{Linear}
 use Rattle.points.specs.Refusal.{Said, refuses, gives}
-use Rattle.edits.specs.Insert.{pointWith, insertPoint}
+use Rattle.settle.specs.NewPoint.{pointWith}
+use Rattle.insert.specs.Insert.{insertPoint}
 use Rattle.numbers.specs.Bounds.{finite}
 use Rattle.numbers.specs.Order.{orderKey}
 use Rattle.curve.specs.Curve.{code, controls, curveOf, finiteControls}
 use Rattle.points.specs.Points.{every, everyPair, risingBy, validPoints, holding, listOf}
-use Rattle.edits.specs.Settle.{editPoints, settle}
+use Rattle.settle.specs.Settle.{editPoints, settle}
 use Rattle.envelope.specs.Envelope.{new}
 use Rattle.envelope.specs.Edit.{editOf, edited, pointsEdited}
 use Rattle.envelope.specs.declared.edit.Edit.the-variants.{OfPoints}

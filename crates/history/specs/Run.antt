@@ -19,8 +19,8 @@ use Rattle.envelope.specs.declared.edit.Join.the-variants.{Merge, Combine}
 use Rattle.envelope.specs.declared.edit.Edit.{Edit}
 use Rattle.envelope.specs.declared.edit.Edit.the-variants.{OfPoints, Replace, SetEnabled, SetMin, SetMax, SetStep}
 use lib.Ieee.{Float}
-use Rattle.edits.specs.Insert.{mergedPoints}
-use Rattle.edits.specs.declared.EditedPoints.{EditedPoints}
+use Rattle.settle.specs.declared.EditedPoints.{EditedPoints}
+use Rattle.insert.specs.Insert.{mergedPoints}
 use Rattle.combine.specs.Combine.{combinedPoints}
 use Rattle.state.specs.State.{unpacked}
 use Rattle.session.specs.Session.{stateAt, validSession, Called, called, declined, accepted, gate, settled, changed, editCall, backCall, forwardCall}

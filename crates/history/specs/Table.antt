@@ -27,8 +27,8 @@ use Rattle.analysis.specs.Analysis.{heardOf, rangeOf, rawInside, getRange}
 use Rattle.envelope.specs.Envelope.{new, limitsOf}
 use Rattle.envelope.specs.Edit.{withPoints, withSettings, editOf, edited, pointsEdited}
 use Rattle.envelope.specs.declared.AutomationEnvelope.{AutomationEnvelope}
-use Rattle.edits.specs.Insert.{insertPoint}
-use Rattle.edits.specs.Settle.{editPoints, settle}
+use Rattle.settle.specs.Settle.{editPoints, settle}
+use Rattle.insert.specs.Insert.{insertPoint}
 use Rattle.history.specs.Rule.{newHist, made, upTo, ruleOf, answersAfter}
 use Rattle.history.specs.Examples.{p13-calls}
 

@@ -16,10 +16,10 @@ use Rattle.points.specs.declared.refusal.Refusal.the-variants.{NotValid, NotFin
 use Rattle.points.specs.declared.refusal.Answer.the-variants.{Accepted}
 use Rattle.points.specs.declared.AutomationPoint.{AutomationPoint}
 use Rattle.points.specs.declared.Points.{Points}
-use Rattle.edits.specs.Settle.{refused, settle, editPoints}
-use Rattle.edits.specs.Insert.{insertPoint}
-use Rattle.edits.specs.declared.EditedPoints.{EditedPoints}
-use Rattle.edits.proofs.Inserting.{insert-last, rising-prefix}
+use Rattle.settle.specs.Settle.{refused, settle, editPoints}
+use Rattle.settle.specs.declared.EditedPoints.{EditedPoints}
+use Rattle.insert.specs.Insert.{insertPoint}
+use Rattle.insert.proofs.Inserting.{insert-last, rising-prefix}
 use Rattle.envelope.specs.Envelope.{new}
 use Rattle.envelope.specs.Edit.{EditTold, withPoints, joinOf, declined}
 use Rattle.envelope.specs.declared.AutomationEnvelope.{AutomationEnvelope}

@@ -10,9 +10,9 @@ use Rattle.points.specs.Points.{every, rising, timeKey, listOf, holding}
 use Rattle.points.specs.declared.AutomationPoint.{AutomationPoint}
 use Rattle.points.specs.declared.refusal.Answer.{Answer}
 use Rattle.points.specs.declared.refusal.Answer.the-variants.{Accepted, Refused}
-use Rattle.edits.specs.Settle.{editPoints}
-use Rattle.edits.specs.Insert.{insertPoint}
-use Rattle.edits.specs.declared.EditedPoints.{EditedPoints}
+use Rattle.settle.specs.Settle.{editPoints}
+use Rattle.settle.specs.declared.EditedPoints.{EditedPoints}
+use Rattle.insert.specs.Insert.{insertPoint}
 use Rattle.envelope.specs.Envelope.{new}
 use Rattle.envelope.specs.Edit.{EditTold, withPoints, joinOf, declined}
 use Rattle.envelope.specs.declared.AutomationEnvelope.{AutomationEnvelope}

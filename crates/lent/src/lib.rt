@@ -3,13 +3,13 @@
 ghost use mathlib.Core.Path.{_≡_};
 ghost use Rattle.envelope.specs.Edit.{toldEdit};
 ghost use Rattle.lent.specs.Merge.{isAccepted, mergeStart, mergeStep, mergeEnd, mergeListOf};
-use edits::EditedPoints;
 use envelope::AutomationEnvelope;
 use envelope::Edited;
 use points::AutomationPoint;
 use points::Points;
 use points::refusal::Answer;
 use points::refusal::Refusal;
+use settle::EditedPoints;
 
 struct Merging {
     before: AutomationEnvelope,
@@ -53,7 +53,7 @@ impl Merging {
         let points = self.gathered;
         let key = numbers::order::order_key(p.time);
         let later = !self.begun | (self.last < key);
-        let added = edits::insert::add_point(points, p);
+        let added = insert::add_point(points, p);
         let gathered = added.points;
         let answer = added.answer;
         let good = self.good & later & is_accepted(answer);

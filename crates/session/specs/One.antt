@@ -11,10 +11,10 @@ use Rattle.points.specs.declared.AutomationPoint.{AutomationPoint}
 use Rattle.points.specs.declared.Points.{Points}
 use Rattle.points.specs.declared.refusal.Refusal.the-variants.{NotValid}
 use Rattle.points.specs.declared.refusal.Answer.the-variants.{Refused}
-use Rattle.edits.specs.Settle.{editPoints, settle, refused}
-use Rattle.edits.specs.Each.{clampedEdit}
-use Rattle.edits.specs.Insert.{mergedPoints, merged}
-use Rattle.edits.specs.declared.EditedPoints.{EditedPoints}
+use Rattle.settle.specs.Settle.{editPoints, settle, refused}
+use Rattle.settle.specs.declared.EditedPoints.{EditedPoints}
+use Rattle.pointwise.specs.Each.{clampedEdit}
+use Rattle.insert.specs.Insert.{mergedPoints, merged}
 use Rattle.lookup.specs.Limits.{finiteLimits}
 use Rattle.combine.specs.Combine.{finiteOperation, combinedList, combinedPoints}
 use Rattle.combine.specs.declared.Operation.{Operation}

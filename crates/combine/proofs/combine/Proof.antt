@@ -3,7 +3,7 @@ use mathlib.Core.Path.{sym, ap, _∙_}
 use borrow.Author.Tests.{not-true, not-false}
 use Rattle.points.specs.declared.Points.{Points}
 use Rattle.points.specs.declared.refusal.Answer.the-variants.{Accepted}
-use Rattle.edits.specs.declared.EditedPoints.{EditedPoints}
+use Rattle.settle.specs.declared.EditedPoints.{EditedPoints}
 use Rattle.combine.specs.Combined.{side-points, combinedWays, combined-ways}
 use Rattle.combine.proofs.Walking.{ends-own, ok-is, few-is, many-is, points-are}
 use borrow.Author.Needs.{needs}

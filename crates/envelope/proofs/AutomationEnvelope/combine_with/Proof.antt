@@ -1,6 +1,6 @@
 -- `envelope::AutomationEnvelope::combine_with` meets its contract. Assumes nothing.
 use mathlib.Core.Path.{ap, _∙_}
-use Rattle.edits.specs.declared.EditedPoints.{EditedPoints}
+use Rattle.settle.specs.declared.EditedPoints.{EditedPoints}
 use Rattle.combine.specs.Combine.{combinedPoints}
 use Rattle.envelope.specs.Edit.{renewed, combineOf}
 use borrow.Author.Needs.{needs}

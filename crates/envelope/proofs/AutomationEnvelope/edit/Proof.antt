@@ -1,6 +1,6 @@
 use mathlib.Core.Path.{_≡_, ap, _∙_}
 use mathlib.Core.Bool.{Bool}
-use Rattle.edits.specs.declared.EditedPoints.{EditedPoints}
+use Rattle.settle.specs.declared.EditedPoints.{EditedPoints}
 use Rattle.envelope.specs.declared.AutomationEnvelope.{AutomationEnvelope}
 use Rattle.envelope.specs.Edit.{edited, replaced, setting, editOf}
 use borrow.Author.Needs.{needs}

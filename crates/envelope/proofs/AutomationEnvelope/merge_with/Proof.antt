@@ -2,7 +2,7 @@
 use mathlib.Core.Path.{sym, ap, _∙_}
 use Rattle.lookup.specs.Limits.{finiteLimits}
 use Rattle.lookup.specs.declared.Limits.{Limits}
-use Rattle.edits.specs.declared.EditedPoints.{EditedPoints}
+use Rattle.settle.specs.declared.EditedPoints.{EditedPoints}
 use Rattle.envelope.specs.Edit.{toldEdit, edited, mergeOf}
 use borrow.Author.Needs.{needs}
 use Rattle.envelope.proofs.AutomationEnvelope.merge_with.Statement.{statement}

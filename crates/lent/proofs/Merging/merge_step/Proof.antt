@@ -4,7 +4,7 @@ use Rattle.lent.proofs.Merging.merge_step.Statement.{statement}
 use Rattle.lent.proofs.Merging.merge_step.Tie as tie
 use Rattle.lent.proofs.Merging.merge_step.Reads as reads
 use Rattle.lent.proofs.Merging.merge_step.Lts as lts
-use Rattle.edits.proofs.insert.add_point.Reads as add-point-reads
+use Rattle.insert.proofs.add_point.Reads as add-point-reads
 use Rattle.lent.proofs.is_accepted.Reads as is-accepted-reads
 use Rattle.numbers.proofs.order.order_key.Reads as order-key-reads
 

@@ -4,10 +4,10 @@ use Rattle.envelope.proofs.edit.Replacement.apply.Statement.{statement}
 use Rattle.envelope.proofs.edit.Replacement.apply.Tie as tie
 use Rattle.envelope.proofs.edit.Replacement.apply.Reads as reads
 use Rattle.envelope.proofs.edit.Replacement.apply.Lts as lts
-use Rattle.edits.proofs.insert.fade_in.Reads as fade-in-reads
-use Rattle.edits.proofs.insert.fade_out.Reads as fade-out-reads
-use Rattle.edits.proofs.insert.pulse.Reads as pulse-reads
-use Rattle.edits.proofs.insert.ramp.Reads as ramp-reads
+use Rattle.insert.proofs.fade_in.Reads as fade-in-reads
+use Rattle.insert.proofs.fade_out.Reads as fade-out-reads
+use Rattle.insert.proofs.pulse.Reads as pulse-reads
+use Rattle.insert.proofs.ramp.Reads as ramp-reads
 
 -- src/edit.rt:98:33
 enum-known-self : tie.Need-enum-known-self
