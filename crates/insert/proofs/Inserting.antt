@@ -1,25 +1,24 @@
 -- Laws of a point that goes to its place by time. Assumes nothing.
-use Prim.Native.Nat.{ℕ, zero, suc, _+_, _-_, _≤_, _<_, zero-le, suc-le-suc}
+use Prim.Native.Nat.{ℕ, zero, suc, min, _+_, _-_, _≤_, _<_, zero-le, suc-le-suc}
 use mathlib.Core.Path.{_≡_, refl, sym, ap, _∙_}
-use mathlib.Core.Bool.{Bool, true, false, cond, _&&_}
+use mathlib.Core.Bool.{Bool, true, false, cond, not, _&&_, false≢true}
 use mathlib.Core.List.{List, [], _∷_, _++_, foldl-append, append-nil, append-assoc}
 use native.Mathlib.Nat.{le-of-suc-le-suc, not-suc-le-zero, lt-trans}
 use native.Mathlib.Omega.{arith}
 use lib.Dec.{ltb, eqb}
 use lib.ListN.{length, take, drop, getD, set, replicate, length-set, length-append, length-replicate, length-take, take-append-drop}
-use lib.Seq.{getD-take, set-append-left, length-take-le, take-append-seam, take-length, drop-length}
-use borrow.Author.Tests.{ltb-true, ltb-false, lt-ltb, eqb-true, eqb-false, eq-eqb, ne-eqb}
+use lib.Seq.{getD-take, set-append-left, length-take-le, take-append-seam, take-all}
+use borrow.Author.Tests.{ltb-true, ltb-false, lt-ltb, le-leb, lt-leb, eqb-true, eqb-false, eq-eqb, ne-eqb, not-true, not-false}
 use Rattle.points.specs.Point.{unused, anyPoint}
 use Rattle.points.specs.Points.{every, rising, risingBy, timeKey, listOf, holding}
 use Rattle.points.specs.Laws.{and-left, and-right}
 use Rattle.points.specs.ValidLaws.{listOf-holding}
-use Rattle.points.specs.Search.{placeBy, place-bound, place-at}
+use Rattle.points.specs.Search.{placeBy, place-bound, Searching, search-start, search-up, search-down, search-end}
 use Rattle.points.specs.declared.AutomationPoint.{AutomationPoint}
 use Rattle.points.specs.declared.Points.{Points}
 use Rattle.settle.proofs.Lists.{fold-more}
-use Rattle.settle.proofs.Ends.{pushed}
 use Rattle.insert.specs.Insert.{insertPoint, insertAll}
-use Rattle.insert.specs.Inserted.{Sorted}
+use Rattle.insert.specs.Inserted.{Sorted, Inserts}
 
 -- ---- any element: a place that opens in a list
 
@@ -31,9 +30,6 @@ module _ {A : Type 0} where
   opened-long zero p l = refl
   opened-long (suc i) p [] = refl
   opened-long (suc i) p (x ∷ l) = ap suc (opened-long i p l)
-
-  opened-last : (p : A) (l : List A) → openedAt (length l) p l ≡ l ++ (p ∷ [])
-  opened-last p l = λ i. take-length l i ++ (p ∷ drop-length l i)
 
   -- of the first n, those from j on each a place up
   abbrev pub shifted : ℕ → ℕ → List A → List A
@@ -255,15 +251,6 @@ sorted-places ps s =
     let n : length (l ++ replicate (256 - length l) unused) ≡ length l + (256 - length l) = simp (length-append, length-replicate) in
     omega (arith, n, ap (λ (x : Points). length (x .places)) (s .holds), length-take (ps .count) (ps .places), s .few)
 
--- where the search ends: the place of the point's time
-pub search-end : (ps : Points) (p : AutomationPoint) (key lo hi : ℕ) → Sorted ps → key ≡ timeKey p → lo ≤ hi → hi ≤ lo → hi ≤ ps .count
-    → ((j : ℕ) → j < lo → timeKey (getD (ps .places) j anyPoint) < key) → (hi < ps .count → key ≤ timeKey (getD (ps .places) hi anyPoint))
-    → lo ≡ placeBy timeKey (timeKey p) (listOf ps)
-search-end ps p key lo hi s e h g b low high =
-    let same : hi ≡ lo = omega arith in
-    sym (place-at timeKey anyPoint key (ps .places) (ps .count) lo (omega (arith, sorted-places ps s, s .few)) (omega arith) low (rw same at high))
-    ∙ ap (λ (k : ℕ). placeBy timeKey k (listOf ps)) e
-
 -- a turn of the loop that shifts: the point before j goes to j
 pub shift-turn : (ps₀ ps : Points) (j n : ℕ) → 0 < j → j ≤ n → n < length (ps₀ .places) → ps ≡ record { count = ps₀ .count; places = shifted j n (ps₀ .places) }
     → _≡_ {A = Points} (record { count = ps .count; places = set (ps .places) j (getD (ps .places) (j - 1) anyPoint) }) (record { count = ps₀ .count; places = shifted (j - 1) n (ps₀ .places) })
@@ -306,13 +293,7 @@ module _ (ps : Points) (p : AutomationPoint) (i : ℕ) (s : Sorted ps) (len : le
   pub new-long : (i < ps .count → timeKey (getD (ps .places) i anyPoint) ≡ timeKey p → ⊥) → length (insertPoint p l) ≡ ps .count + 1
   new-long h = omega (arith, ap length (new-list h) ∙ opened-long i p l, long)
 
-  -- past the last
-  pub add-last : i ≡ ps .count → ps .count < 256 → _≡_ {A = Points} (record { count = ps .count + 1; places = set (ps .places) (ps .count) p }) (holding (insertPoint p l))
-  add-last e h =
-      pushed ps l p (omega (arith, long)) (sym (s .holds))
-      ∙ ap holding (sym (opened-last p l) ∙ ap (λ (j : ℕ). openedAt j p l) (long ∙ sym e) ∙ sym (new-list (λ b _. omega arith)))
-
-  -- before a later one, the later ones having gone a place up
+  -- the later points having gone a place up
   pub add-between : (up : Points) → (i < ps .count → timeKey (getD (ps .places) i anyPoint) ≡ timeKey p → ⊥) → ps .count < 256
       → up ≡ record { count = ps .count; places = shifted i (ps .count) (ps .places) }
       → _≡_ {A = Points} (record { count = ps .count + 1; places = set (up .places) i p }) (holding (insertPoint p l))
@@ -328,20 +309,119 @@ module _ (ps : Points) (p : AutomationPoint) (i : ℕ) (s : Sorted ps) (len : le
       ∙ (λ j. record { count = n j; places = (w ∙ ap (λ (m : ℕ). openedAt i p l ++ replicate (256 - m) unused) n) j })
       ∙ ap holding (sym (new-list h))
 
--- ---- a turn of the loop that inserts each: ps holds l and the first i of the new ones
+-- ---- the search for a point's time among those of points that rise
 
-pub insert-turn : (l new : List AutomationPoint) (ps ps′ : Points) (i : ℕ) (p : AutomationPoint) → Sorted ps → listOf ps ≡ insertAll l (take i new) → i < length new → p ≡ getD new i anyPoint
-    → ps′ ≡ holding (insertPoint p (listOf ps)) → length (insertPoint p (listOf ps)) ≤ 256 → Sorted ps′ × (listOf ps′ ≡ insertAll l (take (i + 1) new))
-insert-turn l new ps ps′ i p s e h g made few = (
-  sorted-holding ps′ (insertPoint p (listOf ps)) made few (rising-insert p (listOf ps) (s .rises)),
-  ap listOf made ∙ listOf-holding (insertPoint p (listOf ps)) ∙ (λ j. insertPoint (g j) (e j)) ∙ sym (fold-more (λ m q. insertPoint q m) l new i anyPoint h),
-)
+abbrev keyOf : Points → ℕ → ℕ
+keyOf ps j = timeKey (getD (ps .places) j anyPoint)
 
--- no place is left for one of them
-pub insert-full : (l new : List AutomationPoint) (ps : Points) (i : ℕ) (p : AutomationPoint) → listOf ps ≡ insertAll l (take i new) → i < length new → p ≡ getD new i anyPoint
-    → 256 < length (insertPoint p (listOf ps)) → 256 < length (insertAll l new)
-insert-full l new ps i p e h g full =
-    let made : insertAll l (take (i + 1) new) ≡ insertPoint p (listOf ps) = fold-more (λ m q. insertPoint q m) l new i anyPoint h ∙ (λ j. insertPoint (sym g j) (sym e j)) in
-    let whole : insertAll l new ≡ insertAll (insertAll l (take (i + 1) new)) (drop (i + 1) new) =
-    ap (insertAll l) (sym (take-append-drop (i + 1) new)) ∙ foldl-append (λ m q. insertPoint q m) l (take (i + 1) new) (drop (i + 1) new) in
-    omega (arith, full, ap length made, ap length whole, all-long (insertAll l (take (i + 1) new)) (drop (i + 1) new))
+-- where it has come to, and whether the point at high, if there is one, has another time
+pub record Seeking (ps : Points) (key low high : ℕ) (fresh : Bool) : Type 0 where
+  pub search : Searching timeKey anyPoint key (ps .places) (ps .count) low high
+  pub apart : fresh ≡ true → high < ps .count → keyOf ps high ≡ key → ⊥
+  pub same : fresh ≡ false → (high < ps .count) × (keyOf ps high ≡ key)
+
+pub seek-start : (ps : Points) (key : ℕ) → Seeking ps key 0 (ps .count) true
+seek-start ps key = record { search = search-start timeKey anyPoint key (ps .places) (ps .count); apart = λ _ b. absurd (omega arith); same = λ e. absurd (false≢true (sym e)) }
+
+module _ (ps : Points) (key low high mid : ℕ) (fresh : Bool) (s : Seeking ps key low high fresh) where
+  pub seek-up : Sorted ps → mid < high → keyOf ps mid < key → Seeking ps key (mid + 1) high fresh
+  seek-up o h b =
+      record {
+        search = search-up timeKey anyPoint key (ps .places) (ps .count) low high mid (s .search) (o .rises) (omega (arith, sorted-places ps o, o .few)) h b;
+        apart = s .apart;
+        same = s .same;
+      }
+
+  pub seek-down : (k : ℕ) → k ≡ keyOf ps mid → low ≤ mid → mid < high → key ≤ k → Seeking ps key low mid (not (eqb k key))
+  seek-down k e h t a =
+      record {
+        search = search-down timeKey anyPoint key (ps .places) (ps .count) low high mid (s .search) h t (omega (arith, e));
+        apart = λ f b g. eqb-false k key (not-true (eqb k key) f) (e ∙ g);
+        same = λ f. (omega (arith, s .search .bounded), sym e ∙ eqb-true k key (not-false (eqb k key) f));
+      }
+
+-- ---- the loop that inserts each
+
+-- ps holds the points and the first i of the m new ones
+pub record Filling (ps₀ new : Points) (m : ℕ) (ps : Points) (i : ℕ) : Type 0 where
+  pub few : i ≤ m
+  pub whole : length (listOf new) ≡ m
+  pub sorted : Sorted ps
+  pub done : listOf ps ≡ insertAll (listOf ps₀) (take i (listOf new))
+
+pub fill-start : (ps₀ new : Points) (m : ℕ) → length (new .places) ≡ 256 → m ≡ min (new .count) 256 → Sorted ps₀ → Filling ps₀ new m ps₀ 0
+fill-start ps₀ new m len e s = record { few = omega arith; whole = omega (arith, length-take (new .count) (new .places)); sorted = s; done = refl }
+
+module _ (ps₀ new ps : Points) (m i : ℕ) (f : Filling ps₀ new m ps i) where
+  abbrev all : List AutomationPoint
+  all = insertAll (listOf ps₀) (listOf new)
+
+  pub fill-end : m ≤ i → Inserts (listOf ps₀) (listOf new) (record { fits = true; points = ps })
+  fill-end h =
+      let e : listOf ps ≡ all = f .done ∙ ap (insertAll (listOf ps₀)) (take-all i (listOf new) (omega (arith, f .whole))) in
+      record {
+        fits = sym (le-leb (length all) 256 (omega (arith, ap length (sym e), length-take (ps .count) (ps .places), f .sorted .few)));
+        made = λ _. sym (f .sorted .holds) ∙ ap holding e;
+      }
+
+  -- a turn: the search for the time of the next point has ended at lo
+  module _ (more : i < m) (key lo hi : ℕ) (fresh : Bool) (k : key ≡ keyOf new i) (s : Seeking ps key lo hi fresh) (end : hi ≤ lo) where
+    abbrev p : AutomationPoint
+    p = getD (new .places) i anyPoint
+
+    abbrev made : List AutomationPoint
+    made = insertPoint p (listOf ps)
+
+    len : length (ps .places) ≡ 256
+    len = sorted-places ps (f .sorted)
+
+    at : lo ≡ placeBy timeKey (timeKey p) (listOf ps)
+    at = sym (search-end timeKey anyPoint key (ps .places) (ps .count) lo hi (s .search) (omega (arith, len, f .sorted .few)) end) ∙ ap (λ (x : ℕ). placeBy timeKey x (listOf ps)) k
+
+    here : hi ≡ lo
+    here = omega (arith, s .search .ordered)
+
+    next : p ≡ getD (listOf new) i anyPoint
+    next = sym (getD-take (new .count) (new .places) i anyPoint (omega (arith, f .whole, length-take (new .count) (new .places))))
+
+    -- the new ones up to this one
+    so-far : insertAll (listOf ps₀) (take (i + 1) (listOf new)) ≡ made
+    so-far = fold-more (λ l q. insertPoint q l) (listOf ps₀) (listOf new) i anyPoint (omega (arith, f .whole)) ∙ (λ j. insertPoint (sym next j) (sym (f .done) j))
+
+    filled : (ps′ : Points) → ps′ ≡ holding made → length made ≤ 256 → Filling ps₀ new m ps′ (i + 1)
+    filled ps′ e h =
+        record {
+          few = omega arith;
+          whole = f .whole;
+          sorted = sorted-holding ps′ made e h (rising-insert p (listOf ps) (f .sorted .rises));
+          done = ap listOf e ∙ listOf-holding made ∙ sym so-far;
+        }
+
+    apart : fresh ≡ true → lo < ps .count → keyOf ps lo ≡ timeKey p → ⊥
+    apart b h e = (rw here at (s .apart b)) h (e ∙ sym k)
+
+    -- the point at the very time is replaced
+    pub turn-same : (ps′ : Points) → ps′ ≡ ps → fresh ≡ false → Filling ps₀ new m (record { count = ps′ .count; places = set (ps′ .places) lo p }) (i + 1)
+    turn-same ps′ w b =
+        let h : lo < ps .count = omega (arith, here, s .same b .0) in
+        let e : keyOf ps lo ≡ timeKey p = (rw here at (s .same b .1)) ∙ k in
+        filled _ (ap (λ (x : Points). record { count = x .count; places = set (x .places) lo p }) w ∙ add-same ps p lo (f .sorted) len at h e) (same-few ps p lo (f .sorted) len at h e)
+
+    -- there is none, and the later ones have gone a place up
+    pub turn-new : (ps′ up : Points) (j : ℕ) → ps′ ≡ record { count = ps .count + 1; places = up .places } → fresh ≡ true → (ps .count ≡ 256 → ⊥) → lo ≤ j → j ≤ lo
+        → up ≡ record { count = ps .count; places = shifted j (ps .count) (ps .places) } → Filling ps₀ new m (record { count = ps′ .count; places = set (ps′ .places) lo p }) (i + 1)
+    turn-new ps′ up j w b room g h e =
+        let there : j ≡ lo = omega arith in
+        let shifts = e ∙ ap (λ (x : ℕ). record { count = ps .count; places = shifted x (ps .count) (ps .places) }) there in
+        filled _ (ap (λ (x : Points). record { count = x .count; places = set (x .places) lo p }) w ∙ add-between ps p lo (f .sorted) len at up (apart b) (omega (arith, f .sorted .few)) shifts)
+        (omega (arith, f .sorted .few, new-long ps p lo (f .sorted) len at (apart b)))
+
+    -- no place is left
+    pub turn-full : fresh ≡ true → ps .count ≡ 256 → Inserts (listOf ps₀) (listOf new) (record { fits = false; points = ps })
+    turn-full b full =
+        let rest : all ≡ insertAll (insertAll (listOf ps₀) (take (i + 1) (listOf new))) (drop (i + 1) (listOf new)) =
+        ap (insertAll (listOf ps₀)) (sym (take-append-drop (i + 1) (listOf new))) ∙ foldl-append (λ l q. insertPoint q l) (listOf ps₀) (take (i + 1) (listOf new)) (drop (i + 1) (listOf new)) in
+        record {
+          fits = sym (lt-leb (length all) 256 (omega (arith, new-long ps p lo (f .sorted) len at (apart b), ap length so-far, ap length rest, all-long (insertAll (listOf ps₀) (take (i + 1) (listOf new))) (drop (i + 1) (listOf new)))));
+          made = λ e. absurd (false≢true e);
+        }

@@ -42,45 +42,33 @@ fn insert_all(mut points: Points, new: Points) -> Inserted
         let n = points.count;
         let mut lo: usize = 0;
         let mut hi: usize = n;
+        // no point stands at the very time
+        let mut fresh = true;
         while lo < hi {
             let mid = lo + (hi - lo) / 2;
             let q = points.places[mid];
-            if numbers::order::order_key(q.time) < key {
+            let k = numbers::order::order_key(q.time);
+            if k < key {
                 lo = mid + 1;
             } else {
                 hi = mid;
+                fresh = k != key;
             }
         }
-        if lo == n {
+        if fresh {
             if n == 256 {
-                return Inserted {
-                    fits: false,
-                    points,
-                };
+                let fits = false;
+                return Inserted { fits, points };
             }
-            points.places[n] = p;
+            let mut j: usize = n;
+            while lo < j {
+                let q = points.places[j - 1];
+                points.places[j] = q;
+                j -= 1;
+            }
             points.count = n + 1;
-        } else {
-            let q = points.places[lo];
-            if numbers::order::order_key(q.time) == key {
-                points.places[lo] = p;
-            } else {
-                if n == 256 {
-                    return Inserted {
-                        fits: false,
-                        points,
-                    };
-                }
-                let mut j: usize = n;
-                while lo < j {
-                    let q = points.places[j - 1];
-                    points.places[j] = q;
-                    j -= 1;
-                }
-                points.places[lo] = p;
-                points.count = n + 1;
-            }
         }
+        points.places[lo] = p;
     }
     Inserted { fits: true, points }
 }
