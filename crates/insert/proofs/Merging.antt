@@ -17,7 +17,7 @@ use Rattle.curve.specs.declared.CurveType.the-variants.{Linear}
 use Rattle.points.specs.Point.{finitePoint}
 use Rattle.points.specs.Points.{every, rising, timeKey, listOf, holding, validPoints}
 use Rattle.points.specs.Laws.{and-left, and-right, and-true}
-use Rattle.points.specs.ValidLaws.{holding-listOf, valid-count, valid-rising}
+use Rattle.points.specs.ValidLaws.{holding-listOf, valid-count, valid-finite, valid-rising}
 use Rattle.points.specs.declared.AutomationPoint.{AutomationPoint}
 use Rattle.points.specs.declared.Points.{Points}
 use Rattle.points.specs.declared.refusal.Refusal.the-variants.{NotValid, NotFinite, TooManyPoints}
@@ -25,7 +25,9 @@ use Rattle.points.specs.declared.refusal.Answer.the-variants.{Accepted}
 use Rattle.settle.specs.Settle.{refused, settle, editPoints}
 use Rattle.settle.specs.NewPoint.{pointWith}
 use Rattle.pointwise.specs.Each.{zero64, zero32, one32, changed}
+use Rattle.pointwise.specs.Places.{mappedIn}
 use Rattle.pointwise.specs.declared.Change.the-variants.{Shift}
+use Rattle.pointwise.proofs.Mapped.{mapped-list}
 use Rattle.insert.specs.Insert.{insertPoint, insertAll, merged, mergedPoints, rampList, pulseList}
 use Rattle.insert.specs.Inserted.{Sorted}
 use Rattle.insert.proofs.Inserting.{every-all}
@@ -52,7 +54,7 @@ pub no-room : (ps : Points) (l : List AutomationPoint) → every finitePoint l �
 unfolding settle
 no-room ps l f r h = rw (f, r, h)
 
-pub bad-result : (ps : Points) (l : List AutomationPoint) → every finitePoint l ≡ false → refused ps NotFinite ≡ settle ps l
+bad-result : (ps : Points) (l : List AutomationPoint) → every finitePoint l ≡ false → refused ps NotFinite ≡ settle ps l
 unfolding settle
 bad-result ps l f = rw f
 
@@ -169,7 +171,7 @@ unfine l h = go (every finitePoint l) refl
     go false e = e
 
 -- so the result has a number that isn't finite where a shifted time isn't
-pub merge-bad : (offset : Float) (l other : List AutomationPoint) → every finitePoint other ≡ true → every finitePoint (map (shift offset) other) ≡ false
+merge-bad : (offset : Float) (l other : List AutomationPoint) → every finitePoint other ≡ true → every finitePoint (map (shift offset) other) ≡ false
     → every finitePoint (insertAll l (map (shift offset) other)) ≡ false
 merge-bad offset l other o h = unfine (insertAll l (map (shift offset) other)) (bad-some offset l other (sym (shift-fine offset other o) ∙ h))
 
@@ -188,6 +190,28 @@ merge-other ps other offset v = rw v
 pub merge-valid : (ps other : Points) (offset : Float) → validPoints other ≡ true → editPoints ps (finite offset) (merged (listOf ps) (listOf other) offset) ≡ mergedPoints ps other offset
 unfolding mergedPoints
 merge-valid ps other offset v = rw v
+
+-- what the code makes of the other's points, all being valid: `shifted` has each at its time plus the offset
+module _ (ps other shifted : Points) (offset : Float) (v : validPoints ps ≡ true) (w : validPoints other ≡ true) (len : length (other .places) ≡ 256)
+    (made : shifted ≡ mappedIn (shift offset) other) (f : finite offset ≡ true) where
+  abbrev whole : List AutomationPoint
+  whole = merged (listOf ps) (listOf other) offset
+
+  shifted-list : listOf shifted ≡ map (shift offset) (listOf other)
+  shifted-list = ap listOf made ∙ mapped-list (shift offset) other w len
+
+  whole-is : settle ps whole ≡ mergedPoints ps other offset
+  whole-is = settled ps (finite offset) whole v f ∙ merge-valid ps other offset w
+
+  -- a time that isn't finite
+  pub merge-lost : every finitePoint (listOf shifted) ≡ false → refused ps NotFinite ≡ mergedPoints ps other offset
+  merge-lost h =
+      bad-result ps whole (ap (every finitePoint) (sym (merged-is offset (listOf ps) (listOf other)))
+      ∙ merge-bad offset (listOf ps) (listOf other) (valid-finite other w) (ap (every finitePoint) (sym shifted-list) ∙ h))
+      ∙ whole-is
+
+  pub merge-made : settle ps (insertAll (listOf ps) (listOf shifted)) ≡ mergedPoints ps other offset
+  merge-made = ap (settle ps) (ap (insertAll (listOf ps)) shifted-list ∙ merged-is offset (listOf ps) (listOf other)) ∙ whole-is
 
 -- ---- a ramp and a pulse
 

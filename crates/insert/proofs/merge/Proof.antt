@@ -1,17 +1,10 @@
-use mathlib.Core.Path.{_≡_, sym, ap, _∙_}
-use mathlib.Core.Bool.{true}
+use mathlib.Core.Path.{sym, _∙_}
 use borrow.Author.Tests.{not-true, not-false}
 use Rattle.numbers.specs.Bounds.{finite}
-use Rattle.points.specs.Point.{finitePoint}
-use Rattle.points.specs.Points.{listOf, every, validPoints}
-use Rattle.points.specs.ValidLaws.{valid-finite}
+use Rattle.points.specs.Points.{listOf}
 use Rattle.points.proofs.Good.{places}
-use Rattle.settle.specs.Settle.{settle}
-use Rattle.pointwise.specs.Each.{changed}
-use Rattle.pointwise.specs.declared.Change.the-variants.{Shift}
-use Rattle.pointwise.proofs.Mapped.{mapped-list}
-use Rattle.insert.specs.Insert.{insertAll, merged}
-use Rattle.insert.proofs.Merging.{not-finite, settled, bad-result, merged-is, merge-bad, merge-invalid, merge-other, merge-valid}
+use Rattle.insert.specs.Insert.{merged}
+use Rattle.insert.proofs.Merging.{not-finite, merge-invalid, merge-other, merge-valid, merge-lost, merge-made}
 use borrow.Author.Needs.{needs}
 use Rattle.insert.proofs.merge.Statement.{statement}
 use Rattle.insert.proofs.merge.Tie as tie
@@ -57,36 +50,25 @@ returns-3 c =
     let ps = c .before .before .before .before .before .before .before .args .points in
     let other = c .before .before .before .before .before .before .before .args .other in
     let d = c .before .before .before .before .before .before .before .args .offset in
-    let v : validPoints ps ≡ true = sym (c .before .before .before .before .before .before .is-valid .ensures) ∙ not-false _ (c .before .before .before .before .before .if1 .left) in
-    let w : validPoints other ≡ true = sym (c .before .before .before .before .is-valid2 .ensures) ∙ not-false _ (c .before .before .before .if2 .left) in
-    c .refuse3 .ensures ∙ not-finite ps (finite d) (merged (listOf ps) (listOf other) d) v (sym (c .before .before .is-finite .ensures) ∙ not-true _ (c .before .if3 .taken)) ∙ merge-valid ps other d w
+    c .refuse3 .ensures ∙ not-finite ps (finite d) (merged (listOf ps) (listOf other) d) (sym (c .before .before .before .before .before .before .is-valid .ensures) ∙ not-false _ (c .before .before .before .before .before .if1 .left)) (sym (c .before .before .is-finite .ensures) ∙ not-true _ (c .before .if3 .taken))
+    ∙ merge-valid ps other d (sym (c .before .before .before .before .is-valid2 .ensures) ∙ not-false _ (c .before .before .before .if2 .left))
 
 returns-4 : tie.Need-returns-4
 returns-4 c =
-    let ps = c .before .before .before .before .before .before .before .before .before .before .args .points in
-    let other = c .before .before .before .before .before .before .before .before .before .before .args .other in
-    let d = c .before .before .before .before .before .before .before .before .before .before .args .offset in
-    let f = changed (Shift d) in
-    let v : validPoints ps ≡ true = sym (c .before .before .before .before .before .before .before .before .before .is-valid .ensures) ∙ not-false _ (c .before .before .before .before .before .before .before .before .if1 .left) in
-    let w : validPoints other ≡ true = sym (c .before .before .before .before .before .before .before .is-valid2 .ensures) ∙ not-false _ (c .before .before .before .before .before .before .if2 .left) in
-    let m = ap listOf (c .before .before .before .map-points .ensures) ∙ mapped-list f other w (places other _ (c .before .before .before .before .before .before .before .before .before .before .good .1 .0)) in
-    let bad = merge-bad d (listOf ps) (listOf other) (valid-finite other w) (ap (every finitePoint) (sym m) ∙ sym (c .before .before .all-finite .ensures) ∙ not-true _ (c .before .if4 .taken)) in
-    let l = merged (listOf ps) (listOf other) d in
-    c .refuse4 .ensures ∙ bad-result ps l (ap (every finitePoint) (sym (merged-is d (listOf ps) (listOf other))) ∙ bad)
-    ∙ settled ps (finite d) l v (sym (c .before .before .before .before .before .is-finite .ensures) ∙ not-false _ (c .before .before .before .before .if3 .left)) ∙ merge-valid ps other d w
+    c .refuse4 .ensures
+    ∙ merge-lost (c .before .before .before .before .before .before .before .before .before .before .args .points) (c .before .before .before .before .before .before .before .before .before .before .args .other) (c .before .before .before .map-points .result) (c .before .before .before .before .before .before .before .before .before .before .args .offset)
+    (sym (c .before .before .before .before .before .before .before .before .before .is-valid .ensures) ∙ not-false _ (c .before .before .before .before .before .before .before .before .if1 .left))
+    (sym (c .before .before .before .before .before .before .before .is-valid2 .ensures) ∙ not-false _ (c .before .before .before .before .before .before .if2 .left))
+    (places (c .before .before .before .before .before .before .before .before .before .before .args .other) _ (c .before .before .before .before .before .before .before .before .before .before .good .1 .0)) (c .before .before .before .map-points .ensures) (sym (c .before .before .before .before .before .is-finite .ensures) ∙ not-false _ (c .before .before .before .before .if3 .left))
+    (sym (c .before .before .all-finite .ensures) ∙ not-true _ (c .before .if4 .taken))
 
 returns-5 : tie.Need-returns-5
 returns-5 c =
-    let ps = c .before .before .before .before .before .before .before .before .before .before .args .points in
-    let other = c .before .before .before .before .before .before .before .before .before .before .args .other in
-    let d = c .before .before .before .before .before .before .before .before .before .before .args .offset in
-    let f = changed (Shift d) in
-    let v : validPoints ps ≡ true = sym (c .before .before .before .before .before .before .before .before .before .is-valid .ensures) ∙ not-false _ (c .before .before .before .before .before .before .before .before .if1 .left) in
-    let w : validPoints other ≡ true = sym (c .before .before .before .before .before .before .before .is-valid2 .ensures) ∙ not-false _ (c .before .before .before .before .before .before .if2 .left) in
-    let m = ap listOf (c .before .before .before .map-points .ensures) ∙ mapped-list f other w (places other _ (c .before .before .before .before .before .before .before .before .before .before .good .1 .0)) in
-    let l = merged (listOf ps) (listOf other) d in
-    c .insert-points .ensures ∙ ap (settle ps) (ap (insertAll (listOf ps)) m ∙ merged-is d (listOf ps) (listOf other))
-    ∙ settled ps (finite d) l v (sym (c .before .before .before .before .before .is-finite .ensures) ∙ not-false _ (c .before .before .before .before .if3 .left)) ∙ merge-valid ps other d w
+    c .insert-points .ensures
+    ∙ merge-made (c .before .before .before .before .before .before .before .before .before .before .args .points) (c .before .before .before .before .before .before .before .before .before .before .args .other) (c .before .before .before .map-points .result) (c .before .before .before .before .before .before .before .before .before .before .args .offset)
+    (sym (c .before .before .before .before .before .before .before .before .before .is-valid .ensures) ∙ not-false _ (c .before .before .before .before .before .before .before .before .if1 .left))
+    (sym (c .before .before .before .before .before .before .before .is-valid2 .ensures) ∙ not-false _ (c .before .before .before .before .before .before .if2 .left))
+    (places (c .before .before .before .before .before .before .before .before .before .before .args .other) _ (c .before .before .before .before .before .before .before .before .before .before .good .1 .0)) (c .before .before .before .map-points .ensures) (sym (c .before .before .before .before .before .is-finite .ensures) ∙ not-false _ (c .before .before .before .before .if3 .left))
 
 pub merge-spec : {M : Type 1} → statement M
 merge-spec =
