@@ -1,20 +1,23 @@
 -- Laws of the edits that change which points there are: what one more element does to what a loop keeps. Assumes nothing.
-use Prim.Native.Nat.{ℕ, zero, suc, _+_, _-_, _≤_, _<_, zero-le, suc-le-suc}
+use Prim.Native.Nat.{ℕ, zero, suc, min, _+_, _-_, _≤_, _<_, zero-le, suc-le-suc}
 use mathlib.Core.Path.{_≡_, refl, sym, ap, _∙_}
 use mathlib.Core.Bool.{Bool, true, false, cond, not, _&&_, false≢true}
-use mathlib.Core.List.{List, [], _∷_, _++_, append-nil, reverse, reverse-cons}
+use mathlib.Core.List.{List, [], _∷_, _++_, append-nil, append-assoc, reverse, reverse-cons}
 use native.Mathlib.Numerals.{add-one}
 use native.Mathlib.Nat.{le-of-suc-le-suc, not-suc-le-zero}
 use native.Mathlib.Omega.{arith}
 use lib.Dec.{eqb}
 use lib.Ieee.{Float}
-use lib.ListN.{length, take, getD, length-append}
-use lib.Seq.{take-suc}
-use borrow.Author.Tests.{eqb-true, not-true}
-use Rattle.points.specs.Points.{every, timeKey}
+use lib.ListN.{length, take, getD, set, length-append, length-take}
+use lib.Seq.{take-suc, getD-take}
+use borrow.Author.Tests.{eqb-true, eq-eqb, ne-eqb, not-true}
+use Rattle.points.specs.Point.{anyPoint}
+use Rattle.points.specs.Points.{every, timeKey, listOf, holding}
 use Rattle.points.specs.Laws.{and-left, and-right}
-use Rattle.points.specs.Middles.{middles, keep-cons, keep-one}
+use Rattle.points.specs.Middles.{middles, keep-cons, keep-one, middles-yes, middles-no}
 use Rattle.points.specs.declared.AutomationPoint.{AutomationPoint}
+use Rattle.points.specs.declared.Points.{Points}
+use Rattle.settle.proofs.Ends.{pushed}
 use Rattle.shape.specs.Shape.{keepIf, removeFirst, firstsAfter, firsts, differs, innerKept, simplified}
 
 -- a search that goes on while none has passed: the first is found
@@ -203,6 +206,51 @@ inner-bound t p (q ∷ (r ∷ l)) = keep-one (differs t p q r) q (innerKept t (q
 pub simplified-bound : (t : Float) (l : List AutomationPoint) → length (simplified t l) ≤ length l
 simplified-bound t [] = zero-le
 simplified-bound t (p ∷ l) = suc-le-suc (inner-bound t p l)
+
+-- ---- the loops that look back: n places hold points, and a turn reads the one at i
+
+module _ (ps : Points) (n i : ℕ) (len : length (ps .places) ≡ 256) (used : n ≡ min (ps .count) 256) where
+  abbrev l : List AutomationPoint
+  l = listOf ps
+
+  abbrev at : ℕ → AutomationPoint
+  at j = getD (ps .places) j anyPoint
+
+  abbrev with : Points → AutomationPoint → Points
+  with out p = record { count = out .count + 1; places = set (out .places) (out .count) p }
+
+  long : length l ≡ n
+  long = omega (arith, length-take (ps .count) (ps .places))
+
+  read : (j : ℕ) → j < n → at j ≡ getD l j anyPoint
+  read j h = sym (getD-take (ps .count) (ps .places) j anyPoint (omega arith))
+
+  -- the times of the one before and of this one
+  module _ (p : 0 < i) (h : i < n) (out : Points) (e : out ≡ holding (firsts (take i l))) where
+    times : eqb (timeKey (at (i - 1))) (timeKey (at i)) ≡ eqb (timeKey (getD l (i - 1) anyPoint)) (timeKey (getD l i anyPoint))
+    times = λ j. eqb (timeKey (read (i - 1) (omega arith) j)) (timeKey (read i h j))
+
+    pub firsts-push : out .count < 256 → (timeKey (at (i - 1)) ≡ timeKey (at i) → ⊥) → with out (at i) ≡ holding (firsts (take (i + 1) l))
+    firsts-push b ne =
+        pushed out (firsts (take i l)) (at i) (omega (arith, ap (λ (x : Points). x .count) e)) e
+        ∙ ap holding (ap (λ (x : AutomationPoint). firsts (take i l) ++ (x ∷ [])) (read i h) ∙ sym (firsts-yes l i anyPoint p (omega (arith, long)) (sym times ∙ ne-eqb _ _ ne)))
+
+    pub firsts-pass : timeKey (at (i - 1)) ≡ timeKey (at i) → out ≡ holding (firsts (take (i + 1) l))
+    firsts-pass eq = e ∙ ap holding (sym (firsts-no l i anyPoint p (omega (arith, long)) (sym times ∙ eq-eqb _ _ eq)))
+
+  -- a test of the two before and of this one
+  module _ (q : AutomationPoint → AutomationPoint → AutomationPoint → Bool) (p : 2 ≤ i) (h : i < n) (out : Points) (e : out ≡ holding (take 1 l ++ middles q (take i l))) where
+    three : q (at (i - 2)) (at (i - 1)) (at i) ≡ q (getD l (i - 2) anyPoint) (getD l (i - 1) anyPoint) (getD l i anyPoint)
+    three = λ j. q (read (i - 2) (omega arith) j) (read (i - 1) (omega arith) j) (read i h j)
+
+    pub middles-push : out .count < 256 → q (at (i - 2)) (at (i - 1)) (at i) ≡ true → with out (at (i - 1)) ≡ holding (take 1 l ++ middles q (take (i + 1) l))
+    middles-push b y =
+        pushed out (take 1 l ++ middles q (take i l)) (at (i - 1)) (omega (arith, ap (λ (x : Points). x .count) e)) e
+        ∙ ap holding (ap (λ (x : AutomationPoint). (take 1 l ++ middles q (take i l)) ++ (x ∷ [])) (read (i - 1) (omega arith)) ∙ append-assoc (take 1 l) (middles q (take i l)) (getD l (i - 1) anyPoint ∷ [])
+        ∙ ap (λ (k : List AutomationPoint). take 1 l ++ k) (sym (middles-yes q l i anyPoint p (omega (arith, long)) (sym three ∙ y))))
+
+    pub middles-pass : q (at (i - 2)) (at (i - 1)) (at i) ≡ false → out ≡ holding (take 1 l ++ middles q (take (i + 1) l))
+    middles-pass y = e ∙ ap (λ (k : List AutomationPoint). holding (take 1 l ++ k)) (sym (middles-no q l i anyPoint p (omega (arith, long)) (sym three ∙ y)))
 
 pub reverse-long : {A : Type 0} (l : List A) → length (reverse l) ≡ length l
 reverse-long [] = refl

@@ -1,6 +1,6 @@
 use Prim.Native.Nat.{ℕ, _≤_, _<_, _-_, max}
 use mathlib.Core.Path.{_≡_, sym, ap, _∙_}
-use mathlib.Core.List.{List, [], _∷_, _++_, append-nil, append-assoc}
+use mathlib.Core.List.{List, [], _∷_, _++_, append-nil}
 use native.Mathlib.Omega.{arith}
 use lib.ListN.{length, take, getD, length-take}
 use lib.Seq.{getD-take, take-all}
@@ -9,10 +9,10 @@ use Rattle.points.specs.declared.Points.{Points}
 use Rattle.points.specs.Point.{anyPoint}
 use Rattle.points.specs.Points.{listOf, holding}
 use Rattle.points.proofs.Good.{places}
-use Rattle.points.specs.Middles.{middles, middles-yes, middles-no, middles-two}
+use Rattle.points.specs.Middles.{middles, middles-two}
 use Rattle.settle.proofs.Ends.{pushed}
 use Rattle.shape.specs.Shape.{differs}
-use Rattle.shape.proofs.Kept.{simplified-is, simplified-few}
+use Rattle.shape.proofs.Kept.{simplified-is, simplified-few, middles-push, middles-pass}
 use Rattle.shape.proofs.kept_differing.Statement.{statement}
 use Rattle.shape.proofs.kept_differing.Tie as tie
 
@@ -78,44 +78,16 @@ loop-less c = omega arith
 
 loop-again : tie.Need-loop-again Inv-loop μ-loop
 loop-again c =
-    let ps = c .before .before .before .before .before .before .before .before .before .args .t1 in
     let h = c .before .before .before .before .before .before .loop in
-    let i = h .i in
-    let l = listOf ps in
-    let t = differs (c .before .before .before .before .before .before .before .before .before .args .tolerance) in
-    let len = places ps _ (c .before .before .before .before .before .before .before .before .before .good .0) in
-    let n : length l ≡ c .before .before .before .before .before .before .before .before .used .result = omega (arith, length-take (ps .count) (ps .places), c .before .before .before .before .before .before .before .before .used .ensures) in
-    let x : getD (ps .places) (i - 2) anyPoint ≡ getD l (i - 2) anyPoint = sym (getD-take (ps .count) (ps .places) (i - 2) anyPoint (omega (arith, c .before .before .before .before .before .before .before .before .used .ensures))) in
-    let y : getD (ps .places) (i - 1) anyPoint ≡ getD l (i - 1) anyPoint = sym (getD-take (ps .count) (ps .places) (i - 1) anyPoint (omega (arith, c .before .before .before .before .before .before .before .before .used .ensures))) in
-    let z : getD (ps .places) i anyPoint ≡ getD l i anyPoint = sym (getD-take (ps .count) (ps .places) i anyPoint (omega (arith, c .before .before .before .before .before .before .before .before .used .ensures))) in
-    let three : t (getD (ps .places) (i - 2) anyPoint) (getD (ps .places) (i - 1) anyPoint) (getD (ps .places) i anyPoint) ≡ t (getD l (i - 2) anyPoint) (getD l (i - 1) anyPoint) (getD l i anyPoint) = λ j. t (x j) (y j) (z j) in
-    let m : h .out .count ≡ length (take 1 l ++ middles t (take i l)) = ap (λ (x : Points). x .count) (h .inv .3) in
-    let more = middles-yes t l i anyPoint (omega arith) (omega arith) (sym three ∙ sym (c .before .differs .ensures) ∙ c .if1 .taken) in (
-      omega arith,
-      omega arith,
-      omega arith,
-      pushed (h .out) (take 1 l ++ middles t (take i l)) (getD (ps .places) (i - 1) anyPoint) (omega arith) (h .inv .3)
-          ∙ ap holding (ap (λ (p : AutomationPoint). (take 1 l ++ middles t (take i l)) ++ (p ∷ [])) y ∙ append-assoc (take 1 l) (middles t (take i l)) (getD l (i - 1) anyPoint ∷ []) ∙ ap (λ (k : List AutomationPoint). take 1 l ++ k) (sym more)),
-    )
+    (omega arith, omega arith, omega arith, middles-push (c .before .before .before .before .before .before .before .before .before .args .t1) (c .before .before .before .before .before .before .before .before .used .result) (h .i) (places (c .before .before .before .before .before .before .before .before .before .args .t1) _ (c .before .before .before .before .before .before .before .before .before .good .0)) (c .before .before .before .before .before .before .before .before .used .ensures) (differs (c .before .before .before .before .before .before .before .before .before .args .tolerance)) (h .inv .0) (c .before .before .before .before .before .loop-test .taken) (h .out) (h .inv .3) (omega arith) (sym (c .before .differs .ensures) ∙ c .if1 .taken))
 
 loop-less-2 : tie.Need-loop-less-2 Inv-loop μ-loop
 loop-less-2 c = omega arith
 
 loop-again-2 : tie.Need-loop-again-2 Inv-loop μ-loop
 loop-again-2 c =
-    let ps = c .before .before .before .before .before .before .before .before .before .args .t1 in
     let h = c .before .before .before .before .before .before .loop in
-    let i = h .i in
-    let l = listOf ps in
-    let t = differs (c .before .before .before .before .before .before .before .before .before .args .tolerance) in
-    let len = places ps _ (c .before .before .before .before .before .before .before .before .before .good .0) in
-    let n : length l ≡ c .before .before .before .before .before .before .before .before .used .result = omega (arith, length-take (ps .count) (ps .places), c .before .before .before .before .before .before .before .before .used .ensures) in
-    let x : getD (ps .places) (i - 2) anyPoint ≡ getD l (i - 2) anyPoint = sym (getD-take (ps .count) (ps .places) (i - 2) anyPoint (omega (arith, c .before .before .before .before .before .before .before .before .used .ensures))) in
-    let y : getD (ps .places) (i - 1) anyPoint ≡ getD l (i - 1) anyPoint = sym (getD-take (ps .count) (ps .places) (i - 1) anyPoint (omega (arith, c .before .before .before .before .before .before .before .before .used .ensures))) in
-    let z : getD (ps .places) i anyPoint ≡ getD l i anyPoint = sym (getD-take (ps .count) (ps .places) i anyPoint (omega (arith, c .before .before .before .before .before .before .before .before .used .ensures))) in
-    let three : t (getD (ps .places) (i - 2) anyPoint) (getD (ps .places) (i - 1) anyPoint) (getD (ps .places) i anyPoint) ≡ t (getD l (i - 2) anyPoint) (getD l (i - 1) anyPoint) (getD l i anyPoint) = λ j. t (x j) (y j) (z j) in
-    let more = middles-no t l i anyPoint (omega arith) (omega arith) (sym three ∙ sym (c .before .differs .ensures) ∙ c .if1 .left) in
-    (omega arith, omega arith, omega arith, h .inv .3 ∙ ap (λ (k : List AutomationPoint). holding (take 1 l ++ k)) (sym more))
+    (omega arith, omega arith, omega arith, middles-pass (c .before .before .before .before .before .before .before .before .before .args .t1) (c .before .before .before .before .before .before .before .before .used .result) (h .i) (places (c .before .before .before .before .before .before .before .before .before .args .t1) _ (c .before .before .before .before .before .before .before .before .before .good .0)) (c .before .before .before .before .before .before .before .before .used .ensures) (differs (c .before .before .before .before .before .before .before .before .before .args .tolerance)) (h .inv .0) (c .before .before .before .before .before .loop-test .taken) (h .out) (h .inv .3) (sym (c .before .differs .ensures) ∙ c .if1 .left))
 
 returns : tie.Need-returns Inv-loop μ-loop
 returns c =

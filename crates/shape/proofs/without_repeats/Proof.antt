@@ -1,18 +1,15 @@
 use Prim.Native.Nat.{_≤_, _-_, max}
 use mathlib.Core.Path.{_≡_, sym, ap, _∙_}
-use mathlib.Core.List.{List, [], _∷_, _++_}
+use mathlib.Core.List.{List}
 use native.Mathlib.Omega.{arith}
-use lib.ListN.{length, take, getD, length-take}
-use lib.Seq.{getD-take, take-all}
+use lib.ListN.{length, take, length-take}
+use lib.Seq.{take-all}
 use Rattle.points.specs.declared.AutomationPoint.{AutomationPoint}
 use Rattle.points.specs.declared.Points.{Points}
-use Rattle.points.specs.Point.{anyPoint}
-use Rattle.points.specs.Points.{listOf, holding, timeKey}
+use Rattle.points.specs.Points.{listOf, holding}
 use Rattle.points.proofs.Good.{places}
-use borrow.Author.Tests.{eq-eqb, ne-eqb}
-use Rattle.settle.proofs.Ends.{pushed}
 use Rattle.shape.specs.Shape.{firsts}
-use Rattle.shape.proofs.Kept.{firsts-yes, firsts-no, firsts-one}
+use Rattle.shape.proofs.Kept.{firsts-one, firsts-push, firsts-pass}
 use Rattle.shape.proofs.without_repeats.Statement.{statement}
 use Rattle.shape.proofs.without_repeats.Tie as tie
 
@@ -71,33 +68,16 @@ loop-less c = omega arith
 
 loop-again : tie.Need-loop-again Inv-loop μ-loop
 loop-again c =
-    let ps = c .before .before .before .before .before .before .before .before .before .args .t1 in
     let h = c .before .before .before .before .before .before .loop in
-    let i = h .i in
-    let l = listOf ps in
-    let len = places ps _ (c .before .before .before .before .before .before .before .before .before .good .0) in
-    let n : length l ≡ c .before .before .before .before .before .before .before .before .used .result = omega (arith, length-take (ps .count) (ps .places), c .before .before .before .before .before .before .before .before .used .ensures) in
-    let p : getD (ps .places) (i - 1) anyPoint ≡ getD l (i - 1) anyPoint = sym (getD-take (ps .count) (ps .places) (i - 1) anyPoint (omega (arith, c .before .before .before .before .before .before .before .before .used .ensures))) in
-    let q : getD (ps .places) i anyPoint ≡ getD l i anyPoint = sym (getD-take (ps .count) (ps .places) i anyPoint (omega (arith, c .before .before .before .before .before .before .before .before .used .ensures))) in
-    let m : h .out .count ≡ length (firsts (take i l)) = ap (λ (x : Points). x .count) (h .inv .3) in
-    let y = firsts-yes l i anyPoint (omega arith) (omega arith) (ne-eqb _ _ (λ e. c .if1 .taken (c .before .before .order-key .ensures ∙ ap timeKey p ∙ e ∙ sym (c .before .order-key2 .ensures ∙ ap timeKey q)))) in
-    (omega arith, omega arith, omega arith, pushed (h .out) (firsts (take i l)) (getD (ps .places) i anyPoint) (omega arith) (h .inv .3) ∙ ap holding (ap (λ (x : AutomationPoint). firsts (take i l) ++ (x ∷ [])) q ∙ sym y))
+    (omega arith, omega arith, omega arith, firsts-push (c .before .before .before .before .before .before .before .before .before .args .t1) (c .before .before .before .before .before .before .before .before .used .result) (h .i) (places (c .before .before .before .before .before .before .before .before .before .args .t1) _ (c .before .before .before .before .before .before .before .before .before .good .0)) (c .before .before .before .before .before .before .before .before .used .ensures) (h .inv .0) (c .before .before .before .before .before .loop-test .taken) (h .out) (h .inv .3) (omega arith) (λ e. c .if1 .taken (c .before .before .order-key .ensures ∙ e ∙ sym (c .before .order-key2 .ensures))))
 
 loop-less-2 : tie.Need-loop-less-2 Inv-loop μ-loop
 loop-less-2 c = omega arith
 
 loop-again-2 : tie.Need-loop-again-2 Inv-loop μ-loop
 loop-again-2 c =
-    let ps = c .before .before .before .before .before .before .before .before .before .args .t1 in
     let h = c .before .before .before .before .before .before .loop in
-    let i = h .i in
-    let l = listOf ps in
-    let len = places ps _ (c .before .before .before .before .before .before .before .before .before .good .0) in
-    let n : length l ≡ c .before .before .before .before .before .before .before .before .used .result = omega (arith, length-take (ps .count) (ps .places), c .before .before .before .before .before .before .before .before .used .ensures) in
-    let p : getD (ps .places) (i - 1) anyPoint ≡ getD l (i - 1) anyPoint = sym (getD-take (ps .count) (ps .places) (i - 1) anyPoint (omega (arith, c .before .before .before .before .before .before .before .before .used .ensures))) in
-    let q : getD (ps .places) i anyPoint ≡ getD l i anyPoint = sym (getD-take (ps .count) (ps .places) i anyPoint (omega (arith, c .before .before .before .before .before .before .before .before .used .ensures))) in
-    let y = firsts-no l i anyPoint (omega arith) (omega arith) (eq-eqb _ _ (sym (c .before .before .order-key .ensures ∙ ap timeKey p) ∙ c .if1 .left ∙ c .before .order-key2 .ensures ∙ ap timeKey q)) in
-    (omega arith, omega arith, omega arith, h .inv .3 ∙ ap holding (sym y))
+    (omega arith, omega arith, omega arith, firsts-pass (c .before .before .before .before .before .before .before .before .before .args .t1) (c .before .before .before .before .before .before .before .before .used .result) (h .i) (places (c .before .before .before .before .before .before .before .before .before .args .t1) _ (c .before .before .before .before .before .before .before .before .before .good .0)) (c .before .before .before .before .before .before .before .before .used .ensures) (h .inv .0) (c .before .before .before .before .before .loop-test .taken) (h .out) (h .inv .3) (sym (c .before .before .order-key .ensures) ∙ c .if1 .left ∙ c .before .order-key2 .ensures))
 
 returns : tie.Need-returns Inv-loop μ-loop
 returns c =
