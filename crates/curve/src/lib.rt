@@ -1,6 +1,7 @@
 // Source 001: the curves between two points.
 ghost use mathlib.Core.Path.{_≡_};
 ghost use Rattle.curve.specs.Curve.{clamped, cubicBezier, inOut, quadInOut, stepped, bounced, eased, interpolated, code, isLinear, controls, curveOf, finiteControls, sameCurve};
+ghost use Rattle.curve.specs.declared.CurveType.the-variants.{CubicInOut, QuartInOut, QuintInOut};
 
 pub enum CurveType {
     Linear,
@@ -70,6 +71,27 @@ fn quad_in_out(t: f32) -> f32
     in_out(t, 2.0 * t * t, u * u)
 }
 
+fn cubic_in_out(t: f32) -> f32
+    ensures { λ r. ⌜ r ≡ eased CubicInOut t ⌝ }
+{
+    let u = -2.0 * t + 2.0;
+    in_out(t, 4.0 * t * t * t, u * u * u)
+}
+
+fn quart_in_out(t: f32) -> f32
+    ensures { λ r. ⌜ r ≡ eased QuartInOut t ⌝ }
+{
+    let u = -2.0 * t + 2.0;
+    in_out(t, 8.0 * t * t * t * t, u * u * u * u)
+}
+
+fn quint_in_out(t: f32) -> f32
+    ensures { λ r. ⌜ r ≡ eased QuintInOut t ⌝ }
+{
+    let u = -2.0 * t + 2.0;
+    in_out(t, 16.0 * t * t * t * t * t, u * u * u * u * u)
+}
+
 fn stepped(t: f32) -> f32
     ensures { λ r. ⌜ r ≡ stepped t ⌝ }
 {
@@ -120,28 +142,19 @@ impl CurveType {
                 let u = 1.0 - t;
                 1.0 - u * u * u
             }
-            CurveType::CubicInOut => {
-                let u = -2.0 * t + 2.0;
-                in_out(t, 4.0 * t * t * t, u * u * u)
-            }
+            CurveType::CubicInOut => cubic_in_out(t),
             CurveType::QuartIn => t * t * t * t,
             CurveType::QuartOut => {
                 let u = 1.0 - t;
                 1.0 - u * u * u * u
             }
-            CurveType::QuartInOut => {
-                let u = -2.0 * t + 2.0;
-                in_out(t, 8.0 * t * t * t * t, u * u * u * u)
-            }
+            CurveType::QuartInOut => quart_in_out(t),
             CurveType::QuintIn => t * t * t * t * t,
             CurveType::QuintOut => {
                 let u = 1.0 - t;
                 1.0 - u * u * u * u * u
             }
-            CurveType::QuintInOut => {
-                let u = -2.0 * t + 2.0;
-                in_out(t, 16.0 * t * t * t * t * t, u * u * u * u * u)
-            }
+            CurveType::QuintInOut => quint_in_out(t),
         }
     }
 

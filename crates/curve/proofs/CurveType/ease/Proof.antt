@@ -70,8 +70,8 @@ enum-told-13 c = search needs
 enum-told-14 : tie.Need-enum-told-14
 enum-told-14 c = search needs
 
-in-out-requires : tie.Need-in-out-requires
-in-out-requires c κs = search needs
+cubic-in-out-requires : tie.Need-cubic-in-out-requires
+cubic-in-out-requires c κs = search needs
 
 enum-told-15 : tie.Need-enum-told-15
 enum-told-15 c = search needs
@@ -82,8 +82,8 @@ enum-told-16 c = search needs
 enum-told-17 : tie.Need-enum-told-17
 enum-told-17 c = search needs
 
-in-out-requires-2 : tie.Need-in-out-requires-2
-in-out-requires-2 c κs = search needs
+quart-in-out-requires : tie.Need-quart-in-out-requires
+quart-in-out-requires c κs = search needs
 
 enum-told-18 : tie.Need-enum-told-18
 enum-told-18 c = search needs
@@ -94,8 +94,8 @@ enum-told-19 c = search needs
 enum-told-20 : tie.Need-enum-told-20
 enum-told-20 c = search needs
 
-in-out-requires-3 : tie.Need-in-out-requires-3
-in-out-requires-3 c κs = search needs
+quint-in-out-requires : tie.Need-quint-in-out-requires
+quint-in-out-requires c κs = search needs
 
 returns : tie.Need-returns
 unfolding eased
@@ -155,7 +155,7 @@ returns-14 c = rw (c .enum-told13 .given .1)
 
 returns-15 : tie.Need-returns-15
 unfolding eased
-returns-15 c = rw (c .before .enum-told14 .given .1) (c .in-out .ensures)
+returns-15 c = rw (c .before .enum-told14 .given .1) (c .cubic-in-out .ensures)
 
 returns-16 : tie.Need-returns-16
 unfolding eased
@@ -167,7 +167,7 @@ returns-17 c = rw (c .enum-told16 .given .1)
 
 returns-18 : tie.Need-returns-18
 unfolding eased
-returns-18 c = rw (c .before .enum-told17 .given .1) (c .in-out2 .ensures)
+returns-18 c = rw (c .before .enum-told17 .given .1) (c .quart-in-out .ensures)
 
 returns-19 : tie.Need-returns-19
 unfolding eased
@@ -179,7 +179,7 @@ returns-20 c = rw (c .enum-told19 .given .1)
 
 returns-21 : tie.Need-returns-21
 unfolding eased
-returns-21 c = rw (c .before .enum-told20 .given .1) (c .in-out3 .ensures)
+returns-21 c = rw (c .before .enum-told20 .given .1) (c .quint-in-out .ensures)
 
 pub ease-spec : {M : Type 1} → statement M
 ease-spec =
@@ -207,15 +207,15 @@ ease-spec =
     enum-told-12
     enum-told-13
     enum-told-14
-    in-out-requires
+    cubic-in-out-requires
     enum-told-15
     enum-told-16
     enum-told-17
-    in-out-requires-2
+    quart-in-out-requires
     enum-told-18
     enum-told-19
     enum-told-20
-    in-out-requires-3
+    quint-in-out-requires
     returns
     returns-2
     returns-3
