@@ -19,16 +19,25 @@ impl SamplePosition {
     }
 }
 
+// 0.0, and not -0.0.
 fn plus_zero(x: f64) -> bool
     ensures { λ r. ⌜ r ≡ isPlusZero x ⌝ }
 {
-    (x == 0.0) & (1.0 / x > 0.0)
+    if x == 0.0 {
+        f64::to_bits(x) == 0
+    } else {
+        false
+    }
 }
 
 fn plus_zerof(x: f32) -> bool
     ensures { λ r. ⌜ r ≡ isPlusZero x ⌝ }
 {
-    (x == 0.0) & (1.0 / x > 0.0)
+    if x == 0.0 {
+        f32::to_bits(x) == 0
+    } else {
+        false
+    }
 }
 
 // What a place past the count holds.

@@ -1,15 +1,21 @@
+use mathlib.Core.Path.{refl}
+use lib.Ieee.{binary32, ofBits, toBits}
 use borrow.Author.Needs.{needs}
-use lib.Ieee.{binary32, binary64, ofBits}
-use Rattle.points.proofs.Floats.{plus-zero-is}
+use Rattle.points.proofs.Floats.{zero-known, zero-pattern, not-zero-is}
 use Rattle.points.proofs.point.plus_zerof.Statement.{statement}
 use Rattle.points.proofs.point.plus_zerof.Tie as tie
-use Rattle.points.proofs.point.plus_zerof.Reads as reads
-use Rattle.points.proofs.point.plus_zerof.Lts as lts
 
--- src/point.rt:25:1
-returns : tie.Need-returns
+float-to-bits-result : tie.Need-float-to-bits-result
 unfolding ofBits
-returns c = plus-zero-is binary32 (c .args .x) (search needs)
+float-to-bits-result c = zero-known (c .before .args .x) (c .if1 .taken)
+
+returns : tie.Need-returns
+unfolding ofBits toBits
+returns c = zero-pattern binary32 refl refl (c .before .args .x) (search needs) (c .if1 .taken)
+
+returns-2 : tie.Need-returns-2
+unfolding ofBits
+returns-2 c = not-zero-is (c .before .args .x) (c .if1 .left)
 
 pub plus-zerof-spec : {M : Type 1} → statement M
-plus-zerof-spec = tie.close (tie.spec returns)
+plus-zerof-spec = tie.close (tie.spec float-to-bits-result returns returns-2)
