@@ -2,6 +2,8 @@
 ghost use mathlib.Core.Path.{_≡_};
 ghost use Rattle.points.specs.Point.{finitePoint, isNone, isPlusZero, isUnused, unused, samePoint, samePointExact, pointsEqual};
 ghost use Rattle.points.specs.Refusal.{compared};
+ghost use Rattle.points.specs.declared.SamplePosition.the-variants.{None};
+ghost use Rattle.curve.specs.declared.CurveType.the-variants.{Linear};
 use crate::AutomationPoint;
 use crate::SamplePosition;
 use crate::refusal::Compared;
@@ -53,6 +55,18 @@ pub fn unused() -> AutomationPoint
 }
 
 impl AutomationPoint {
+    // 000's new: Linear, and no position.
+    pub fn new(time: f64, value: f32) -> AutomationPoint
+        ensures { λ r. ⌜ r ≡ record { time = time; «sample_position» = None; value = value; curve = Linear } ⌝ }
+    {
+        AutomationPoint {
+            time,
+            sample_position: SamplePosition::None,
+            value,
+            curve: CurveType::Linear,
+        }
+    }
+
     pub fn is_finite(self) -> bool
         ensures { λ r. ⌜ r ≡ finitePoint self ⌝ }
     {

@@ -1,4 +1,7 @@
 // The refusals of document 01, by name; `number` in specs/Refusal.antt has the numbers.
+ghost use mathlib.Core.Path.{_≡_};
+ghost use Rattle.points.specs.Refusal.{number};
+
 pub enum Refusal {
     NotValid,
     SheetCurve,
@@ -25,4 +28,27 @@ pub enum Answer {
 pub enum Compared {
     Is(bool),
     Refused(Refusal),
+}
+
+impl Refusal {
+    // 01's number.
+    pub fn number(self) -> u32
+        ensures { λ r. ⌜ r ≡ number self ⌝ }
+    {
+        match self {
+            Refusal::NotValid => 1,
+            Refusal::SheetCurve => 2,
+            Refusal::NotFinite => 3,
+            Refusal::BoundsCross => 4,
+            Refusal::TooManyPoints => 5,
+            Refusal::TimesDontRise => 6,
+            Refusal::KeysDontRise => 7,
+            Refusal::NoRoom => 8,
+            Refusal::SheetForm => 9,
+            Refusal::NoStep => 10,
+            Refusal::MemoryLength => 11,
+            Refusal::StoredState => 12,
+            Refusal::TooManySamples => 13,
+        }
+    }
 }
