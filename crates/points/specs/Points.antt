@@ -4,9 +4,8 @@ use mathlib.Core.Bool.{Bool, true, false, _&&_}
 use mathlib.Core.List.{List, [], _∷_, _++_}
 use lib.ListN.{length, take, drop, replicate}
 use lib.Dec.{ltb, leb}
-use lib.Ieee.{Float}
 use Rattle.numbers.specs.Order.{orderKey}
-use Rattle.points.specs.Point.{finitePoint, unused, isUnused, samePoint, samePointExact}
+use Rattle.points.specs.Point.{finitePoint, unused, isUnused}
 use Rattle.points.specs.declared.AutomationPoint.{AutomationPoint}
 use Rattle.points.specs.declared.Points.{Points}
 

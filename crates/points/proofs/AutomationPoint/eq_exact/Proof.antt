@@ -1,8 +1,7 @@
-use mathlib.Core.Path.{_≡_, sym, ap, _∙_}
-use mathlib.Core.Bool.{Bool, true, false}
-use Rattle.points.specs.Refusal.{Said, gives}
+use mathlib.Core.Path.{sym, ap, _∙_}
+use Rattle.points.specs.Refusal.{gives}
 use Rattle.points.specs.Laws.{and-both}
-use Rattle.points.specs.Point.{pointsEqual, samePoint, samePointExact}
+use Rattle.points.specs.Point.{pointsEqual}
 use borrow.Author.Needs.{needs}
 use Rattle.points.proofs.AutomationPoint.eq_exact.Statement.{statement}
 use Rattle.points.proofs.AutomationPoint.eq_exact.Tie as tie

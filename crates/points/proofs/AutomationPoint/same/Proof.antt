@@ -1,6 +1,6 @@
 use mathlib.Core.Path.{sym}
 use lib.IntN.{negsuc}
-use lib.Ieee.{binary32, binary64, sub, ofBits}
+use lib.Ieee.{ofBits}
 use Rattle.points.specs.Laws.{and-both}
 use Rattle.points.specs.FloatLaws.{abs-below}
 use Rattle.points.proofs.AutomationPoint.same.Statement.{statement}

@@ -1,9 +1,7 @@
 use Prim.Native.Nat.{ℕ, _≤_, _-_}
 use mathlib.Core.Path.{_≡_, refl, ap, _∙_}
-use mathlib.Core.List.{List}
 use native.Mathlib.Omega.{arith}
 use lib.ListN.{take}
-use Rattle.points.specs.declared.AutomationPoint.{AutomationPoint}
 use Rattle.points.specs.Point.{finitePoint, anyPoint}
 use Rattle.points.specs.Points.{every}
 use Rattle.points.specs.Laws.{every-more, take-min}

@@ -1,9 +1,7 @@
 use Prim.Native.Nat.{ℕ, _≤_, _-_, min}
-use mathlib.Core.Path.{_≡_, refl, sym, ap, _∙_}
-use mathlib.Core.List.{List}
+use mathlib.Core.Path.{_≡_, sym, ap, _∙_}
 use native.Mathlib.Omega.{arith}
 use lib.ListN.{length, take, length-take}
-use Rattle.points.specs.declared.AutomationPoint.{AutomationPoint}
 use Rattle.points.specs.Point.{matching, anyPoint}
 use Rattle.points.specs.Points.{listOf, everyPair}
 use Rattle.points.specs.Laws.{pair-none, pair-more, pair-length, take-min}

@@ -1,11 +1,7 @@
 use Prim.Native.Nat.{ℕ, _≤_, _-_, max}
-use mathlib.Core.Path.{_≡_, refl, sym, ap, _∙_}
-use mathlib.Core.List.{List}
+use mathlib.Core.Path.{_≡_, sym, ap, _∙_}
 use native.Mathlib.Omega.{arith}
 use lib.ListN.{take}
-use lib.Dec.{ltb}
-use mathlib.Core.Bool.{Bool, _&&_}
-use Rattle.points.specs.declared.AutomationPoint.{AutomationPoint}
 use Rattle.points.specs.Point.{anyPoint}
 use Rattle.points.specs.Points.{timeKey, rising}
 use Rattle.points.specs.Laws.{rising-next, rising-one, rising-end, take-min}

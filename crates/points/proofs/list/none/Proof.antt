@@ -1,5 +1,4 @@
 use mathlib.Core.Path.{ap}
-use mathlib.Core.List.{[]}
 use lib.ListN.{replicate}
 use Rattle.points.specs.declared.AutomationPoint.{AutomationPoint}
 use Rattle.points.specs.declared.Points.{Points}
