@@ -1,7 +1,9 @@
--- The points' keys in an array of their own, and where a search over it ends, as the functions that search it cite them.
+-- The points' keys in an array of their own, where a search over it ends, and the lookup from there, as the functions that search it cite them.
 use Prim.Native.Nat.{ℕ, _-_, _≤_, _<_}
-use mathlib.Core.Bool.{Bool, true, false}
+use mathlib.Core.Bool.{Bool, true, false, cond}
 use mathlib.Core.List.{List}
+use mathlib.Core.Option.{Option, none, some}
+use lib.Dec.{ltb, eqb}
 use lib.ListN.{getD}
 use Rattle.points.specs.Points.{timeKey}
 use Rattle.points.specs.declared.AutomationPoint.{AutomationPoint}
@@ -17,3 +19,7 @@ pub record EndsAt (keys : List ℕ) (n k r : ℕ) : Type 0 where
   pub most : r ≤ n
   pub before : 0 < r → getD keys (r - 1) 0 < k
   pub from : r < n → k ≤ getD keys r 0
+
+-- the search among n points ended at i: p is the point before, q the one at it
+unfoldable pub around : {A : Type 0} → (AutomationPoint → ℕ) → ℕ → (AutomationPoint → AutomationPoint → A) → ℕ → ℕ → AutomationPoint → AutomationPoint → Option A
+around key k give n i p q = cond (ltb i n) (cond (eqb (key q) k) (some (give q q)) (cond (ltb 0 i) (some (give p q)) none)) none

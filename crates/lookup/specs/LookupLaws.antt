@@ -1,16 +1,16 @@
 -- The ways out of the lookups, each as a law: over the first n places of an array, as the functions have the points. Assumes nothing.
-use Prim.Native.Nat.{ℕ, zero, suc, _-_, _≤_, _<_}
-use mathlib.Core.Path.{_≡_, refl, sym, ap, _∙_}
+use Prim.Native.Nat.{ℕ, zero, suc, _-_, _≤_, _<_, min}
+use mathlib.Core.Path.{_≡_, refl, sym, ap, ap₂, _∙_}
 use mathlib.Core.Bool.{Bool, true, false, cond, false≢true}
 use mathlib.Core.List.{List, [], _∷_}
 use mathlib.Core.Option.{Option, none, some}
 use native.Mathlib.Nat.{le-of-suc-le-suc}
 use native.Mathlib.Omega.{arith}
-use lib.Dec.{leb}
+use lib.Dec.{ltb, leb}
 use lib.ListN.{length, take}
 use lib.Seq.{getD-take, length-take-le}
 use lib.Ieee.{Float, le}
-use borrow.Author.Tests.{lt-ltb, le-ltb, eq-eqb, ne-eqb, le-leb, lt-leb}
+use borrow.Author.Tests.{ltb-true, lt-ltb, le-ltb, eq-eqb, ne-eqb, le-leb, lt-leb}
 use Rattle.numbers.specs.Order.{orderKey}
 use Rattle.points.specs.Point.{anyPoint}
 use Rattle.points.specs.Points.{listOf, risingBy, timeKey}
@@ -19,6 +19,7 @@ use Rattle.points.specs.Refusal.{gives}
 use Rattle.points.specs.declared.AutomationPoint.{AutomationPoint}
 use Rattle.lookup.specs.Lookup.{pointAt, lastPoint, surrounded, between, rawAt, keyFrom, sampleKey, betweenSamples, rawAtSample, heard, keysRise, told, constrainedAnswer}
 use Rattle.points.specs.Search.{placeBy}
+use Rattle.lookup.specs.Keys.{around}
 use Rattle.lookup.specs.declared.Limits.{Limits}
 use Rattle.lookup.specs.declared.Lookup.{Lookup}
 use Rattle.lookup.specs.declared.Lookup.the-variants.{Silent, Value, Refused}
@@ -46,10 +47,27 @@ module _ {A : Type 0} (key : AutomationPoint → ℕ) (k : ℕ) (give : Automati
       let b : i - 1 < n = omega arith in
       rw (e, length-take-le n ps f, lt-ltb i n h, getD-take n ps i anyPoint h, ne-eqb (key (pointAt ps i)) k w, lt-ltb 0 i p, getD-take n ps (i - 1) anyPoint b)
 
-  -- before the first point
-  pub around-before : i < n → (key (pointAt ps i) ≡ k → ⊥) → i ≤ 0 → surrounded key k give (take n ps) ≡ none
-  unfolding surrounded
-  around-before h w p = rw (e, length-take-le n ps f, lt-ltb i n h, getD-take n ps i anyPoint h, ne-eqb (key (pointAt ps i)) k w, le-ltb 0 i p)
+  -- the same in one: p is the point before i, q the one at it, where there is one
+  around-points : (t : Bool) → ltb i n ≡ t → around key k give n i (pointAt ps (i - 1)) (pointAt ps i) ≡ surrounded key k give (take n ps)
+  unfolding surrounded around
+  around-points true h =
+      let s : i < n = ltb-true i n h in
+      let b : i - 1 < n = omega arith in
+      rw (e, length-take-le n ps f, h, getD-take n ps i anyPoint s, getD-take n ps (i - 1) anyPoint b)
+  around-points false h = rw (e, length-take-le n ps f, h)
+
+  around-same : (p q : AutomationPoint) → p ≡ pointAt ps (i - 1) → (i < n → q ≡ pointAt ps i) → (t : Bool) → ltb i n ≡ t
+      → around key k give n i p q ≡ around key k give n i (pointAt ps (i - 1)) (pointAt ps i)
+  unfolding around
+  around-same p q hp hq true h = ap₂ (around key k give n i) hp (hq (ltb-true i n h))
+  around-same p q hp hq false h = rw h
+
+  pub around-is : (p q : AutomationPoint) → p ≡ pointAt ps (i - 1) → (i < n → q ≡ pointAt ps i) → around key k give n i p q ≡ surrounded key k give (take n ps)
+  around-is p q hp hq = around-same p q hp hq (ltb i n) refl ∙ around-points (ltb i n) refl
+
+-- a place that the array has is the place itself, where a point stands there
+pub at-place : (l : List AutomationPoint) (i k n : ℕ) → k ≡ min i 255 → n ≤ 256 → i < n → pointAt l k ≡ pointAt l i
+at-place l i k n e f h = let w : k ≡ i = omega arith in ap (pointAt l) w
 
 -- ---- the ends, which both lookups have in common: a test of the first point, one of the last, and what is between
 
@@ -107,7 +125,7 @@ module _ (ps : List AutomationPoint) (n : ℕ) (time : Float) (f : n ≤ length 
 
   -- between the ends, by the place i that the search ends at
   module _ (w : 2 ≤ n) (a : le time (pointAt ps 0 .time) ≡ false) (b : le (pointAt ps (n - 1) .time) time ≡ false) (i : ℕ) (e : placeBy timeKey (orderKey time) (take n ps) ≡ i) where
-    pub raw-inner : rawAt (take n ps) time ≡ surrounded timeKey (orderKey time) (between time) (take n ps)
+    raw-inner : rawAt (take n ps) time ≡ surrounded timeKey (orderKey time) (between time) (take n ps)
     raw-inner = by-time (take n ps) time ∙ ends-two _ _ _ ps n f w ∙ rw (a, b)
 
     pub raw-at-point : i < n → timeKey (pointAt ps i) ≡ orderKey time → rawAt (take n ps) time ≡ some (between time (pointAt ps i) (pointAt ps i))
@@ -116,11 +134,11 @@ module _ (ps : List AutomationPoint) (n : ℕ) (time : Float) (f : n ≤ length 
     pub raw-between : i < n → (timeKey (pointAt ps i) ≡ orderKey time → ⊥) → 0 < i → rawAt (take n ps) time ≡ some (between time (pointAt ps (i - 1)) (pointAt ps i))
     raw-between h t p = raw-inner ∙ around-between timeKey (orderKey time) (between time) ps n i f e h t p
 
-    pub raw-before : i < n → (timeKey (pointAt ps i) ≡ orderKey time → ⊥) → i ≤ 0 → rawAt (take n ps) time ≡ none
-    raw-before h t p = raw-inner ∙ around-before timeKey (orderKey time) (between time) ps n i f e h t p
-
     pub raw-past : n ≤ i → rawAt (take n ps) time ≡ none
     raw-past h = raw-inner ∙ around-past timeKey (orderKey time) (between time) ps n i f e h
+
+    pub raw-around : (p q : AutomationPoint) → p ≡ pointAt ps (i - 1) → (i < n → q ≡ pointAt ps i) → around timeKey (orderKey time) (between time) n i p q ≡ rawAt (take n ps) time
+    raw-around p q hp hq = around-is timeKey (orderKey time) (between time) ps n i f e p q hp hq ∙ sym raw-inner
 
 -- ---- by sample
 
@@ -151,20 +169,11 @@ module _ (ps : List AutomationPoint) (n sample : ℕ) (f : n ≤ length ps) wher
 
     -- between the ends, by the place i that the search ends at
     module _ (b : sample < sampleKey (pointAt ps (n - 1))) (i : ℕ) (e : placeBy sampleKey sample (take n ps) ≡ i) where
-      pub sample-inner : rawAtSample (take n ps) sample ≡ surrounded sampleKey sample (betweenSamples sample) (take n ps)
+      sample-inner : rawAtSample (take n ps) sample ≡ surrounded sampleKey sample (betweenSamples sample) (take n ps)
       sample-inner = sample-rest ∙ rw (lt-leb (sampleKey (pointAt ps (n - 1))) sample b)
 
-      pub sample-at-point : i < n → sampleKey (pointAt ps i) ≡ sample → rawAtSample (take n ps) sample ≡ some (betweenSamples sample (pointAt ps i) (pointAt ps i))
-      sample-at-point h t = sample-inner ∙ around-at sampleKey sample (betweenSamples sample) ps n i f e h t
-
-      pub sample-between : i < n → (sampleKey (pointAt ps i) ≡ sample → ⊥) → 0 < i → rawAtSample (take n ps) sample ≡ some (betweenSamples sample (pointAt ps (i - 1)) (pointAt ps i))
-      sample-between h t p = sample-inner ∙ around-between sampleKey sample (betweenSamples sample) ps n i f e h t p
-
-      pub sample-before : i < n → (sampleKey (pointAt ps i) ≡ sample → ⊥) → i ≤ 0 → rawAtSample (take n ps) sample ≡ none
-      sample-before h t p = sample-inner ∙ around-before sampleKey sample (betweenSamples sample) ps n i f e h t p
-
-      pub sample-past : n ≤ i → rawAtSample (take n ps) sample ≡ none
-      sample-past h = sample-inner ∙ around-past sampleKey sample (betweenSamples sample) ps n i f e h
+      pub sample-around : (p q : AutomationPoint) → p ≡ pointAt ps (i - 1) → (i < n → q ≡ pointAt ps i) → around sampleKey sample (betweenSamples sample) n i p q ≡ rawAtSample (take n ps) sample
+      sample-around p q hp hq = around-is sampleKey sample (betweenSamples sample) ps n i f e p q hp hq ∙ sym sample-inner
 
 -- ---- the answers
 

@@ -1,7 +1,7 @@
 // The points' keys in an array of their own, and the search over it: an array of numbers can be lent, so a loop of lookups copies no points.
 ghost use mathlib.Core.Path.{_≡_};
 ghost use mathlib.Core.List.{map};
-ghost use Prim.Native.Nat.{min};
+ghost use Prim.Native.Nat.{_-_, min};
 ghost use lib.ListN.{take};
 ghost use Rattle.points.specs.Points.{listOf};
 ghost use Rattle.lookup.specs.Keys.{keyBy, EndsAt};
@@ -32,6 +32,20 @@ pub fn keys(points: Points, by_sample: bool) -> [u64; 256]
         i += 1;
     }
     keys
+}
+
+// The place before, or the first.
+pub fn previous(i: usize) -> usize
+    ensures { λ r. ⌜ r ≡ i - 1 ⌝ }
+{
+    if 0 < i { i - 1 } else { 0 }
+}
+
+// A place that the array has.
+pub fn within(i: usize) -> usize
+    ensures { λ r. ⌜ r ≡ min i 255 ⌝ }
+{
+    if i < 255 { i } else { 255 }
 }
 
 // A count of places that the array has.

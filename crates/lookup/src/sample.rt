@@ -4,9 +4,12 @@ ghost use mathlib.Core.Bool.{true};
 ghost use Prim.Native.Nat.{_-_};
 ghost use Rattle.points.specs.Points.{listOf, validPoints, risingBy};
 ghost use Rattle.points.specs.Refusal.{gives};
+ghost use Rattle.lookup.specs.Keys.{around};
 ghost use Rattle.lookup.specs.Lookup.{keyFrom, sampleKey, sampleFraction, betweenSamples, rawAtSample, keysRise, valueAtSample, getValueAtSample, told};
 use crate::Limits;
 use crate::Lookup;
+use crate::place::previous;
+use crate::place::within;
 use points::AutomationPoint;
 use points::Points;
 use points::SamplePosition;
@@ -70,6 +73,23 @@ pub fn between_samples(p: AutomationPoint, q: AutomationPoint, sample: u64) -> f
     )
 }
 
+// The value at a sample between the first of n points and the last: p is the point before the place i that the search ended at, q the one at it.
+pub fn around(n: usize, i: usize, p: AutomationPoint, q: AutomationPoint, sample: u64) -> Lookup
+    ensures { λ r. ⌜ told r ≡ gives (around sampleKey sample (betweenSamples sample) n i p q) ⌝ }
+{
+    if i < n {
+        if sample_key(q) == sample {
+            Lookup::Value(between_samples(q, q, sample))
+        } else if 0 < i {
+            Lookup::Value(between_samples(p, q, sample))
+        } else {
+            Lookup::Silent
+        }
+    } else {
+        Lookup::Silent
+    }
+}
+
 // Whether each point's key is below the next one's.
 pub fn keys_rise(points: Points) -> bool
     ensures { λ r. ⌜ r ≡ risingBy sampleKey (listOf points) ⌝ }
@@ -120,19 +140,11 @@ fn raw_at_sample(points: Points, sample: u64) -> Lookup
             high = mid;
         }
     }
-    if low < n {
-        let q = points.places[low];
-        if sample_key(q) == sample {
-            Lookup::Value(between_samples(q, q, sample))
-        } else if 0 < low {
-            let p = points.places[low - 1];
-            Lookup::Value(between_samples(p, q, sample))
-        } else {
-            Lookup::Silent
-        }
-    } else {
-        Lookup::Silent
-    }
+    let before = previous(low);
+    let at = within(low);
+    let p = points.places[before];
+    let q = points.places[at];
+    around(n, low, p, q, sample)
 }
 
 // The lookup on points that are known to be valid, with keys that are known to rise if they are enabled.

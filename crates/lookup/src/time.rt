@@ -3,11 +3,15 @@ ghost use mathlib.Core.Path.{_≡_};
 ghost use mathlib.Core.Bool.{true};
 ghost use lib.Ieee.{binary64, div};
 ghost use Rattle.numbers.specs.Narrow.{narrow};
-ghost use Rattle.points.specs.Points.{listOf, validPoints};
+ghost use Rattle.numbers.specs.Order.{orderKey};
+ghost use Rattle.points.specs.Points.{listOf, validPoints, timeKey};
 ghost use Rattle.points.specs.Refusal.{gives};
+ghost use Rattle.lookup.specs.Keys.{around};
 ghost use Rattle.lookup.specs.Lookup.{fraction, between, rawAt, valueAt, getValueAt, told};
 use crate::Limits;
 use crate::Lookup;
+use crate::place::previous;
+use crate::place::within;
 use points::AutomationPoint;
 use points::Points;
 use points::refusal::Refusal;
@@ -37,6 +41,23 @@ pub fn between(p: AutomationPoint, q: AutomationPoint, time: f64) -> f32
 {
     let c = p.curve;
     c.interpolate(p.value, q.value, fraction(p.time, q.time, time))
+}
+
+// The value at a time between the first of n points and the last: p is the point before the place i that the search ended at, q the one at it.
+pub fn around(n: usize, i: usize, p: AutomationPoint, q: AutomationPoint, time: f64) -> Lookup
+    ensures { λ r. ⌜ told r ≡ gives (around timeKey (orderKey time) (between time) n i p q) ⌝ }
+{
+    if i < n {
+        if numbers::order::order_key(q.time) == numbers::order::order_key(time) {
+            Lookup::Value(between(q, q, time))
+        } else if 0 < i {
+            Lookup::Value(between(p, q, time))
+        } else {
+            Lookup::Silent
+        }
+    } else {
+        Lookup::Silent
+    }
 }
 
 // The value at a time before the constraints, by a binary search between the first point and the last.
@@ -71,19 +92,11 @@ fn raw_at(points: Points, time: f64) -> Lookup
             high = mid;
         }
     }
-    if low < n {
-        let q = points.places[low];
-        if numbers::order::order_key(q.time) == key {
-            Lookup::Value(between(q, q, time))
-        } else if 0 < low {
-            let p = points.places[low - 1];
-            Lookup::Value(between(p, q, time))
-        } else {
-            Lookup::Silent
-        }
-    } else {
-        Lookup::Silent
-    }
+    let before = previous(low);
+    let at = within(low);
+    let p = points.places[before];
+    let q = points.places[at];
+    around(n, low, p, q, time)
 }
 
 // The lookup on points that are known to be valid.
@@ -95,6 +108,36 @@ fn value_at(points: Points, enabled: bool, limits: Limits, time: f64) -> Lookup
         raw_at(points, time).constrain(limits)
     } else {
         Lookup::Silent
+    }
+}
+
+// The answers of two lookups.
+pub struct TwoLookups {
+    pub first: Lookup,
+    pub second: Lookup,
+}
+
+// get_value_at at two times, with one test of the points and the limits.
+pub fn get_two_values_at(
+    points: Points,
+    enabled: bool,
+    limits: Limits,
+    first: f64,
+    second: f64,
+) -> TwoLookups
+    ensures { λ r. ⌜ told (r .first) ≡ getValueAt points enabled limits first ⌝ }
+    ensures { λ r. ⌜ told (r .second) ≡ getValueAt points enabled limits second ⌝ }
+{
+    if crate::is_valid(points, limits) {
+        TwoLookups {
+            first: value_at(points, enabled, limits, first),
+            second: value_at(points, enabled, limits, second),
+        }
+    } else {
+        TwoLookups {
+            first: Lookup::Refused(Refusal::NotValid),
+            second: Lookup::Refused(Refusal::NotValid),
+        }
     }
 }
 

@@ -1,13 +1,13 @@
--- `analysis::around_sample` meets its contract. Assumes nothing.
+-- `lookup::sample::around` meets its contract. Assumes nothing.
 use mathlib.Core.Path.{sym, ap, _∙_}
 use mathlib.Core.Option.{some}
 use borrow.Author.Tests.{lt-ltb, le-ltb, eq-eqb, ne-eqb}
 use lib.Ieee.{Float}
 use Rattle.points.specs.Refusal.{gives}
-use Rattle.analysis.specs.Ranges.{around}
+use Rattle.lookup.specs.Keys.{around}
 use borrow.Author.Needs.{needs}
-use Rattle.analysis.proofs.around_sample.Statement.{statement}
-use Rattle.analysis.proofs.around_sample.Tie as tie
+use Rattle.lookup.proofs.sample.around.Statement.{statement}
+use Rattle.lookup.proofs.sample.around.Tie as tie
 
 sample-key-requires : tie.Need-sample-key-requires
 sample-key-requires c κs = search needs
@@ -34,8 +34,8 @@ returns-4 : tie.Need-returns-4
 unfolding around
 returns-4 c = rw (le-ltb _ _ (c .if1 .left))
 
-pub around-sample-spec : {M : Type 1} → statement M
-around-sample-spec =
+pub around-spec : {M : Type 1} → statement M
+around-spec =
     tie.close
     (tie.spec
     sample-key-requires

@@ -1,13 +1,13 @@
--- `analysis::around_time` meets its contract. Assumes nothing.
+-- `lookup::time::around` meets its contract. Assumes nothing.
 use mathlib.Core.Path.{sym, ap, _∙_}
 use mathlib.Core.Option.{some}
 use borrow.Author.Tests.{lt-ltb, le-ltb, eq-eqb, ne-eqb}
 use lib.Ieee.{Float}
 use Rattle.points.specs.Refusal.{gives}
-use Rattle.analysis.specs.Ranges.{around}
+use Rattle.lookup.specs.Keys.{around}
 use borrow.Author.Needs.{needs}
-use Rattle.analysis.proofs.around_time.Statement.{statement}
-use Rattle.analysis.proofs.around_time.Tie as tie
+use Rattle.lookup.proofs.time.around.Statement.{statement}
+use Rattle.lookup.proofs.time.around.Tie as tie
 
 order-key-requires : tie.Need-order-key-requires
 order-key-requires c κs = search needs
@@ -37,8 +37,8 @@ returns-4 : tie.Need-returns-4
 unfolding around
 returns-4 c = rw (le-ltb _ _ (c .if1 .left))
 
-pub around-time-spec : {M : Type 1} → statement M
-around-time-spec =
+pub around-spec : {M : Type 1} → statement M
+around-spec =
     tie.close
     (tie.spec
     order-key-requires
