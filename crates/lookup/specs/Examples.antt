@@ -4,12 +4,14 @@ use mathlib.Core.Path.{_≡_, refl}
 use mathlib.Core.Bool.{true}
 use mathlib.Core.List.{List, [], _∷_}
 use mathlib.Core.Option.{Option, none, some}
-use lib.Ieee.{Float, binary32, binary64, ofBits, toBits, toUnsigned, round, add, sub, mul, div, lt, le, isNan}
+use lib.Ieee.{Float, binary64, ofBits, toBits, toUnsigned, round, add, sub, mul, div, lt, le, isNan}
 use Rattle.numbers.specs.Bounds.{finite, minNum}
 use Rattle.numbers.specs.Narrow.{narrow}
 use Rattle.numbers.specs.Order.{orderKey}
 use Rattle.numbers.specs.Whole.{roundAway}
+use Rattle.curve.specs.F32.{f32, f0, f1}
 use Rattle.curve.specs.Curve.{code, controls, finiteControls, interpolated, eased, clamped}
+use Rattle.curve.specs.declared.CurveType.{CurveType}
 use Rattle.curve.specs.declared.CurveType.the-variants.{Linear}
 use Rattle.points.specs.Points.{holding, every, risingBy, validPoints}
 use Rattle.points.specs.Refusal.{Said, gives}
@@ -22,59 +24,61 @@ use Rattle.lookup.specs.declared.Limit.{Limit}
 use Rattle.lookup.specs.declared.Limit.the-variants as limit
 use Rattle.lookup.specs.declared.Limits.{Limits}
 
--- numbers by their bits
+-- ---- what the examples are made of, here and in the crates above
+
+-- a time by its bits
 abbrev f64 : ℕ → Float
 f64 bits = ofBits binary64 bits
 
-abbrev f32 : ℕ → Float
-f32 bits = ofBits binary32 bits
+-- 0.0, 1.0, 2.0, 4.0, 10.0, 20.0
+abbrev pub t0 : Float
+t0 = f64 0x0000_0000_0000_0000
 
--- a point at a time, with a value
-abbrev at : Float → Float → AutomationPoint
-at t v = record { time = t; «sample_position» = position.None; value = v; curve = Linear }
+abbrev pub t1 : Float
+t1 = f64 0x3FF0_0000_0000_0000
+
+abbrev pub t2 : Float
+t2 = f64 0x4000_0000_0000_0000
+
+abbrev pub t4 : Float
+t4 = f64 0x4010_0000_0000_0000
+
+abbrev pub t10 : Float
+t10 = f64 0x4024_0000_0000_0000
+
+abbrev pub t20 : Float
+t20 = f64 0x4034_0000_0000_0000
+
+-- -0.0
+abbrev pub minusZero : Float
+minusZero = f32 0x8000_0000
+
+-- a point at a time, with a value and a curve
+abbrev pub bent : CurveType → Float → Float → AutomationPoint
+bent c t v = record { time = t; «sample_position» = position.None; value = v; curve = c }
+
+-- a Linear one
+abbrev pub at : Float → Float → AutomationPoint
+at = bent Linear
+
+-- "(0,0),(4,1)", by a curve
+abbrev pub rise : CurveType → List AutomationPoint
+rise c = bent c t0 f0 ∷ bent c t4 f1 ∷ []
 
 -- a maximum and a step, and no minimum
-abbrev limits : Limit → Limit → Limits
+abbrev pub limits : Limit → Limit → Limits
 limits max step = record { «min_value» = limit.None; «max_value» = max; «step_size» = step }
 
-abbrev free : Limits
+abbrev pub free : Limits
 free = limits limit.None limit.None
 
--- the lookups of a list of points
+-- ---- the lookups of a list of points
+
 abbrev byTime : List AutomationPoint → Limits → Float → Said (Option Float)
 byTime l limits time = getValueAt (holding l) true limits time
 
 abbrev bySample : List AutomationPoint → ℕ → Said (Option Float)
 bySample l sample = getValueAtSample (holding l) true free sample
-
--- 0.0, 1.0, 2.0, 4.0, 10.0, 20.0
-abbrev t0 : Float
-t0 = f64 0x0000_0000_0000_0000
-
-abbrev t1 : Float
-t1 = f64 0x3FF0_0000_0000_0000
-
-abbrev t2 : Float
-t2 = f64 0x4000_0000_0000_0000
-
-abbrev t4 : Float
-t4 = f64 0x4010_0000_0000_0000
-
-abbrev t10 : Float
-t10 = f64 0x4024_0000_0000_0000
-
-abbrev t20 : Float
-t20 = f64 0x4034_0000_0000_0000
-
--- 0.0, -0.0, 1.0
-abbrev zero : Float
-zero = f32 0x0000_0000
-
-abbrev minusZero : Float
-minusZero = f32 0x8000_0000
-
-abbrev one : Float
-one = f32 0x3F80_0000
 
 -- "P1 empty: silent."
 pub p1 : byTime [] free t1 ≡ gives none
@@ -82,17 +86,17 @@ unfolding getValueAt validPoints every risingBy rawAt code
 p1 = refl
 
 -- "P2 (0,0),(4,1) at 1: 0.25."
-pub p2 : byTime (at t0 zero ∷ at t4 one ∷ []) free t1 ≡ gives (some (f32 0x3E80_0000))
+pub p2 : byTime (rise Linear) free t1 ≡ gives (some (f32 0x3E80_0000))
 unfolding getValueAt validPoints every risingBy rawAt surrounded placeBy fraction constrained finite finiteControls controls code orderKey narrow interpolated eased clamped ofBits toBits round add sub mul div lt le
 p2 = refl
 
 -- "P7 maximum 1, step 0.625, value 1: 1.25."
-pub p7 : byTime (at t0 one ∷ []) (limits (limit.Number one) (limit.Number (f32 0x3F20_0000))) t0 ≡ gives (some (f32 0x3FA0_0000))
+pub p7 : byTime (at t0 f1 ∷ []) (limits (limit.Number f1) (limit.Number (f32 0x3F20_0000))) t0 ≡ gives (some (f32 0x3FA0_0000))
 unfolding getValueAt validPoints every risingBy rawAt constrained finite finiteControls controls code ofBits minNum roundAway round isNan mul div lt
 p7 = refl
 
 -- "P8 step 1, value −2.5: −3."
-pub p8 : byTime (at t0 (f32 0xC020_0000) ∷ []) (limits limit.None (limit.Number one)) t0 ≡ gives (some (f32 0xC040_0000))
+pub p8 : byTime (at t0 (f32 0xC020_0000) ∷ []) (limits limit.None (limit.Number f1)) t0 ≡ gives (some (f32 0xC040_0000))
 unfolding getValueAt validPoints every risingBy rawAt constrained finite finiteControls controls code ofBits roundAway round mul div lt
 p8 = refl
 
@@ -101,15 +105,15 @@ pub p9-alone : byTime (at t1 minusZero ∷ []) free t1 ≡ gives (some minusZero
 unfolding getValueAt validPoints every risingBy rawAt constrained finite finiteControls controls code ofBits
 p9-alone = refl
 
-pub p9-middle : byTime (at t0 one ∷ at t1 minusZero ∷ at t2 one ∷ []) free t1 ≡ gives (some zero)
+pub p9-middle : byTime (at t0 f1 ∷ at t1 minusZero ∷ at t2 f1 ∷ []) free t1 ≡ gives (some f0)
 unfolding getValueAt validPoints every risingBy rawAt surrounded placeBy fraction constrained finite finiteControls controls code orderKey narrow interpolated eased clamped ofBits toBits round add sub mul div lt le
 p9-middle = refl
 
 -- "P10 times 10 and 20, no positions: sample 5 silent, sample 0 the first value."
-pub p10-silent : bySample (at t10 one ∷ at t20 zero ∷ []) 5 ≡ gives none
+pub p10-silent : bySample (at t10 f1 ∷ at t20 f0 ∷ []) 5 ≡ gives none
 unfolding getValueAtSample validPoints every risingBy rawAtSample surrounded placeBy finite finiteControls controls code orderKey ofBits toBits toUnsigned mul round
 p10-silent = refl
 
-pub p10-first : bySample (at t10 one ∷ at t20 zero ∷ []) 0 ≡ gives (some one)
+pub p10-first : bySample (at t10 f1 ∷ at t20 f0 ∷ []) 0 ≡ gives (some f1)
 unfolding getValueAtSample validPoints every risingBy rawAtSample constrained finite finiteControls controls code orderKey ofBits toBits toUnsigned mul round
 p10-first = refl

@@ -3,62 +3,38 @@ use mathlib.Core.Path.{_≡_, refl}
 use mathlib.Core.Bool.{true}
 use mathlib.Core.List.{[], _∷_}
 use mathlib.Core.Option.{none}
-use lib.Ieee.{Float, binary32, binary64, ofBits, toBits, toUnsigned, ofInt, round, add, sub, mul, div, lt, le}
+use lib.Ieee.{Float, binary64, ofBits, toBits, toUnsigned, ofInt, round, add, sub, mul, div, lt, le}
 use Rattle.numbers.specs.Bounds.{finite}
 use Rattle.numbers.specs.Narrow.{narrow}
 use Rattle.numbers.specs.Order.{orderKey}
+use Rattle.curve.specs.F32.{f32, f0, f1, f0·5}
 use Rattle.curve.specs.Curve.{code, controls, finiteControls, interpolated, eased, clamped}
 use Rattle.curve.specs.declared.CurveType.the-variants.{Linear}
 use Rattle.points.specs.Points.{holding, every, risingBy, validPoints}
 use Rattle.points.specs.Refusal.{gives}
-use Rattle.points.specs.declared.AutomationPoint.{AutomationPoint}
 use Rattle.points.specs.declared.Points.{Points}
-use Rattle.points.specs.declared.SamplePosition.the-variants as position
+use Rattle.lookup.specs.Examples.{free, rise, t1}
 use Rattle.lookup.specs.Limits.{constrained}
 use Rattle.lookup.specs.Lookup.{surrounded, fraction, rawAt}
 use Rattle.points.specs.Search.{placeBy}
 use Rattle.render.specs.Render.{declined, runInto, render, toBuffer, nextSample}
 use Rattle.lookup.specs.Runs.{run}
-use Rattle.lookup.specs.declared.Limit.the-variants as limit
-use Rattle.lookup.specs.declared.Limits.{Limits}
 
-abbrev free : Limits
-free = record { «min_value» = limit.None; «max_value» = limit.None; «step_size» = limit.None }
-
-abbrev at : Float → Float → AutomationPoint
-at t v = record { time = t; «sample_position» = position.None; value = v; curve = Linear }
-
--- 0.0, 0.25, 0.5, 1.0
-abbrev zero : Float
-zero = ofBits binary32 0x0000_0000
-
-abbrev quarter : Float
-quarter = ofBits binary32 0x3E80_0000
-
-abbrev half : Float
-half = ofBits binary32 0x3F00_0000
-
-abbrev one : Float
-one = ofBits binary32 0x3F80_0000
-
--- 1.0 and 3.0, a rate and a duration
-abbrev t1 : Float
-t1 = ofBits binary64 0x3FF0_0000_0000_0000
-
+-- 3.0, a duration
 abbrev t3 : Float
 t3 = ofBits binary64 0x4008_0000_0000_0000
 
 -- the points of 01's sheet, (0, 0) and (4, 1)
 abbrev sheet : Points
-sheet = holding (at (ofBits binary64 0x0000_0000_0000_0000) zero ∷ at (ofBits binary64 0x4010_0000_0000_0000) one ∷ [])
+sheet = holding (rise Linear)
 
 -- 01's output, written from place 1 of five; the other places stay
-pub sheet-played : toBuffer sheet true free t1 t3 1 (one ∷ one ∷ one ∷ one ∷ one ∷ []) ≡ record { said = gives tt; buffer = one ∷ zero ∷ quarter ∷ half ∷ one ∷ [] }
+pub sheet-played : toBuffer sheet true free t1 t3 1 (f1 ∷ f1 ∷ f1 ∷ f1 ∷ f1 ∷ []) ≡ record { said = gives tt; buffer = f1 ∷ f0 ∷ f32 0x3E80_0000 ∷ f0·5 ∷ f1 ∷ [] }
 unfolding toBuffer runInto run validPoints every risingBy rawAt surrounded placeBy fraction constrained finite finiteControls controls code orderKey narrow interpolated eased clamped ofBits toBits toUnsigned ofInt round add sub mul div lt le
 sheet-played = refl
 
 -- "3 samples at place 2 of 4"
-pub eight : render sheet true free t1 0 3 2 (one ∷ one ∷ one ∷ one ∷ []) ≡ declined 8 (one ∷ one ∷ one ∷ one ∷ [])
+pub eight : render sheet true free t1 0 3 2 (f1 ∷ f1 ∷ f1 ∷ f1 ∷ []) ≡ declined 8 (f1 ∷ f1 ∷ f1 ∷ f1 ∷ [])
 unfolding render runInto validPoints every risingBy finite finiteControls controls code orderKey ofBits toBits
 eight = refl
 
