@@ -1,4 +1,4 @@
--- Ranges: the least and the greatest of lookups, one by one, and a lookup from where its search ended. Assumes nothing.
+-- Ranges: the least and the greatest of lookups, one by one. Assumes nothing.
 use Prim.Native.Nat.{ℕ, zero, suc, _+_, _-_, _*_, _/_, _≤_, _<_, min}
 use mathlib.Core.Path.{_≡_, refl, sym, ap, ap₂, _∙_}
 use mathlib.Core.Bool.{Bool, true, false, cond, _&&_, _||_, false≢true}
@@ -10,24 +10,23 @@ use native.Mathlib.Nat.{not-suc-le-zero, le-of-suc-le-suc, eq-or-lt-of-le, zero-
 use native.Mathlib.Omega.{arith}
 use lib.Dec.{ltb, leb, eqb}
 use lib.ListN.{length, take}
-use lib.Seq.{getD-take, length-take-le}
 use lib.Ieee.{Float, le}
-use borrow.Author.Tests.{ltb-true, ltb-false, lt-ltb, le-ltb, leb-true, leb-false, eqb-true, eqb-false}
+use borrow.Author.Tests.{ltb-false, lt-ltb, le-ltb, leb-true, leb-false, eqb-true, eqb-false}
 use Rattle.numbers.specs.Bounds.{finite, maxNum, minNum}
 use Rattle.numbers.specs.Order.{orderKey}
-use Rattle.points.specs.Point.{anyPoint}
 use Rattle.points.specs.Middles.{keep-cons}
 use Rattle.points.specs.Points.{listOf, timeKey}
 use Rattle.points.specs.Refusal.{Said, gives, refuses}
 use Rattle.points.specs.declared.AutomationPoint.{AutomationPoint}
 use Rattle.points.specs.declared.Points.{Points}
 use Rattle.lookup.specs.Limits.{constrained}
-use Rattle.lookup.specs.Lookup.{pointAt, surrounded, between, rawAt, keyFrom, sampleKey, betweenSamples, rawAtSample, heard, valueAt, valueAtSample, told, constrainedAnswer}
+use Rattle.lookup.specs.Lookup.{pointAt, between, rawAt, keyFrom, sampleKey, betweenSamples, rawAtSample, heard, valueAt, valueAtSample, told, constrainedAnswer}
 use Rattle.points.specs.Search.{placeBy}
-use Rattle.lookup.specs.LookupLaws.{heard-on, raw-one, raw-first, raw-last, raw-inner, sample-one, sample-first, sample-last, sample-inner}
+use Rattle.lookup.specs.Keys.{around}
+use Rattle.lookup.specs.LookupLaws.{heard-on, raw-one, raw-first, raw-last, raw-around, sample-one, sample-first, sample-last, sample-around, at-place}
 use Rattle.lookup.specs.Runs.{run, run-cut, run-one}
 use Rattle.analysis.specs.Analysis.{heardOf, rangeOf, rawInside, slopeOf}
-use Rattle.analysis.specs.Ranges.{nowhere, widen, hear, asRange, around, slopeSaid}
+use Rattle.analysis.specs.Ranges.{nowhere, widen, hear, asRange, slopeSaid}
 use Rattle.lookup.specs.declared.Limits.{Limits}
 use Rattle.lookup.specs.declared.Lookup.{Lookup}
 use Rattle.analysis.specs.declared.Bounds.{Bounds}
@@ -112,23 +111,6 @@ neither n t w h = go (eqb n 1) refl h
     go true e k = absurd (false≢true (sym k))
     go false e k = (two-of n w e, k)
 
--- between them, by the place i that the search ended at: the point at it is taken from the array's 256 places
-around-case : {A : Type 0} (key : AutomationPoint → ℕ) (k : ℕ) (give : AutomationPoint → AutomationPoint → A) (ps : List AutomationPoint) (n i : ℕ)
-    → n ≤ length ps → n ≤ 256 → placeBy key k (take n ps) ≡ i → (t : Bool) → ltb i n ≡ t
-    → surrounded key k give (take n ps) ≡ around key k give n i (pointAt ps (i - 1)) (pointAt ps (min i 255))
-unfolding surrounded around
-around-case key k give ps n i f b e true h =
-    let s : i < n = ltb-true i n h in
-    let m : min i 255 ≡ i = omega arith in
-    let p : i - 1 < n = omega arith in
-    rw (e, length-take-le n ps f, h, m, getD-take n ps i anyPoint s, getD-take n ps (i - 1) anyPoint p)
-around-case key k give ps n i f b e false h = rw (e, length-take-le n ps f, h)
-
-pub around-is : {A : Type 0} (key : AutomationPoint → ℕ) (k : ℕ) (give : AutomationPoint → AutomationPoint → A) (ps : List AutomationPoint) (n i : ℕ)
-    → n ≤ length ps → n ≤ 256 → placeBy key k (take n ps) ≡ i
-    → surrounded key k give (take n ps) ≡ around key k give n i (pointAt ps (i - 1)) (pointAt ps (min i 255))
-around-is key k give ps n i f b e = around-case key k give ps n i f b e (ltb i n) refl
-
 -- ---- the lookups of valid, enabled points: v is the first point's value or the last one's, constrained beforehand
 
 module _ (ps : Points) (f : ps .count ≤ length (ps .places)) (w : 1 ≤ ps .count) (limits : Limits) where
@@ -152,9 +134,7 @@ module _ (ps : Points) (f : ps .count ≤ length (ps .places)) (w : 1 ≤ ps .co
       time-inner l c j before at e p q answer new t n =
           let b = neither (ps .count) (le time (pointAt (ps .places) 0 .time)) w h in
           answer-heard limits answer new (rawAt (listOf ps) time) n
-          (t
-          ∙ ap₂ (λ (x y : ℕ). gives (around timeKey (orderKey time) (between time) (ps .count) j (pointAt (ps .places) x) (pointAt (ps .places) y))) p q
-          ∙ ap gives (sym (raw-inner (ps .places) (ps .count) time f (b .0) (b .1) l j e ∙ around-is timeKey (orderKey time) (between time) (ps .places) (ps .count) j f c e)))
+          (t ∙ ap gives (raw-around (ps .places) (ps .count) time f (b .0) (b .1) l j e _ _ (ap (pointAt (ps .places)) p) (at-place (ps .places) j at (ps .count) q c)))
 
   module _ (sample start : ℕ) (s : start ≡ keyFrom (pointAt (ps .places) 0 .«sample_position») 0) where
     pub sample-early : (eqb (ps .count) 1 || leb sample start) ≡ true → (v : Float) → v ≡ constrained limits (pointAt (ps .places) 0 .value)
@@ -177,9 +157,7 @@ module _ (ps : Points) (f : ps .count ≤ length (ps .places)) (w : 1 ≤ ps .co
           → told new ≡ gives (valueAtSample ps true limits sample)
       sample-within l c j before at e p q answer new t n =
           answer-heard limits answer new (rawAtSample (listOf ps) sample) n
-          (t
-          ∙ ap₂ (λ (x y : ℕ). gives (around sampleKey sample (betweenSamples sample) (ps .count) j (pointAt (ps .places) x) (pointAt (ps .places) y))) p q
-          ∙ ap gives (sym (sample-inner (ps .places) (ps .count) sample f (neither (ps .count) (leb sample start) w h .0) past-start (omega arith) j e ∙ around-is sampleKey sample (betweenSamples sample) (ps .places) (ps .count) j f c e)))
+          (t ∙ ap gives (sample-around (ps .places) (ps .count) sample f (neither (ps .count) (leb sample start) w h .0) past-start (omega arith) j e _ _ (ap (pointAt (ps .places)) p) (at-place (ps .places) j at (ps .count) q c)))
 
 -- ---- the points inside
 

@@ -1,9 +1,8 @@
--- The analyses' own terms, which their private functions cite: the least and the greatest value of lookups so far, a lookup from where its search ended, and the test of three points in a row.
+-- The analyses' own terms, which their private functions cite: the least and the greatest value of lookups so far, and the test of three points in a row.
 use Prim.Native.Nat.{ℕ, _+_, _*_}
 use mathlib.Core.Bool.{Bool, true, false, cond}
 use mathlib.Core.List.{List}
 use mathlib.Core.Option.{Option, none, some}
-use lib.Dec.{ltb, eqb}
 use lib.Ieee.{Float, binary32, ofBits}
 use Rattle.numbers.specs.Bounds.{finite, maxNum, minNum}
 use Rattle.points.specs.Middles.{middles}
@@ -46,10 +45,6 @@ timesHeard points enabled limits start end n = heardOf (run (λ i. valueAt point
 -- and by sample
 abbrev pub samplesHeard : Points → Bool → Limits → ℕ → ℕ → ℕ → List Float
 samplesHeard points enabled limits start step n = heardOf (run (λ k. valueAtSample points enabled limits (start + k * step)) 0 n)
-
--- the search among n points ended at i: p is the point before, q the one at it
-unfoldable pub around : {A : Type 0} → (AutomationPoint → ℕ) → ℕ → (AutomationPoint → AutomationPoint → A) → ℕ → ℕ → AutomationPoint → AutomationPoint → Option A
-around key k give n i p q = cond (ltb i n) (cond (eqb (key q) k) (some (give q q)) (cond (ltb 0 i) (some (give p q)) none)) none
 
 -- ---- slope
 

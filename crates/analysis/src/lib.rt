@@ -2,17 +2,19 @@
 ghost use mathlib.Core.Path.{_≡_};
 ghost use mathlib.Core.Bool.{true};
 ghost use mathlib.Core.List.{map, foldl, _++_};
-ghost use Prim.Native.Nat.{_+_, _*_, _-_, _/_, _<_, _≤_, min, max};
+ghost use Prim.Native.Nat.{_+_, _*_, _/_, _<_, _≤_, max};
 ghost use lib.Dec.{ltb};
 ghost use lib.ListN.{length, drop};
-ghost use Rattle.points.specs.Points.{listOf, validPoints, risingBy, timeKey};
+ghost use Rattle.points.specs.Points.{listOf, validPoints, risingBy};
 ghost use Rattle.points.specs.Refusal.{gives};
-ghost use Rattle.numbers.specs.Order.{orderKey};
-ghost use Rattle.lookup.specs.Lookup.{between, betweenSamples, sampleKey, keysRise, told};
+ghost use Rattle.lookup.specs.Lookup.{sampleKey, keysRise, told};
 ghost use Rattle.analysis.specs.Analysis.{rawInside, getRange, getRangeSamples, getSlopeAt, isPeak, isValley, findMiddles, rangeTold, foundTold};
-ghost use Rattle.analysis.specs.Ranges.{nowhere, widen, hear, asRange, around, timesHeard, samplesHeard, slopeSaid, middleTest, middlesOf, timeOf, valueOf};
+ghost use Rattle.analysis.specs.Ranges.{nowhere, widen, hear, asRange, timesHeard, samplesHeard, slopeSaid, middleTest, middlesOf, timeOf, valueOf};
 use lookup::Limits;
 use lookup::Lookup;
+use lookup::place::previous;
+use lookup::place::within;
+use lookup::time::get_two_values_at;
 use points::AutomationPoint;
 use points::Points;
 use points::refusal::Refusal;
@@ -99,54 +101,6 @@ impl Bounds {
     }
 }
 
-// The place before.
-fn previous(i: usize) -> usize
-    ensures { λ r. ⌜ r ≡ i - 1 ⌝ }
-{
-    if 0 < i { i - 1 } else { 0 }
-}
-
-// A place of the array.
-fn within(i: usize) -> usize
-    ensures { λ r. ⌜ r ≡ min i 255 ⌝ }
-{
-    if i < 255 { i } else { 255 }
-}
-
-// The value at a time between the first of n points and the last: p is the point before the place i that the search ended at, q the one at it.
-fn around_time(n: usize, i: usize, p: AutomationPoint, q: AutomationPoint, time: f64) -> Lookup
-    ensures { λ r. ⌜ told r ≡ gives (around timeKey (orderKey time) (between time) n i p q) ⌝ }
-{
-    if i < n {
-        if numbers::order::order_key(q.time) == numbers::order::order_key(time) {
-            Lookup::Value(lookup::time::between(q, q, time))
-        } else if 0 < i {
-            Lookup::Value(lookup::time::between(p, q, time))
-        } else {
-            Lookup::Silent
-        }
-    } else {
-        Lookup::Silent
-    }
-}
-
-// The same at a sample.
-fn around_sample(n: usize, i: usize, p: AutomationPoint, q: AutomationPoint, sample: u64) -> Lookup
-    ensures { λ r. ⌜ told r ≡ gives (around sampleKey sample (betweenSamples sample) n i p q) ⌝ }
-{
-    if i < n {
-        if lookup::sample::sample_key(q) == sample {
-            Lookup::Value(lookup::sample::between_samples(q, q, sample))
-        } else if 0 < i {
-            Lookup::Value(lookup::sample::between_samples(p, q, sample))
-        } else {
-            Lookup::Silent
-        }
-    } else {
-        Lookup::Silent
-    }
-}
-
 // What 101 lookups give, from the start to the end.
 fn hear_times(points: Points, limits: Limits, start: f64, end: f64) -> Bounds
     requires { ⌜ (validPoints points ≡ true) × (1 ≤ points .count) ⌝ }
@@ -175,7 +129,7 @@ fn hear_times(points: Points, limits: Limits, start: f64, end: f64) -> Bounds
             let at = within(j);
             let p = points.places[before];
             let q = points.places[at];
-            bounds = bounds.hear(around_time(n, j, p, q, time).constrain(limits));
+            bounds = bounds.hear(lookup::time::around(n, j, p, q, time).constrain(limits));
         }
     }
     bounds
@@ -245,7 +199,7 @@ fn hear_samples(points: Points, limits: Limits, start: u64, step: u64, stops: u6
             let at = within(j);
             let p = points.places[before];
             let q = points.places[at];
-            bounds = bounds.hear(around_sample(n, j, p, q, sample).constrain(limits));
+            bounds = bounds.hear(lookup::sample::around(n, j, p, q, sample).constrain(limits));
         }
     }
     bounds
@@ -360,8 +314,9 @@ pub fn get_slope_at(points: Points, enabled: bool, limits: Limits, time: f64) ->
             Lookup::Refused(Refusal::NotValid)
         }
     } else {
-        let before = lookup::time::get_value_at(points, enabled, limits, time - 0.001);
-        let after = lookup::time::get_value_at(points, enabled, limits, time + 0.001);
+        let two = get_two_values_at(points, enabled, limits, time - 0.001, time + 0.001);
+        let before = two.first;
+        let after = two.second;
         slope(before, after)
     }
 }

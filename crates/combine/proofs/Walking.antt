@@ -23,6 +23,7 @@ use Rattle.points.specs.declared.Points.{Points}
 use Rattle.settle.specs.NewPoint.{pointWith}
 use Rattle.settle.proofs.Ends.{pushed}
 use Rattle.lookup.specs.Lookup.{pointAt}
+use Rattle.lookup.specs.LookupLaws.{at-place}
 use Rattle.combine.specs.Combine.{applied, mergeFrom, mergeTimes, timeOf, timesOf, sideAt, combinedPoint, combinedList}
 use Rattle.combine.specs.Walk.{endsOf, sideWith, nearAt, nextOf, walked}
 use Rattle.combine.specs.declared.Operation.{Operation}
@@ -308,9 +309,6 @@ module _ (op : Operation) (a b : Side) (out : Points) (ok : Bool) (total i j : �
   turn-full h o = turned (o ∙ push-full out (map f (d .times)) p (d .out-is) h)
 
 -- ---- a turn of the code, over what it has read at the places i0, i1, j0 and j1
-
-at-place : (l : List AutomationPoint) (i k n : ℕ) → k ≡ min i 255 → n ≤ 256 → i < n → pointAt l k ≡ pointAt l i
-at-place l i k n e f h = let w : k ≡ i = omega arith in ap (pointAt l) w
 
 module _ (op : Operation) (a b : Points) (left right : Ends) (va : validPoints a ≡ true) (vb : validPoints b ≡ true) (fa : a .count ≤ length (a .places)) (fb : b .count ≤ length (b .places))
     (ea : left ≡ endsOf (sideWith a left)) (eb : right ≡ endsOf (sideWith b right))

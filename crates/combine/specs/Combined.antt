@@ -45,49 +45,38 @@ combined-rises op a b v w = rising-map (combinedPoint op a b) timeKey (mergeTime
 
 -- ---- the refusals that are left, in 01's order: 1, argument 3, result 3, 5
 
-unfoldable pub combinedWays : Operation → Side → Side → EditedPoints
-combinedWays op a b =
-    cond (validSide a)
-    (cond (validSide b)
-    (cond (finiteOperation op)
+-- those of two valid sides
+abbrev pub validWays : Operation → Side → Side → EditedPoints
+validWays op a b =
+    cond (finiteOperation op)
     (cond (every finitePoint (combinedList op a b))
     (cond (leb (length (combinedList op a b)) 256) (record { answer = Accepted; points = holding (combinedList op a b) })
     (refused (a .points) TooManyPoints))
     (refused (a .points) NotFinite))
-    (refused (a .points) NotFinite))
+    (refused (a .points) NotFinite)
+
+unfoldable pub combinedWays : Operation → Side → Side → EditedPoints
+combinedWays op a b =
+    cond (validSide a)
+    (cond (validSide b) (validWays op a b)
     (refused (a .points) NotValid))
     (refused (a .points) NotValid)
 
+-- an edit of a valid list that makes a rising one
+valid-ways : (op : Operation) (a b : Side) → validSide a ≡ true → validSide b ≡ true → editPoints (a .points) (finiteOperation op) (combinedList op a b) ≡ validWays op a b
+unfolding editPoints settle
+valid-ways op a b v w = rw (side-points a v, combined-rises op a b v w)
+
 pub combined-ways : (op : Operation) (a b : Side) → combinedPoints op a b ≡ combinedWays op a b
-unfolding combinedPoints combinedWays editPoints settle
+unfolding combinedPoints combinedWays
 combined-ways op a b = go (validSide a) (validSide b) refl refl
   where
     go : (x y : Bool) → validSide a ≡ x → validSide b ≡ y
-        → cond (x && y)
-        (cond (validPoints (a .points))
-        (cond (finiteOperation op)
-        (cond (every finitePoint (combinedList op a b))
-        (cond (rising (combinedList op a b))
-        (cond (leb (length (combinedList op a b)) 256) (record { answer = Accepted; points = holding (combinedList op a b) })
-        (refused (a .points) TooManyPoints))
-        (refused (a .points) TimesDontRise))
-        (refused (a .points) NotFinite))
-        (refused (a .points) NotFinite))
-        (refused (a .points) NotValid))
-        (refused (a .points) NotValid)
-        ≡ cond x
-        (cond y
-        (cond (finiteOperation op)
-        (cond (every finitePoint (combinedList op a b))
-        (cond (leb (length (combinedList op a b)) 256) (record { answer = Accepted; points = holding (combinedList op a b) })
-        (refused (a .points) TooManyPoints))
-        (refused (a .points) NotFinite))
-        (refused (a .points) NotFinite))
-        (refused (a .points) NotValid))
-        (refused (a .points) NotValid)
+        → cond (x && y) (editPoints (a .points) (finiteOperation op) (combinedList op a b)) (refused (a .points) NotValid)
+        ≡ cond x (cond y (validWays op a b) (refused (a .points) NotValid)) (refused (a .points) NotValid)
     go false y p q = refl
     go true false p q = refl
-    go true true p q = rw (side-points a p, combined-rises op a b p q)
+    go true true p q = valid-ways op a b p q
 
 -- 6 can't meet a combination
 other-answer : Accepted ≡ Refused TimesDontRise → ⊥

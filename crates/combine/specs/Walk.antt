@@ -11,7 +11,10 @@ use Rattle.points.specs.Point.{finitePoint}
 use Rattle.points.specs.Points.{holding, every, timeKey}
 use Rattle.points.specs.declared.AutomationPoint.{AutomationPoint}
 use Rattle.points.specs.declared.Points.{Points}
+use Rattle.lookup.specs.Keys.{around}
 use Rattle.lookup.specs.Lookup.{pointAt, between, heard}
+use Rattle.lookup.specs.declared.Lookup.{Lookup}
+use Rattle.lookup.specs.declared.Lookup.the-variants.{Silent, Value, Refused}
 use Rattle.combine.specs.Combine.{combinedList}
 use Rattle.combine.specs.declared.Operation.{Operation}
 use Rattle.combine.specs.declared.Side.{Side}
@@ -41,9 +44,13 @@ nearRaw e place p q time =
     (cond (eqb (e .count) 1) (some (e .first .value))
     (cond (le time (e .first .time)) (some (e .first .value))
     (cond (le (e .last .time) time) (some (e .last .value))
-    (cond (leb (e .count) place) none
-    (cond (eqb (timeKey q) (orderKey time)) (some (between time q q))
-    (cond (eqb place 0) none (some (between time p q))))))))
+    (around timeKey (orderKey time) (between time) (e .count) place p q))))
+
+-- Rust's `unwrap_or(0.0)` on a lookup; no lookup of the walk is refused
+abbrev pub orZero : Lookup → Float
+orZero Silent = f0
+orZero (Value v) = v
+orZero (Refused r) = f0
 
 -- the lookup there, 0.0 where silent
 unfoldable pub nearAt : Ends → ℕ → AutomationPoint → AutomationPoint → Float → Float

@@ -1,17 +1,17 @@
 // The six combinations of two envelopes, over each one's points, switch and limits. Source: envelope.rs (000), `combine` and its uses.
 ghost use mathlib.Core.Path.{_≡_};
 ghost use mathlib.Core.Bool.{true};
-ghost use Prim.Native.Nat.{_-_, _≤_, min};
-ghost use Rattle.curve.specs.declared.CurveType.the-variants.{Linear};
+ghost use Prim.Native.Nat.{_≤_};
 ghost use Rattle.points.specs.Points.{validPoints};
-ghost use Rattle.settle.specs.NewPoint.{pointWith};
+ghost use Rattle.points.specs.Point.{pointWith};
 ghost use Rattle.combine.specs.Combine.{finiteOperation, applied, validSide, combinedPoints};
-ghost use Rattle.combine.specs.Walk.{endsOf, sideWith, nearAt, nextOf, walked};
-use curve::CurveType;
+ghost use Rattle.combine.specs.Walk.{endsOf, sideWith, orZero, nearAt, nextOf, walked};
 use lookup::Limits;
+use lookup::Lookup;
+use lookup::place::previous;
+use lookup::place::within;
 use points::AutomationPoint;
 use points::Points;
-use points::SamplePosition;
 use points::refusal::Answer;
 use points::refusal::Refusal;
 use settle::EditedPoints;
@@ -87,20 +87,6 @@ impl Operation {
     }
 }
 
-// The place before, or the first.
-fn previous(i: usize) -> usize
-    ensures { λ r. ⌜ r ≡ i - 1 ⌝ }
-{
-    if i == 0 { 0 } else { i - 1 }
-}
-
-// A place that exists.
-fn within(i: usize) -> usize
-    ensures { λ r. ⌜ r ≡ min i 255 ⌝ }
-{
-    if i < 255 { i } else { 255 }
-}
-
 impl Side {
     fn is_valid(self) -> bool
         ensures { λ r. ⌜ r ≡ validSide self ⌝ }
@@ -130,6 +116,17 @@ impl Side {
     }
 }
 
+// Rust's `unwrap_or(0.0)` on a lookup.
+fn or_zero(answer: Lookup) -> f32
+    ensures { λ r. ⌜ r ≡ orZero answer ⌝ }
+{
+    match answer {
+        Lookup::Silent => 0.0,
+        Lookup::Value(v) => v,
+        Lookup::Refused(_) => 0.0,
+    }
+}
+
 impl Ends {
     // The lookup at a time, 0.0 where silent. `place` is where a search by the time ends: q stands there, and p before it.
     fn value_at(self, place: usize, p: AutomationPoint, q: AutomationPoint, time: f64) -> f32
@@ -154,16 +151,7 @@ impl Ends {
         if time >= last.time {
             return limits.apply_constraints(last.value);
         }
-        if place >= n {
-            return 0.0;
-        }
-        if numbers::order::order_key(q.time) == numbers::order::order_key(time) {
-            return limits.apply_constraints(lookup::time::between(q, q, time));
-        }
-        if place == 0 {
-            return 0.0;
-        }
-        limits.apply_constraints(lookup::time::between(p, q, time))
+        or_zero(lookup::time::around(n, place, p, q, time).constrain(limits))
     }
 }
 
@@ -209,18 +197,6 @@ fn next_time(n: usize, m: usize, i: usize, j: usize, a: f64, b: f64) -> Next
     }
 }
 
-// 000's AutomationPoint::new.
-fn point(time: f64, value: f32) -> AutomationPoint
-    ensures { λ r. ⌜ r ≡ pointWith time value Linear ⌝ }
-{
-    AutomationPoint {
-        time,
-        sample_position: SamplePosition::None,
-        value,
-        curve: CurveType::Linear,
-    }
-}
-
 // The ordered walk of both lists of points, each time once. All times are walked, past 256 too: 3 comes before 5.
 fn walk(operation: Operation, a: Points, left: Ends, b: Points, right: Ends) -> Walked
     requires { ⌜ (validPoints a ≡ true) × (validPoints b ≡ true) × (left ≡ endsOf (sideWith a left)) × (right ≡ endsOf (sideWith b right)) ⌝ }
@@ -246,7 +222,7 @@ fn walk(operation: Operation, a: Points, left: Ends, b: Points, right: Ends) -> 
         let next = next_time(n, m, i, j, q.time, t.time);
         let x = left.value_at(i, p, q, next.time);
         let y = right.value_at(j, s, t, next.time);
-        let made = point(next.time, operation.apply(x, y));
+        let made = AutomationPoint::new(next.time, operation.apply(x, y));
         ok = ok & made.is_finite();
         total += 1;
         i = next.i;

@@ -117,8 +117,8 @@ mul-q c = omega (arith, c .before .within .ensures)
 element-copy-out-q : tie.Need-element-copy-out-q Inv-loop μ-loop
 element-copy-out-q c = omega (arith, c .before .within .ensures)
 
-around-sample-requires : tie.Need-around-sample-requires Inv-loop μ-loop
-around-sample-requires c κs = tt
+around-requires : tie.Need-around-requires Inv-loop μ-loop
+around-requires c κs = tt
 
 constrain-requires : tie.Need-constrain-requires Inv-loop μ-loop
 constrain-requires c κs = tt
@@ -138,7 +138,7 @@ loop-again-3 c =
     let j = keys-place sampleKey (a .t1 .places) (c .before .before .before .before .before .before .before .before .before .before .before .before .before .before .keys .result) (a .t1 .count) f (valid-count (a .t1) (c .before .before .before .before .before .before .before .before .before .before .before .before .before .before .before .before .before .before .before .before .before .pre .0)) (c .before .before .before .before .before .before .before .before .before .before .before .before .before .before .keys .ensures) (c .before .before .before .before .before .before .before .before .before .before .before .before .before .before .before .before .before .before .before .before .before .pre .2) sample sample (c .before .before .before .before .before .before .before .search .result) refl (c .before .before .before .before .before .before .before .search .ensures) in (
       omega arith,
       hear-turn (λ k. valueAtSample (a .t1) true (a .limits) (a .start + k * a .step)) (h .k) (h .bounds) (c .hear .result) (told (c .before .constrain .result)) (h .inv .1) (c .hear .ensures)
-          (sample-within (a .t1) f (c .before .before .before .before .before .before .before .before .before .before .before .before .before .before .before .before .before .before .before .before .before .pre .1) (a .limits) sample (c .before .before .before .before .before .before .before .before .before .before .before .before .before .before .before .before .start-key .result) (c .before .before .before .before .before .before .before .before .before .before .before .before .before .before .before .before .start-key .ensures) (c .before .before .before .before .before .before .before .before .before .before .if1 .left) (c .before .before .before .before .before .before .before .before .before .before .before .before .before .before .before .sample-key .result) (c .before .before .before .before .before .before .before .before .before .before .before .before .before .before .before .sample-key .ensures) (c .before .before .before .before .before .before .before .before .before .if2 .left) (valid-count (a .t1) (c .before .before .before .before .before .before .before .before .before .before .before .before .before .before .before .before .before .before .before .before .before .pre .0)) (c .before .before .before .before .before .before .before .search .result) (c .before .before .before .before .before .before .previous .result) (c .before .before .before .before .before .within .result) j (c .before .before .before .before .before .before .previous .ensures) (c .before .before .before .before .before .within .ensures) (c .before .before .around-sample .result) (c .before .constrain .result) (c .before .before .around-sample .ensures) (c .before .constrain .ensures)),
+          (sample-within (a .t1) f (c .before .before .before .before .before .before .before .before .before .before .before .before .before .before .before .before .before .before .before .before .before .pre .1) (a .limits) sample (c .before .before .before .before .before .before .before .before .before .before .before .before .before .before .before .before .start-key .result) (c .before .before .before .before .before .before .before .before .before .before .before .before .before .before .before .before .start-key .ensures) (c .before .before .before .before .before .before .before .before .before .before .if1 .left) (c .before .before .before .before .before .before .before .before .before .before .before .before .before .before .before .sample-key .result) (c .before .before .before .before .before .before .before .before .before .before .before .before .before .before .before .sample-key .ensures) (c .before .before .before .before .before .before .before .before .before .if2 .left) (valid-count (a .t1) (c .before .before .before .before .before .before .before .before .before .before .before .before .before .before .before .before .before .before .before .before .before .pre .0)) (c .before .before .before .before .before .before .before .search .result) (c .before .before .before .before .before .before .previous .result) (c .before .before .before .before .before .within .result) j (c .before .before .before .before .before .before .previous .ensures) (c .before .before .before .before .before .within .ensures) (c .before .before .around .result) (c .before .constrain .result) (c .before .before .around .ensures) (c .before .constrain .ensures)),
     )
 
 returns : tie.Need-returns Inv-loop μ-loop
@@ -180,7 +180,7 @@ hear-samples-spec =
     element-copy-out-p
     mul-q
     element-copy-out-q
-    around-sample-requires
+    around-requires
     constrain-requires
     hear-requires
     loop-less-3

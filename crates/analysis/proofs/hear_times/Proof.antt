@@ -113,8 +113,8 @@ mul-q c = omega (arith, c .before .within .ensures)
 element-copy-out-q : tie.Need-element-copy-out-q Inv-loop μ-loop
 element-copy-out-q c = omega (arith, c .before .within .ensures)
 
-around-time-requires : tie.Need-around-time-requires Inv-loop μ-loop
-around-time-requires c κs = tt
+around-requires : tie.Need-around-requires Inv-loop μ-loop
+around-requires c κs = tt
 
 constrain-requires : tie.Need-constrain-requires Inv-loop μ-loop
 constrain-requires c κs = tt
@@ -134,7 +134,7 @@ loop-again-3 c =
     let j = keys-place timeKey (a .t1 .places) (c .before .before .before .before .before .before .before .before .before .before .before .before .before .before .before .before .before .before .keys .result) (a .t1 .count) f (valid-count (a .t1) (c .before .before .before .before .before .before .before .before .before .before .before .before .before .before .before .before .before .before .before .before .before .before .before .pre .0)) (c .before .before .before .before .before .before .before .before .before .before .before .before .before .before .before .before .before .before .keys .ensures) (valid-rising (a .t1) (c .before .before .before .before .before .before .before .before .before .before .before .before .before .before .before .before .before .before .before .before .before .before .before .pre .0)) (orderKey time) (c .before .before .before .before .before .before .before .before .order-key .result) (c .before .before .before .before .before .before .before .search .result) (c .before .before .before .before .before .before .before .before .order-key .ensures) (c .before .before .before .before .before .before .before .search .ensures) in (
       omega arith,
       hear-turn (λ k. valueAt (a .t1) true (a .limits) (rangeTime (a .start) (a .end) k)) (h .i) (h .bounds) (c .hear .result) (told (c .before .constrain .result)) (h .inv .1) (c .hear .ensures)
-          (time-inner (a .t1) f (c .before .before .before .before .before .before .before .before .before .before .before .before .before .before .before .before .before .before .before .before .before .before .before .pre .1) (a .limits) time (c .before .before .before .before .before .before .before .before .before .before .before .before .if1 .left) (c .before .before .before .before .before .before .before .before .before .before .if2 .left) (valid-count (a .t1) (c .before .before .before .before .before .before .before .before .before .before .before .before .before .before .before .before .before .before .before .before .before .before .before .pre .0)) (c .before .before .before .before .before .before .before .search .result) (c .before .before .before .before .before .before .previous .result) (c .before .before .before .before .before .within .result) j (c .before .before .before .before .before .before .previous .ensures) (c .before .before .before .before .before .within .ensures) (c .before .before .around-time .result) (c .before .constrain .result) (c .before .before .around-time .ensures) (c .before .constrain .ensures)),
+          (time-inner (a .t1) f (c .before .before .before .before .before .before .before .before .before .before .before .before .before .before .before .before .before .before .before .before .before .before .before .pre .1) (a .limits) time (c .before .before .before .before .before .before .before .before .before .before .before .before .if1 .left) (c .before .before .before .before .before .before .before .before .before .before .if2 .left) (valid-count (a .t1) (c .before .before .before .before .before .before .before .before .before .before .before .before .before .before .before .before .before .before .before .before .before .before .before .pre .0)) (c .before .before .before .before .before .before .before .search .result) (c .before .before .before .before .before .before .previous .result) (c .before .before .before .before .before .within .result) j (c .before .before .before .before .before .before .previous .ensures) (c .before .before .before .before .before .within .ensures) (c .before .before .around .result) (c .before .constrain .result) (c .before .before .around .ensures) (c .before .constrain .ensures)),
     )
 
 returns : tie.Need-returns Inv-loop μ-loop
@@ -174,7 +174,7 @@ hear-times-spec =
     element-copy-out-p
     mul-q
     element-copy-out-q
-    around-time-requires
+    around-requires
     constrain-requires
     hear-requires
     loop-less-3

@@ -76,8 +76,8 @@ value-at-requires-2 c κs = tt
 apply-requires : tie.Need-apply-requires Inv-loop μ-loop
 apply-requires c κs = tt
 
-point-requires : tie.Need-point-requires Inv-loop μ-loop
-point-requires c κs = tt
+new-requires : tie.Need-new-requires Inv-loop μ-loop
+new-requires c κs = tt
 
 is-finite-requires : tie.Need-is-finite-requires Inv-loop μ-loop
 is-finite-requires c κs = tt
@@ -102,23 +102,23 @@ step-of c =
     (c .next-time .result) (c .before .before .before .before .before .before .before .before .before .before .loop .inv .0) (c .before .before .before .before .before .before .before .before .before .before .loop .inv .1) (c .before .before .before .before .before .before .before .before .before .before .loop .inv .2 .apart) (omega arith) (c .next-time .ensures)
 
 -- and the point that it made
-made-of : (c : tie.After-point Inv-loop μ-loop) → c .point .result ≡ combinedPoint (c .before .before .before .before .before .before .before .before .before .before .before .before .before .before .before .before .args .operation) (sideWith (c .before .before .before .before .before .before .before .before .before .before .before .before .before .before .before .before .args .t2) (c .before .before .before .before .before .before .before .before .before .before .before .before .before .before .before .before .args .left)) (sideWith (c .before .before .before .before .before .before .before .before .before .before .before .before .before .before .before .before .args .t4) (c .before .before .before .before .before .before .before .before .before .before .before .before .before .before .before .before .args .right)) (c .before .before .before .before .next-time .result .time)
+made-of : (c : tie.After-new Inv-loop μ-loop) → c .new .result ≡ combinedPoint (c .before .before .before .before .before .before .before .before .before .before .before .before .before .before .before .before .args .operation) (sideWith (c .before .before .before .before .before .before .before .before .before .before .before .before .before .before .before .before .args .t2) (c .before .before .before .before .before .before .before .before .before .before .before .before .before .before .before .before .args .left)) (sideWith (c .before .before .before .before .before .before .before .before .before .before .before .before .before .before .before .before .args .t4) (c .before .before .before .before .before .before .before .before .before .before .before .before .before .before .before .before .args .right)) (c .before .before .before .before .next-time .result .time)
 made-of c =
     made-is (c .before .before .before .before .before .before .before .before .before .before .before .before .before .before .before .before .args .operation) (c .before .before .before .before .before .before .before .before .before .before .before .before .before .before .before .before .args .t2) (c .before .before .before .before .before .before .before .before .before .before .before .before .before .before .before .before .args .t4) (c .before .before .before .before .before .before .before .before .before .before .before .before .before .before .before .before .args .left) (c .before .before .before .before .before .before .before .before .before .before .before .before .before .before .before .before .args .right) (c .before .before .before .before .before .before .before .before .before .before .before .before .before .before .before .before .pre .0) (c .before .before .before .before .before .before .before .before .before .before .before .before .before .before .before .before .pre .1) (inside (c .before .before .before .before .before .before .before .before .before .before .before .before .before .before .before .before .args .t2) _ (c .before .before .before .before .before .before .before .before .before .before .before .before .before .before .before .before .good .1 .0) (c .before .before .before .before .before .before .before .before .before .before .before .before .before .before .before .before .pre .0)) (inside (c .before .before .before .before .before .before .before .before .before .before .before .before .before .before .before .before .args .t4) _ (c .before .before .before .before .before .before .before .before .before .before .before .before .before .before .before .before .good .1 .1 .1 .0) (c .before .before .before .before .before .before .before .before .before .before .before .before .before .before .before .before .pre .1)) (c .before .before .before .before .before .before .before .before .before .before .before .before .before .before .before .before .pre .2) (c .before .before .before .before .before .before .before .before .before .before .before .before .before .before .before .before .pre .3)
     (c .before .before .before .before .before .before .before .before .before .before .before .before .before .before .loop .i) (c .before .before .before .before .before .before .before .before .before .before .before .before .before .before .loop .j) (c .before .before .before .before .before .before .before .before .before .before .before .before .previous .result) (c .before .before .before .before .before .before .before .before .before .before .before .within .result) (c .before .before .before .before .before .before .before .before .previous2 .result) (c .before .before .before .before .before .before .before .within2 .result) (c .before .before .before .before .before .before .before .before .before .before .before .before .previous .ensures) (c .before .before .before .before .before .before .before .before .before .before .before .within .ensures) (c .before .before .before .before .before .before .before .before .previous2 .ensures) (c .before .before .before .before .before .before .before .within2 .ensures)
-    (c .before .before .before .before .next-time .result) (c .before .before .before .value-at .result) (c .before .before .value-at2 .result) (c .before .apply .result) (c .point .result) (step-of (c .before .before .before .before)) (c .before .before .before .value-at .ensures) (c .before .before .value-at2 .ensures) (c .before .apply .ensures) (c .point .ensures)
+    (c .before .before .before .before .next-time .result) (c .before .before .before .value-at .result) (c .before .before .value-at2 .result) (c .before .apply .result) (c .new .result) (step-of (c .before .before .before .before)) (c .before .before .before .value-at .ensures) (c .before .before .value-at2 .ensures) (c .before .apply .ensures) (c .new .ensures)
 
 loop-less : tie.Need-loop-less Inv-loop μ-loop
 loop-less c = omega (arith, step-of (c .before .before .before .before .before .before) .on)
 
 loop-again : tie.Need-loop-again Inv-loop μ-loop
-loop-again c = (step-of (c .before .before .before .before .before .before) .left, step-of (c .before .before .before .before .before .before) .right, turn-room (c .before .before .before .before .before .before .before .before .before .before .before .before .before .before .before .before .before .before .args .operation) (sideWith (c .before .before .before .before .before .before .before .before .before .before .before .before .before .before .before .before .before .before .args .t2) (c .before .before .before .before .before .before .before .before .before .before .before .before .before .before .before .before .before .before .args .left)) (sideWith (c .before .before .before .before .before .before .before .before .before .before .before .before .before .before .before .before .before .before .args .t4) (c .before .before .before .before .before .before .before .before .before .before .before .before .before .before .before .before .before .before .args .right)) (c .before .before .before .before .before .before .before .before .before .before .before .before .before .before .before .before .loop .out) (c .before .before .before .before .before .before .before .before .before .before .before .before .before .before .before .before .loop .ok) (c .before .before .before .before .before .before .before .before .before .before .before .before .before .before .before .before .loop .total) (c .before .before .before .before .before .before .before .before .before .before .before .before .before .before .before .before .loop .i) (c .before .before .before .before .before .before .before .before .before .before .before .before .before .before .before .before .loop .j) (c .before .before .before .before .before .before .next-time .result) (c .before .before .point .result) (c .before .is-finite .result) _ (c .before .before .before .before .before .before .before .before .before .before .before .before .before .before .before .before .loop .inv .2) (step-of (c .before .before .before .before .before .before)) (made-of (c .before .before)) (c .before .is-finite .ensures) (c .if1 .taken) refl)
+loop-again c = (step-of (c .before .before .before .before .before .before) .left, step-of (c .before .before .before .before .before .before) .right, turn-room (c .before .before .before .before .before .before .before .before .before .before .before .before .before .before .before .before .before .before .args .operation) (sideWith (c .before .before .before .before .before .before .before .before .before .before .before .before .before .before .before .before .before .before .args .t2) (c .before .before .before .before .before .before .before .before .before .before .before .before .before .before .before .before .before .before .args .left)) (sideWith (c .before .before .before .before .before .before .before .before .before .before .before .before .before .before .before .before .before .before .args .t4) (c .before .before .before .before .before .before .before .before .before .before .before .before .before .before .before .before .before .before .args .right)) (c .before .before .before .before .before .before .before .before .before .before .before .before .before .before .before .before .loop .out) (c .before .before .before .before .before .before .before .before .before .before .before .before .before .before .before .before .loop .ok) (c .before .before .before .before .before .before .before .before .before .before .before .before .before .before .before .before .loop .total) (c .before .before .before .before .before .before .before .before .before .before .before .before .before .before .before .before .loop .i) (c .before .before .before .before .before .before .before .before .before .before .before .before .before .before .before .before .loop .j) (c .before .before .before .before .before .before .next-time .result) (c .before .before .new .result) (c .before .is-finite .result) _ (c .before .before .before .before .before .before .before .before .before .before .before .before .before .before .before .before .loop .inv .2) (step-of (c .before .before .before .before .before .before)) (made-of (c .before .before)) (c .before .is-finite .ensures) (c .if1 .taken) refl)
 
 loop-less-2 : tie.Need-loop-less-2 Inv-loop μ-loop
 loop-less-2 c = omega (arith, step-of (c .before .before .before .before .before .before) .on)
 
 loop-again-2 : tie.Need-loop-again-2 Inv-loop μ-loop
-loop-again-2 c = (step-of (c .before .before .before .before .before .before) .left, step-of (c .before .before .before .before .before .before) .right, turn-full (c .before .before .before .before .before .before .before .before .before .before .before .before .before .before .before .before .before .before .args .operation) (sideWith (c .before .before .before .before .before .before .before .before .before .before .before .before .before .before .before .before .before .before .args .t2) (c .before .before .before .before .before .before .before .before .before .before .before .before .before .before .before .before .before .before .args .left)) (sideWith (c .before .before .before .before .before .before .before .before .before .before .before .before .before .before .before .before .before .before .args .t4) (c .before .before .before .before .before .before .before .before .before .before .before .before .before .before .before .before .before .before .args .right)) (c .before .before .before .before .before .before .before .before .before .before .before .before .before .before .before .before .loop .out) (c .before .before .before .before .before .before .before .before .before .before .before .before .before .before .before .before .loop .ok) (c .before .before .before .before .before .before .before .before .before .before .before .before .before .before .before .before .loop .total) (c .before .before .before .before .before .before .before .before .before .before .before .before .before .before .before .before .loop .i) (c .before .before .before .before .before .before .before .before .before .before .before .before .before .before .before .before .loop .j) (c .before .before .before .before .before .before .next-time .result) (c .before .before .point .result) (c .before .is-finite .result) _ (c .before .before .before .before .before .before .before .before .before .before .before .before .before .before .before .before .loop .inv .2) (step-of (c .before .before .before .before .before .before)) (made-of (c .before .before)) (c .before .is-finite .ensures) (c .if1 .left) refl)
+loop-again-2 c = (step-of (c .before .before .before .before .before .before) .left, step-of (c .before .before .before .before .before .before) .right, turn-full (c .before .before .before .before .before .before .before .before .before .before .before .before .before .before .before .before .before .before .args .operation) (sideWith (c .before .before .before .before .before .before .before .before .before .before .before .before .before .before .before .before .before .before .args .t2) (c .before .before .before .before .before .before .before .before .before .before .before .before .before .before .before .before .before .before .args .left)) (sideWith (c .before .before .before .before .before .before .before .before .before .before .before .before .before .before .before .before .before .before .args .t4) (c .before .before .before .before .before .before .before .before .before .before .before .before .before .before .before .before .before .before .args .right)) (c .before .before .before .before .before .before .before .before .before .before .before .before .before .before .before .before .loop .out) (c .before .before .before .before .before .before .before .before .before .before .before .before .before .before .before .before .loop .ok) (c .before .before .before .before .before .before .before .before .before .before .before .before .before .before .before .before .loop .total) (c .before .before .before .before .before .before .before .before .before .before .before .before .before .before .before .before .loop .i) (c .before .before .before .before .before .before .before .before .before .before .before .before .before .before .before .before .loop .j) (c .before .before .before .before .before .before .next-time .result) (c .before .before .new .result) (c .before .is-finite .result) _ (c .before .before .before .before .before .before .before .before .before .before .before .before .before .before .before .before .loop .inv .2) (step-of (c .before .before .before .before .before .before)) (made-of (c .before .before)) (c .before .is-finite .ensures) (c .if1 .left) refl)
 
 returns : tie.Need-returns Inv-loop μ-loop
 returns c = ended (c .before .before .before .args .operation) (sideWith (c .before .before .before .args .t2) (c .before .before .before .args .left)) (sideWith (c .before .before .before .args .t4) (c .before .before .before .args .right)) _ _ _ _ _ (inside (c .before .before .before .args .t2) _ (c .before .before .before .good .1 .0) (c .before .before .before .pre .0)) (inside (c .before .before .before .args .t4) _ (c .before .before .before .good .1 .1 .1 .0) (c .before .before .before .pre .1)) (omega arith) (omega arith) (c .before .loop .inv .2)
@@ -149,7 +149,7 @@ walk-spec =
     value-at-requires
     value-at-requires-2
     apply-requires
-    point-requires
+    new-requires
     is-finite-requires
     add-total
     mul-made
