@@ -12,7 +12,7 @@ use lib.Seq.{drop-cons, getD-take, length-take-le, take-all, take-append-le}
 use lib.Ieee.{Float}
 use borrow.Author.Tests.{ltb-true, ltb-false, leb-true, leb-false, le-leb, lt-leb, eqb-true, eqb-false}
 use Rattle.numbers.specs.Order.{orderKey}
-use Rattle.points.specs.Point.{anyPoint, finitePoint}
+use Rattle.points.specs.Point.{anyPoint, finitePoint, pointWith}
 use Rattle.curve.specs.declared.CurveType.the-variants.{Linear}
 use Rattle.points.specs.Points.{every, rising, timeKey, listOf, holding, validPoints}
 use Rattle.points.specs.Laws.{every-append, every-one}
@@ -20,7 +20,6 @@ use Rattle.points.specs.Search.{placeBy, place-at, rising-at, lower-up-to}
 use Rattle.points.specs.ValidLaws.{valid-count, valid-rising}
 use Rattle.points.specs.declared.AutomationPoint.{AutomationPoint}
 use Rattle.points.specs.declared.Points.{Points}
-use Rattle.settle.specs.NewPoint.{pointWith}
 use Rattle.settle.proofs.Ends.{pushed}
 use Rattle.lookup.specs.Lookup.{pointAt}
 use Rattle.lookup.specs.LookupLaws.{at-place}

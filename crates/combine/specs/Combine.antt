@@ -13,7 +13,7 @@ use Rattle.points.specs.Points.{listOf}
 use Rattle.points.specs.declared.AutomationPoint.{AutomationPoint}
 use Rattle.points.specs.declared.refusal.Refusal.the-variants.{NotValid}
 use Rattle.settle.specs.Settle.{refused, editPoints}
-use Rattle.settle.specs.NewPoint.{pointWith}
+use Rattle.points.specs.Point.{pointWith}
 use Rattle.settle.specs.declared.EditedPoints.{EditedPoints}
 use Rattle.lookup.specs.Limits.{valid}
 use Rattle.lookup.specs.Lookup.{valueAt}

@@ -3,7 +3,6 @@ ghost use mathlib.Core.Path.{_≡_};
 ghost use mathlib.Core.Bool.{true};
 ghost use Prim.Native.Nat.{_≤_};
 ghost use Rattle.points.specs.Points.{validPoints};
-ghost use Rattle.points.specs.Point.{pointWith};
 ghost use Rattle.combine.specs.Combine.{finiteOperation, applied, validSide, combinedPoints};
 ghost use Rattle.combine.specs.Walk.{endsOf, sideWith, orZero, nearAt, nextOf, walked};
 use lookup::Limits;

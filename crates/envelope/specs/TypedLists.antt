@@ -14,12 +14,11 @@ use Rattle.numbers.specs.Tests.{yes as passes}
 use Rattle.curve.specs.Curve.{controls}
 use Rattle.curve.specs.declared.CurveType.{CurveType}
 use Rattle.curve.specs.declared.CurveType.the-variants.{Linear}
-use Rattle.points.specs.Point.{unused}
+use Rattle.points.specs.Point.{unused, pointWith}
 use Rattle.points.specs.Points.{every, timeKey, listOf, holding}
 use Rattle.points.specs.Laws.{and-left, and-right, every-append}
 use Rattle.points.specs.declared.AutomationPoint.{AutomationPoint}
 use Rattle.points.specs.declared.Points.{Points}
-use Rattle.settle.specs.NewPoint.{pointWith}
 use Rattle.pointwise.specs.Each.{zero64, zero32, one32, withTime, withValue, clampedTo, fadedIn, fadedOut, gated, compressed, changed, lowestValue, highestValue, firstTime, lastTime, scaledTime, normalized, fadedInAll, fadedOutAll}
 use Rattle.pointwise.specs.declared.Change.{Change}
 use Rattle.pointwise.specs.declared.Change.the-variants.{Shift, ScaleTime, Reflect, Quantize, Invert, Normalize, Scale, Offset, Clamp, FadeIn, FadeOut, Gate, Compress}

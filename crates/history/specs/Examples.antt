@@ -7,7 +7,7 @@ use lib.Ieee.{binary32, binary64, ofBits, toBits}
 use lib.ListN.{replicate}
 use Rattle.curve.specs.declared.CurveType.the-variants.{Linear}
 use Rattle.points.specs.Refusal.{Said, refuses, gives}
-use Rattle.settle.specs.NewPoint.{pointWith}
+use Rattle.points.specs.Point.{pointWith}
 use Rattle.insert.specs.Insert.{insertPoint}
 use Rattle.numbers.specs.Bounds.{finite}
 use Rattle.numbers.specs.Order.{orderKey}

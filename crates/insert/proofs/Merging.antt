@@ -14,7 +14,7 @@ use Rattle.numbers.specs.OrderLaws.{key-same}
 use Rattle.curve.specs.Curve.{finiteControls, controls}
 use Rattle.curve.specs.declared.CurveType.{CurveType}
 use Rattle.curve.specs.declared.CurveType.the-variants.{Linear}
-use Rattle.points.specs.Point.{finitePoint}
+use Rattle.points.specs.Point.{finitePoint, pointWith}
 use Rattle.points.specs.Points.{every, rising, timeKey, listOf, holding, validPoints}
 use Rattle.points.specs.Laws.{and-left, and-right, and-true}
 use Rattle.points.specs.ValidLaws.{holding-listOf, valid-count, valid-finite, valid-rising}
@@ -23,7 +23,6 @@ use Rattle.points.specs.declared.Points.{Points}
 use Rattle.points.specs.declared.refusal.Refusal.the-variants.{NotValid, NotFinite, TooManyPoints}
 use Rattle.points.specs.declared.refusal.Answer.the-variants.{Accepted}
 use Rattle.settle.specs.Settle.{refused, settle, editPoints}
-use Rattle.settle.specs.NewPoint.{pointWith}
 use Rattle.pointwise.specs.Each.{zero64, zero32, one32, changed}
 use Rattle.pointwise.specs.Places.{mappedIn}
 use Rattle.pointwise.specs.declared.Change.the-variants.{Shift}

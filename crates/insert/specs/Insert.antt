@@ -12,7 +12,7 @@ use Rattle.points.specs.declared.Points.{Points}
 use Rattle.points.specs.declared.refusal.Refusal.the-variants.{NotValid}
 use Rattle.settle.specs.declared.EditedPoints.{EditedPoints}
 use Rattle.settle.specs.Settle.{refused, editPoints}
-use Rattle.settle.specs.NewPoint.{pointWith}
+use Rattle.points.specs.Point.{pointWith}
 use Rattle.pointwise.specs.declared.Change.the-variants.{Shift}
 use Rattle.pointwise.specs.Each.{zero64, zero32, one32, changed}
 

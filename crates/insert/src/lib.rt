@@ -7,14 +7,12 @@ ghost use Rattle.curve.specs.Curve.{finiteControls};
 ghost use Rattle.points.specs.Point.{finitePoint};
 ghost use Rattle.points.specs.Points.{every, listOf, holding, validPoints};
 ghost use Rattle.settle.specs.Settle.{settle, editPoints};
-ghost use Rattle.settle.specs.NewPoint.{pointWith};
 ghost use Rattle.pointwise.specs.Each.{zero32, one32};
 ghost use Rattle.insert.specs.Insert.{insertPoint, insertAll, mergedPoints, rampList, pulseList};
 ghost use Rattle.insert.specs.Inserted.{Sorted, Inserts};
 use curve::CurveType;
 use points::AutomationPoint;
 use points::Points;
-use points::SamplePosition;
 use points::refusal::Answer;
 use points::refusal::Refusal;
 use pointwise::Change;
@@ -132,18 +130,6 @@ pub fn merge(points: Points, other: Points, offset: f64) -> EditedPoints
     }
 }
 
-// 000's with_curve.
-fn point_with(time: f64, value: f32, curve: CurveType) -> AutomationPoint
-    ensures { λ r. ⌜ r ≡ pointWith time value curve ⌝ }
-{
-    AutomationPoint {
-        time,
-        sample_position: SamplePosition::None,
-        value,
-        curve,
-    }
-}
-
 // Two points in the order of their times, or the second alone where they have the same.
 fn pair(a: AutomationPoint, b: AutomationPoint) -> Points
     ensures { λ r. ⌜ r ≡ holding (insertAll [] (a ∷ (b ∷ []))) ⌝ }
@@ -204,8 +190,8 @@ pub fn ramp(
         & numbers::order::is_finitef(start)
         & numbers::order::is_finitef(end_value)
         & curve.is_finite();
-    let first = point_with(0.0, start, CurveType::Linear);
-    let last = point_with(duration, end_value, curve);
+    let first = AutomationPoint::with_curve(0.0, start, CurveType::Linear);
+    let last = AutomationPoint::with_curve(duration, end_value, curve);
     if !points.is_valid() {
         refuse(points, Refusal::NotValid)
     } else if !ok {
@@ -244,10 +230,10 @@ pub fn pulse(
         & numbers::order::is_finite(sustain)
         & numbers::order::is_finite(fade_out)
         & curve.is_finite();
-    let a = point_with(0.0, 0.0, CurveType::Linear);
-    let b = point_with(fade_in, 1.0, curve);
-    let c = point_with(fade_in + sustain, 1.0, CurveType::Linear);
-    let d = point_with(fade_in + sustain + fade_out, 0.0, curve);
+    let a = AutomationPoint::with_curve(0.0, 0.0, CurveType::Linear);
+    let b = AutomationPoint::with_curve(fade_in, 1.0, curve);
+    let c = AutomationPoint::with_curve(fade_in + sustain, 1.0, CurveType::Linear);
+    let d = AutomationPoint::with_curve(fade_in + sustain + fade_out, 0.0, curve);
     let all = ok & c.is_finite() & d.is_finite();
     if !points.is_valid() {
         refuse(points, Refusal::NotValid)

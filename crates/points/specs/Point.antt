@@ -5,6 +5,7 @@ use lib.IntN.{ℤ, pos, negsuc}
 use lib.Ieee.{Float, nan, inf, fin, binary32, binary64, sub, lt, ofBits}
 use Rattle.numbers.specs.Bounds.{finite}
 use Rattle.curve.specs.Curve.{isLinear, finiteControls, sameCurve}
+use Rattle.curve.specs.declared.CurveType.{CurveType}
 use Rattle.curve.specs.declared.CurveType.the-variants.{Linear}
 use Rattle.points.specs.Refusal.{Said, refuses, gives}
 use Rattle.points.specs.declared.SamplePosition.{SamplePosition}
@@ -22,6 +23,10 @@ zeroFloat = fin false 0 (pos 0)
 -- "places past the count hold time 0, no position, value 0, Linear"
 abbrev pub unused : AutomationPoint
 unused = record { time = zeroFloat; «sample_position» = position.None; value = zeroFloat; curve = Linear }
+
+-- 000's `AutomationPoint::with_curve`
+abbrev pub pointWith : Float → Float → CurveType → AutomationPoint
+pointWith time value c = record { time = time; «sample_position» = position.None; value = value; curve = c }
 
 -- what a place that does not exist would hold: no answer turns on it
 abbrev pub anyPoint : AutomationPoint

@@ -1,8 +1,7 @@
 // One point: its tests, and 000's two equalities.
 ghost use mathlib.Core.Path.{_≡_};
-ghost use Rattle.points.specs.Point.{finitePoint, isNone, isPlusZero, isUnused, unused, samePoint, samePointExact, pointsEqual};
+ghost use Rattle.points.specs.Point.{finitePoint, isNone, isPlusZero, isUnused, unused, pointWith, samePoint, samePointExact, pointsEqual};
 ghost use Rattle.points.specs.Refusal.{compared};
-ghost use Rattle.points.specs.declared.SamplePosition.the-variants.{None};
 ghost use Rattle.curve.specs.declared.CurveType.the-variants.{Linear};
 use crate::AutomationPoint;
 use crate::SamplePosition;
@@ -55,16 +54,22 @@ pub fn unused() -> AutomationPoint
 }
 
 impl AutomationPoint {
-    // 000's new: Linear, and no position.
-    pub fn new(time: f64, value: f32) -> AutomationPoint
-        ensures { λ r. ⌜ r ≡ record { time = time; «sample_position» = None; value = value; curve = Linear } ⌝ }
+    // No position.
+    pub fn with_curve(time: f64, value: f32, curve: CurveType) -> AutomationPoint
+        ensures { λ r. ⌜ r ≡ pointWith time value curve ⌝ }
     {
         AutomationPoint {
             time,
             sample_position: SamplePosition::None,
             value,
-            curve: CurveType::Linear,
+            curve,
         }
+    }
+
+    pub fn new(time: f64, value: f32) -> AutomationPoint
+        ensures { λ r. ⌜ r ≡ pointWith time value Linear ⌝ }
+    {
+        AutomationPoint::with_curve(time, value, CurveType::Linear)
     }
 
     pub fn is_finite(self) -> bool

@@ -20,7 +20,7 @@ use Rattle.points.specs.declared.refusal.Refusal.the-variants.{NotValid, SheetC
 use Rattle.numbers.specs.Tests.{yes}
 use Rattle.points.specs.Points.{every}
 use Rattle.points.specs.Laws.{every-append, every-one}
-use Rattle.settle.specs.NewPoint.{pointWith}
+use Rattle.points.specs.Point.{pointWith}
 use Rattle.envelope.specs.Envelope.{new}
 use Rattle.envelope.specs.EditLaws.{either, both}
 use Rattle.envelope.specs.Typed.{typedEdit, typedPointsEdit}

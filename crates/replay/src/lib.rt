@@ -5,7 +5,7 @@ ghost use mathlib.Core.List.{map};
 ghost use Prim.Native.Nat.{min};
 ghost use lib.ListN.{length, take, drop};
 ghost use Rattle.points.specs.Refusal.{said, number};
-ghost use Rattle.settle.specs.NewPoint.{pointWith};
+ghost use Rattle.points.specs.Point.{pointWith};
 ghost use Rattle.curve.specs.declared.CurveType.the-variants.{Linear};
 ghost use Rattle.envelope.specs.Envelope.{new};
 ghost use Rattle.session.specs.Calls.{Obeys};

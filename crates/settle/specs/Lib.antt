@@ -2,4 +2,3 @@
 pub mod Settle
 pub mod Finish
 pub mod Accepted
-pub mod NewPoint

@@ -8,11 +8,10 @@ use Rattle.numbers.specs.Bounds.{finite}
 use Rattle.curve.specs.Curve.{finiteControls}
 use Rattle.points.specs.declared.AutomationPoint.{AutomationPoint}
 use Rattle.curve.specs.declared.CurveType.the-variants.{Linear}
-use Rattle.points.specs.Point.{finitePoint}
+use Rattle.points.specs.Point.{finitePoint, pointWith}
 use Rattle.points.specs.Points.{listOf, holding, risingBy}
 use Rattle.points.specs.Laws.{and-both}
 use Rattle.points.specs.ValidLaws.{listOf-holding}
-use Rattle.settle.specs.NewPoint.{pointWith}
 use Rattle.pointwise.specs.Each.{zero64, zero32, one32}
 use Rattle.insert.specs.Insert.{insertAll, pulseList}
 use Rattle.insert.proofs.Inserting.{holding-own, all-few, rising-all}
@@ -33,17 +32,17 @@ is-finite-requires-3 c κs = search needs
 is-finite-requires-4 : tie.Need-is-finite-requires-4
 is-finite-requires-4 c κs = search needs
 
-point-with-requires : tie.Need-point-with-requires
-point-with-requires c κs = search needs
+with-curve-requires : tie.Need-with-curve-requires
+with-curve-requires c κs = search needs
 
-point-with-requires-2 : tie.Need-point-with-requires-2
-point-with-requires-2 c κs = search needs
+with-curve-requires-2 : tie.Need-with-curve-requires-2
+with-curve-requires-2 c κs = search needs
 
-point-with-requires-3 : tie.Need-point-with-requires-3
-point-with-requires-3 c κs = search needs
+with-curve-requires-3 : tie.Need-with-curve-requires-3
+with-curve-requires-3 c κs = search needs
 
-point-with-requires-4 : tie.Need-point-with-requires-4
-point-with-requires-4 c κs = search needs
+with-curve-requires-4 : tie.Need-with-curve-requires-4
+with-curve-requires-4 c κs = search needs
 
 is-finite-requires-5 : tie.Need-is-finite-requires-5
 is-finite-requires-5 c κs = search needs
@@ -64,7 +63,7 @@ four-requires : tie.Need-four-requires
 four-requires c κs = search needs
 
 in-order-requires : tie.Need-in-order-requires
-in-order-requires c κs = holding-own (c .four .result) (c .before .before .before .before .before .before .before .before .before .point-with .result ∷ (c .before .before .before .before .before .before .before .before .point-with2 .result ∷ (c .before .before .before .before .before .before .before .point-with3 .result ∷ (c .before .before .before .before .before .before .point-with4 .result ∷ [])))) (c .four .ensures)
+in-order-requires c κs = holding-own (c .four .result) (c .before .before .before .before .before .before .before .before .before .with-curve .result ∷ (c .before .before .before .before .before .before .before .before .with-curve2 .result ∷ (c .before .before .before .before .before .before .before .with-curve3 .result ∷ (c .before .before .before .before .before .before .with-curve4 .result ∷ [])))) (c .four .ensures)
 
 returns : tie.Need-returns
 returns c =
@@ -74,7 +73,7 @@ returns c =
 returns-2 : tie.Need-returns-2
 returns-2 c =
     let given = and-both (and-both (and-both (c .before .before .before .before .before .before .before .before .before .before .before .before .before .is-finite .ensures) (c .before .before .before .before .before .before .before .before .before .before .before .before .is-finite2 .ensures)) (c .before .before .before .before .before .before .before .before .before .before .before .is-finite3 .ensures)) (c .before .before .before .before .before .before .before .before .before .before .is-finite4 .ensures) in
-    let sums = and-both (and-both given (c .before .before .before .before .before .is-finite5 .ensures ∙ ap finitePoint (c .before .before .before .before .before .before .before .point-with3 .ensures))) (c .before .before .before .before .is-finite6 .ensures ∙ ap finitePoint (c .before .before .before .before .before .before .point-with4 .ensures)) in
+    let sums = and-both (and-both given (c .before .before .before .before .before .is-finite5 .ensures ∙ ap finitePoint (c .before .before .before .before .before .before .before .with-curve3 .ensures))) (c .before .before .before .before .is-finite6 .ensures ∙ ap finitePoint (c .before .before .before .before .before .before .with-curve4 .ensures)) in
     let ok = sums ∙ pulse-fine (c .before .before .before .before .before .before .before .before .before .before .before .before .before .before .args .fade-in) (c .before .before .before .before .before .before .before .before .before .before .before .before .before .before .args .sustain) (c .before .before .before .before .before .before .before .before .before .before .before .before .before .before .args .fade-out) (c .before .before .before .before .before .before .before .before .before .before .before .before .before .before .args .curve) in
     c .refuse2 .ensures ∙ any-three (c .before .before .before .before .before .before .before .before .before .before .before .before .before .before .args .points) (finite (c .before .before .before .before .before .before .before .before .before .before .before .before .before .before .args .fade-in) && finite (c .before .before .before .before .before .before .before .before .before .before .before .before .before .before .args .sustain) && finite (c .before .before .before .before .before .before .before .before .before .before .before .before .before .before .args .fade-out) && finiteControls (c .before .before .before .before .before .before .before .before .before .before .before .before .before .before .args .curve))
     (pulseList (c .before .before .before .before .before .before .before .before .before .before .before .before .before .before .args .fade-in) (c .before .before .before .before .before .before .before .before .before .before .before .before .before .before .args .sustain) (c .before .before .before .before .before .before .before .before .before .before .before .before .before .before .args .fade-out) (c .before .before .before .before .before .before .before .before .before .before .before .before .before .before .args .curve)) (sym (c .before .before .before .is-valid .ensures) ∙ not-false _ (c .before .before .if1 .left)) (sym ok ∙ not-true _ (c .before .if2 .taken))
@@ -85,9 +84,9 @@ returns-3 c =
     let t = add binary64 (c .before .before .before .before .before .before .before .before .before .before .before .before .before .before .before .args .fade-in) (c .before .before .before .before .before .before .before .before .before .before .before .before .before .before .before .args .sustain) in
     let l = pointWith zero64 zero32 Linear ∷ (pointWith (c .before .before .before .before .before .before .before .before .before .before .before .before .before .before .before .args .fade-in) one32 (c .before .before .before .before .before .before .before .before .before .before .before .before .before .before .before .args .curve) ∷ (pointWith t one32 Linear ∷ (pointWith (add binary64 t (c .before .before .before .before .before .before .before .before .before .before .before .before .before .before .before .args .fade-out)) zero32 (c .before .before .before .before .before .before .before .before .before .before .before .before .before .before .before .args .curve) ∷ []))) in
     let m : listOf (c .before .four .result) ≡ l =
-    ap listOf (c .before .four .ensures) ∙ listOf-holding _ ∙ (λ i. c .before .before .before .before .before .before .before .before .before .before .point-with .ensures i ∷ (c .before .before .before .before .before .before .before .before .before .point-with2 .ensures i ∷ (c .before .before .before .before .before .before .before .before .point-with3 .ensures i ∷ (c .before .before .before .before .before .before .before .point-with4 .ensures i ∷ [])))) in
+    ap listOf (c .before .four .ensures) ∙ listOf-holding _ ∙ (λ i. c .before .before .before .before .before .before .before .before .before .before .with-curve .ensures i ∷ (c .before .before .before .before .before .before .before .before .before .with-curve2 .ensures i ∷ (c .before .before .before .before .before .before .before .before .with-curve3 .ensures i ∷ (c .before .before .before .before .before .before .before .with-curve4 .ensures i ∷ [])))) in
     let given = and-both (and-both (and-both (c .before .before .before .before .before .before .before .before .before .before .before .before .before .before .is-finite .ensures) (c .before .before .before .before .before .before .before .before .before .before .before .before .before .is-finite2 .ensures)) (c .before .before .before .before .before .before .before .before .before .before .before .before .is-finite3 .ensures)) (c .before .before .before .before .before .before .before .before .before .before .before .is-finite4 .ensures) in
-    let sums = and-both (and-both given (c .before .before .before .before .before .before .is-finite5 .ensures ∙ ap finitePoint (c .before .before .before .before .before .before .before .before .point-with3 .ensures))) (c .before .before .before .before .before .is-finite6 .ensures ∙ ap finitePoint (c .before .before .before .before .before .before .before .point-with4 .ensures)) in
+    let sums = and-both (and-both given (c .before .before .before .before .before .before .is-finite5 .ensures ∙ ap finitePoint (c .before .before .before .before .before .before .before .before .with-curve3 .ensures))) (c .before .before .before .before .before .is-finite6 .ensures ∙ ap finitePoint (c .before .before .before .before .before .before .before .with-curve4 .ensures)) in
     let ok = sums ∙ pulse-fine (c .before .before .before .before .before .before .before .before .before .before .before .before .before .before .before .args .fade-in) (c .before .before .before .before .before .before .before .before .before .before .before .before .before .before .before .args .sustain) (c .before .before .before .before .before .before .before .before .before .before .before .before .before .before .before .args .fade-out) (c .before .before .before .before .before .before .before .before .before .before .before .before .before .before .before .args .curve) in
     made-new (c .before .before .before .before .before .before .before .before .before .before .before .before .before .before .before .args .points) (c .in-order .result) (finite (c .before .before .before .before .before .before .before .before .before .before .before .before .before .before .before .args .fade-in) && finite (c .before .before .before .before .before .before .before .before .before .before .before .before .before .before .before .args .sustain) && finite (c .before .before .before .before .before .before .before .before .before .before .before .before .before .before .before .args .fade-out) && finiteControls (c .before .before .before .before .before .before .before .before .before .before .before .before .before .before .before .args .curve))
     (pulseList (c .before .before .before .before .before .before .before .before .before .before .before .before .before .before .before .args .fade-in) (c .before .before .before .before .before .before .before .before .before .before .before .before .before .before .before .args .sustain) (c .before .before .before .before .before .before .before .before .before .before .before .before .before .before .before .args .fade-out) (c .before .before .before .before .before .before .before .before .before .before .before .before .before .before .before .args .curve)) (sym (c .before .before .before .before .is-valid .ensures) ∙ not-false _ (c .before .before .before .if1 .left)) (sym ok ∙ not-false _ (c .before .before .if2 .left))
@@ -101,10 +100,10 @@ pulse-spec =
     is-finite-requires-2
     is-finite-requires-3
     is-finite-requires-4
-    point-with-requires
-    point-with-requires-2
-    point-with-requires-3
-    point-with-requires-4
+    with-curve-requires
+    with-curve-requires-2
+    with-curve-requires-3
+    with-curve-requires-4
     is-finite-requires-5
     is-finite-requires-6
     is-valid-requires

@@ -8,7 +8,7 @@ use Rattle.curve.specs.Curve.{finiteControls}
 use Rattle.curve.specs.declared.CurveType.the-variants.{Linear}
 use Rattle.points.specs.Points.{holding, risingBy}
 use Rattle.points.specs.Laws.{and-both}
-use Rattle.settle.specs.NewPoint.{pointWith}
+use Rattle.points.specs.Point.{pointWith}
 use Rattle.pointwise.specs.Each.{zero64}
 use Rattle.insert.specs.Insert.{insertAll, rampList}
 use Rattle.insert.proofs.Inserting.{all-few, rising-all}
@@ -29,11 +29,11 @@ is-finitef-requires-2 c κs = search needs
 is-finite-requires-2 : tie.Need-is-finite-requires-2
 is-finite-requires-2 c κs = search needs
 
-point-with-requires : tie.Need-point-with-requires
-point-with-requires c κs = search needs
+with-curve-requires : tie.Need-with-curve-requires
+with-curve-requires c κs = search needs
 
-point-with-requires-2 : tie.Need-point-with-requires-2
-point-with-requires-2 c κs = search needs
+with-curve-requires-2 : tie.Need-with-curve-requires-2
+with-curve-requires-2 c κs = search needs
 
 is-valid-requires : tie.Need-is-valid-requires
 is-valid-requires c κs = search needs
@@ -65,7 +65,7 @@ returns-3 c =
     let ok = and-both (and-both (and-both (c .before .before .before .before .before .before .before .before .before .is-finite .ensures) (c .before .before .before .before .before .before .before .before .is-finitef .ensures)) (c .before .before .before .before .before .before .before .is-finitef2 .ensures)) (c .before .before .before .before .before .before .is-finite2 .ensures) ∙ ramp-fine (c .before .before .before .before .before .before .before .before .before .before .args .duration) (c .before .before .before .before .before .before .before .before .before .before .args .start) (c .before .before .before .before .before .before .before .before .before .before .args .end-value) (c .before .before .before .before .before .before .before .before .before .before .args .curve) in
     made-new (c .before .before .before .before .before .before .before .before .before .before .args .points) (c .pair .result) (finite (c .before .before .before .before .before .before .before .before .before .before .args .duration) && finite (c .before .before .before .before .before .before .before .before .before .before .args .start) && finite (c .before .before .before .before .before .before .before .before .before .before .args .end-value) && finiteControls (c .before .before .before .before .before .before .before .before .before .before .args .curve))
     (rampList (c .before .before .before .before .before .before .before .before .before .before .args .duration) (c .before .before .before .before .before .before .before .before .before .before .args .start) (c .before .before .before .before .before .before .before .before .before .before .args .end-value) (c .before .before .before .before .before .before .before .before .before .before .args .curve)) (sym (c .before .before .before .is-valid .ensures) ∙ not-false _ (c .before .before .if1 .left)) (sym ok ∙ not-false _ (c .before .if2 .left))
-    (rising-all [] l refl) (omega (arith, all-few [] l)) (c .pair .ensures ∙ (λ i. holding (insertAll [] (c .before .before .before .before .before .point-with .ensures i ∷ (c .before .before .before .before .point-with2 .ensures i ∷ [])))))
+    (rising-all [] l refl) (omega (arith, all-few [] l)) (c .pair .ensures ∙ (λ i. holding (insertAll [] (c .before .before .before .before .before .with-curve .ensures i ∷ (c .before .before .before .before .with-curve2 .ensures i ∷ [])))))
 
 pub ramp-spec : {M : Type 1} → statement M
 ramp-spec =
@@ -75,8 +75,8 @@ ramp-spec =
     is-finitef-requires
     is-finitef-requires-2
     is-finite-requires-2
-    point-with-requires
-    point-with-requires-2
+    with-curve-requires
+    with-curve-requires-2
     is-valid-requires
     refuse-requires
     refuse-requires-2

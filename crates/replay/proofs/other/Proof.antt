@@ -1,7 +1,7 @@
 use mathlib.Core.Path.{_≡_, ap, _∙_}
 use Rattle.curve.specs.declared.CurveType.the-variants.{Linear}
 use Rattle.points.specs.declared.AutomationPoint.{AutomationPoint}
-use Rattle.settle.specs.NewPoint.{pointWith}
+use Rattle.points.specs.Point.{pointWith}
 use Rattle.envelope.specs.Edit.{EditTold, editOf}
 use Rattle.envelope.specs.declared.AutomationEnvelope.{AutomationEnvelope}
 use Rattle.envelope.specs.declared.edit.Edit.the-variants.{OfPoints}
