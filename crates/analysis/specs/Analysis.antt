@@ -105,6 +105,7 @@ getSlopeAt points enabled limits time =
 abbrev pub isPeak : AutomationPoint → AutomationPoint → AutomationPoint → Bool
 isPeak a b c = lt (a .value) (b .value) && lt (c .value) (b .value)
 
+-- lower than both
 abbrev pub isValley : AutomationPoint → AutomationPoint → AutomationPoint → Bool
 isValley a b c = lt (b .value) (a .value) && lt (b .value) (c .value)
 

@@ -18,7 +18,7 @@ use Rattle.analysis.specs.declared.Bounds.{Bounds}
 
 -- ---- the least and the greatest
 
--- "from the infinities"
+-- before any value: the infinities, as `rangeOf` starts
 abbrev pub nowhere : Bounds
 nowhere = record { low = ofBits binary32 0x7F80_0000; high = ofBits binary32 0xFF80_0000 }
 
@@ -66,8 +66,10 @@ middleTest false = isPeak
 abbrev pub middlesOf : Bool → Points → List AutomationPoint
 middlesOf valley points = middles (middleTest valley) (listOf points)
 
+-- a point's time
 abbrev pub timeOf : AutomationPoint → Float
 timeOf p = p .time
 
+-- a point's value
 abbrev pub valueOf : AutomationPoint → Float
 valueOf p = p .value

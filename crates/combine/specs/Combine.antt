@@ -58,12 +58,15 @@ mergeTimes (a ∷ rest) bs = mergeFrom a (mergeTimes rest) bs
 
 -- ---- the combination of two sides
 
+-- a point's time
 abbrev pub timeOf : AutomationPoint → Float
 timeOf p = p .time
 
+-- the times of a side
 abbrev pub timesOf : Side → List Float
 timesOf s = map timeOf (listOf (s .points))
 
+-- whether a side is a valid envelope's
 abbrev pub validSide : Side → Bool
 validSide s = valid (s .points) (s .limits)
 
@@ -75,6 +78,7 @@ sideAt s time = Option·getD (valueAt (s .points) (s .enabled) (s .limits) time)
 abbrev pub combinedPoint : Operation → Side → Side → Float → AutomationPoint
 combinedPoint op a b time = pointWith time (applied op (sideAt a time) (sideAt b time)) Linear
 
+-- a point for each time of either side
 abbrev pub combinedList : Operation → Side → Side → List AutomationPoint
 combinedList op a b = map (combinedPoint op a b) (mergeTimes (timesOf a) (timesOf b))
 

@@ -65,5 +65,6 @@ nextOf n m i j a b =
     (cond (eqb (orderKey a) (orderKey b)) (record { time = a; i = i + 1; j = j + 1 })
     (record { time = b; i = i; j = j + 1 }))))
 
+-- what the walk gives: whether all values are finite, how many points there are, and the first 256
 unfoldable pub walked : Operation → Side → Side → Walked
 walked op a b = let l = combinedList op a b in record { ok = every finitePoint l; total = length l; points = holding (take 256 l) }

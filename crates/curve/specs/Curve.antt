@@ -30,6 +30,7 @@ cubicBezier t cp1 cp2 =
 abbrev pub opposite : Float → Float
 opposite t = neg f2 *ᶠ t +ᶠ f2
 
+-- a curve of two halves, by 001's `t < 0.5`
 unfoldable pub inOut : Float → Float → Float → Float
 inOut t early late = cond (t <ᶠ f0·5) early (f1 -ᶠ late /ᶠ f2)
 
@@ -110,6 +111,7 @@ isLinear c = eqb (code c) 0
 abbrev pub noControls : Controls
 noControls = record { cp1 = f0; cp2 = f0 }
 
+-- the control numbers of each case
 unfoldable pub controls : CurveType → Controls
 controls Linear = noControls
 controls Exponential = noControls

@@ -7,15 +7,19 @@ use lib.Ieee.{Float, binary32, ofBits}
 infix 50 _<ᶠ_
 infixl 65 _+ᶠ_ _-ᶠ_
 infixl 70 _*ᶠ_ _/ᶠ_
+-- f32 addition
 abbrev pub _+ᶠ_ : Float → Float → Float
 x +ᶠ y = Ieee.add binary32 x y
 
+-- f32 subtraction
 abbrev pub _-ᶠ_ : Float → Float → Float
 x -ᶠ y = Ieee.sub binary32 x y
 
+-- f32 multiplication
 abbrev pub _*ᶠ_ : Float → Float → Float
 x *ᶠ y = Ieee.mul binary32 x y
 
+-- f32 division
 abbrev pub _/ᶠ_ : Float → Float → Float
 x /ᶠ y = Ieee.div binary32 x y
 

@@ -40,6 +40,7 @@ pub record EditTold : Type 0 where
   pub said : Said (Unit {0})
   pub envelope : AutomationEnvelope
 
+-- an `Edited` in 01's terms
 abbrev pub toldEdit : Edited → EditTold
 toldEdit r = record { said = said (r .answer); envelope = r .envelope }
 
@@ -90,6 +91,7 @@ withPoints e ps = record { target = e .target; points = ps; enabled = e .enabled
 unfoldable pub edited : AutomationEnvelope → EditedPoints → EditTold
 edited e r = cond (finiteLimits (limitsOf e)) (record { said = said (r .answer); envelope = withPoints e (r .points) }) (declined e 1)
 
+-- one or the other, by the answer
 abbrev pub ifAccepted : {A : Type 0} → Answer → A → A → A
 ifAccepted Accepted x y = x
 ifAccepted (Refused r) x y = y

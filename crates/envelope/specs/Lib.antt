@@ -1,4 +1,4 @@
--- The envelope: its record, its equalities, its edits, and the proved examples.
+-- The envelope: its record, its equalities, its edits, and its numbers in range of their types.
 pub mod Envelope
 pub mod Edit
 pub mod Typed

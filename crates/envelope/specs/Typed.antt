@@ -20,23 +20,29 @@ use Rattle.envelope.specs.declared.edit.Replacement.the-variants.{FadeIn
 use Rattle.envelope.specs.declared.edit.Edit.{Edit}
 use Rattle.envelope.specs.declared.edit.Edit.the-variants.{OfPoints, Replace, SetEnabled, SetMin, SetMax, SetStep}
 
+-- the controls are f32
 abbrev pub typedCurve : CurveType → Bool
 typedCurve c = fits binary32 (controls c .cp1) && fits binary32 (controls c .cp2)
 
+-- a position is a u64
 abbrev pub typedPosition : SamplePosition → Bool
 typedPosition position.None = true
 typedPosition (position.At n) = ltb n 0x1_0000_0000_0000_0000
 
+-- the time is an f64, the value an f32
 abbrev pub typedPoint : AutomationPoint → Bool
 typedPoint p = fits binary64 (p .time) && typedPosition (p .«sample_position») && fits binary32 (p .value) && typedCurve (p .curve)
 
+-- there are 256 places, all of them so
 abbrev pub typedPoints : Points → Bool
 typedPoints ps = eqb (length (ps .places)) 256 && every typedPoint (ps .places)
 
+-- a limit is an f32
 abbrev pub typedLimit : Limit → Bool
 typedLimit limit.None = true
 typedLimit (limit.Number x) = fits binary32 x
 
+-- the target is a u32, and all of the above
 unfoldable pub typed : AutomationEnvelope → Bool
 typed e = ltb (e .target) 0x1_0000_0000 && typedLimit (e .«min_value») && typedLimit (e .«max_value») && typedLimit (e .«step_size») && typedPoints (e .points)
 
@@ -62,12 +68,14 @@ typedPointsEdit (ApplyFades fadeIn fadeOut c) = fits binary64 fadeIn && fits bin
 typedPointsEdit (ApplyGate threshold) = fits binary32 threshold
 typedPointsEdit (ApplyCompression threshold ratio) = fits binary32 threshold && fits binary32 ratio
 
+-- the same of a replacement's arguments
 unfoldable pub typedReplacement : Replacement → Bool
 typedReplacement (FadeIn duration c) = fits binary64 duration && typedCurve c
 typedReplacement (FadeOut duration c) = fits binary64 duration && typedCurve c
 typedReplacement (Pulse fadeIn sustain fadeOut c) = fits binary64 fadeIn && fits binary64 sustain && fits binary64 fadeOut && typedCurve c
 typedReplacement (Ramp duration start end c) = fits binary64 duration && fits binary32 start && fits binary32 end && typedCurve c
 
+-- the same of an edit's arguments
 unfoldable pub typedEdit : Edit → Bool
 unfolding typedPointsEdit typedReplacement
 typedEdit (OfPoints d) = typedPointsEdit d

@@ -24,7 +24,7 @@ use Rattle.session.specs.Calls.{alone, Call, edit, back, forward, callOf}
 use Rattle.session.specs.declared.Session.{Session}
 use Rattle.history.specs.Rule.{newHist, made, upTo, envelopeOf, ruleOf, histAfter, answersAfter}
 
--- a point at time 0 and one at time 1
+-- adding a point, its time and its value by their bits
 abbrev add : ℕ → ℕ → Call
 add time value = edit (alone (OfPoints (AddPoint (pointWith (ofBits binary64 time) (ofBits binary32 value) Linear))))
 

@@ -44,6 +44,7 @@ pub record Heard : Type 0 where
 abbrev pub unheard : ℕ → Hist → Heard
 unheard n h = record { said = refuses n; hist = h }
 
+-- an accepted call's history
 abbrev pub heard : Hist → Heard
 heard h = record { said = gives tt; hist = h }
 
@@ -51,6 +52,7 @@ heard h = record { said = gives tt; hist = h }
 abbrev pub joinedBy : ℕ → Hist → Entry → Hist
 joinedBy d h x = record { edits = take (h .mark) (h .edits) ++ (x ∷ []); mark = h .mark + 1; kept = min (h .kept + 1) d }
 
+-- an edit by what it says
 abbrev pub editHeard : ℕ → Hist → Entry → Said (Unit {0}) → Heard
 editHeard d h x (refuses n) = unheard n h
 editHeard d h x (gives u) = heard (joinedBy d h x)
@@ -72,6 +74,7 @@ unfoldable pub histAfter : AutomationEnvelope → ℕ → Hist → List Call →
 histAfter start d h [] = h
 histAfter start d h (c ∷ cs) = histAfter start d (ruleOf start d h c .hist) cs
 
+-- what the calls of a list say
 unfoldable pub answersAfter : AutomationEnvelope → ℕ → Hist → List Call → List (Said (Unit {0}))
 answersAfter start d h [] = []
 answersAfter start d h (c ∷ cs) = ruleOf start d h c .said ∷ answersAfter start d (ruleOf start d h c .hist) cs

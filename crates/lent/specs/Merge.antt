@@ -34,6 +34,7 @@ abbrev pub isAccepted : Answer → Bool
 isAccepted Accepted = true
 isAccepted (Refused r) = false
 
+-- before the first point: none gathered, and not too many to come
 unfoldable pub mergeStart : AutomationEnvelope → ℕ → Float → Merging
 mergeStart e n offset = record { before = e; offset = offset; gathered = holding []; good = leb n 256; begun = false; last = 0 }
 
@@ -41,6 +42,7 @@ mergeStart e n offset = record { before = e; offset = offset; gathered = holding
 abbrev pub addedTo : Merging → AutomationPoint → EditedPoints
 addedTo m p = editPoints (m .gathered) (finitePoint p) (insertPoint p (listOf (m .gathered)))
 
+-- with one more point
 unfoldable pub mergeStep : Merging → AutomationPoint → Merging
 mergeStep m p = record {
   before = m .before;
@@ -51,10 +53,12 @@ mergeStep m p = record {
   last = timeKey p;
 }
 
+-- after the last: the merge, or 1
 unfoldable pub mergeEnd : Merging → EditTold
 unfolding new
 mergeEnd m = cond (m .good) (joinOf (Merge (m .offset)) (m .before) (withPoints (new 0) (m .gathered))) (declined (m .before) 1)
 
+-- point after point
 abbrev pub foldOf : Merging → List AutomationPoint → Merging
 foldOf m [] = m
 foldOf m (p ∷ ps) = foldOf (mergeStep m p) ps

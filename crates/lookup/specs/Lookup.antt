@@ -23,9 +23,11 @@ use Rattle.lookup.specs.declared.Limits.{Limits}
 use Rattle.lookup.specs.declared.Lookup.{Lookup}
 use Rattle.lookup.specs.declared.Lookup.the-variants.{Silent, Value, Refused}
 
+-- the point at a place
 abbrev pub pointAt : List AutomationPoint → ℕ → AutomationPoint
 pointAt l i = getD l i anyPoint
 
+-- the last point
 abbrev pub lastPoint : List AutomationPoint → AutomationPoint
 lastPoint l = pointAt l (length l - 1)
 
@@ -79,6 +81,7 @@ sampleFraction previous next sample =
     (div binary32 (ofInt binary32 (pos (sample - previous))) (ofInt binary32 (pos (next - previous))))
     (ofBits binary32 0)
 
+-- the value on the way from one point to the next, by sample
 abbrev pub betweenSamples : ℕ → AutomationPoint → AutomationPoint → Float
 betweenSamples sample p q = interpolated (p .curve) (p .value) (q .value) (sampleFraction (sampleKey p) (sampleKey q) sample)
 
@@ -100,9 +103,11 @@ heard false limits raw = none
 heard true limits none = none
 heard true limits (some v) = some (constrained limits v)
 
+-- the lookup by time of a valid envelope
 abbrev pub valueAt : Points → Bool → Limits → Float → Option Float
 valueAt points enabled limits time = heard enabled limits (rawAt (listOf points) time)
 
+-- the lookup by sample of a valid envelope whose keys rise
 abbrev pub valueAtSample : Points → Bool → Limits → ℕ → Option Float
 valueAtSample points enabled limits sample = heard enabled limits (rawAtSample (listOf points) sample)
 

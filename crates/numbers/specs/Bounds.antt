@@ -8,6 +8,7 @@ use lib.Ieee.{Float, nan, inf, fin, lt, isNan}
 unfoldable pub maxNum : Float → Float → Float
 maxNum a b = cond (isNan a) b (cond (lt a b) b a)
 
+-- the smaller, by the same rules
 unfoldable pub minNum : Float → Float → Float
 minNum a b = cond (isNan a) b (cond (lt b a) b a)
 

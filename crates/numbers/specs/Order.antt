@@ -17,6 +17,7 @@ negative (fin s m e) = s
 unfoldable pub before : Float → Float → Bool
 before x y = cond (isNan x) false (cond (isNan y) true (cond (lt x y) true (not (lt y x) && (negative x && not (negative y)))))
 
+-- before, after or the same: 01's "`total_cmp`"
 unfoldable pub totalOf : Float → Float → Ordering
 unfolding before
 totalOf x y = cond (before x y) Less (cond (before y x) Greater Equal)

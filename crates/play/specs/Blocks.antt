@@ -44,6 +44,7 @@ pub record Opens (i : Input) (out : List ℕ) (r : Opened) (m : List ℕ) : Type
 abbrev pub blockCount : Play → ℕ
 blockCount p = min 1024 (p .count - p .next)
 
+-- a block's lines
 unfoldable pub blockText : Play → List ℕ
 blockText p = sampleLines (p .next) (run (samplesOf (p .envelope) (p .rate)) (p .next) (blockCount p))
 
@@ -57,6 +58,7 @@ pub record BlockTold : Type 0 where
   pub play : Play
   pub bytes : List ℕ
 
+-- a refused block: nothing is written, and the play stays
 abbrev pub declines : ℕ → Play → List ℕ → BlockTold
 declines n p out = record { said = refuses n; play = p; bytes = out }
 

@@ -31,7 +31,7 @@ use Rattle.play.specs.declared.Play.{Play}
 
 -- ---- the first bytes decide
 
--- "It answers input of any length": bytes after the first 16,536 change nothing
+-- input of any length: bytes after the first 16,536 change nothing
 pub output-decided : (n : ℕ) (l : List ℕ) → 16536 ≤ n → output (take n l) ≡ output l
 unfolding output
 output-decided n l h = ap (λ (i : Input). printed (counted i)) (input-decided n l h)

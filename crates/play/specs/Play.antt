@@ -16,6 +16,7 @@ use Rattle.sheet.specs.Text.{digitsOf, placesOf, numberText, decimalText}
 abbrev pub sampleNames : List ℕ
 sampleNames = text "sample value\n"
 
+-- the names above a refusal
 abbrev pub refusalNames : List ℕ
 refusalNames = text "refusal line\n"
 

@@ -32,15 +32,18 @@ pointWith time value c = record { time = time; «sample_position» = position.No
 abbrev pub anyPoint : AutomationPoint
 anyPoint = record { time = nan; «sample_position» = position.None; value = nan; curve = Linear }
 
+-- the exponent that a zero has
 abbrev pub isZeroExponent : ℤ → Bool
 isZeroExponent (pos n) = eqb n 0
 isZeroExponent (negsuc n) = false
 
+-- whether a number is 0.0
 abbrev pub isPlusZero : Float → Bool
 isPlusZero nan = false
 isPlusZero (inf s) = false
 isPlusZero (fin s m e) = not s && eqb m 0 && isZeroExponent e
 
+-- "no position"
 abbrev pub isNone : SamplePosition → Bool
 isNone position.None = true
 isNone (position.At n) = false

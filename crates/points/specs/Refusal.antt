@@ -34,6 +34,7 @@ abbrev pub said : Answer → Said (Unit {0})
 said Accepted = gives tt
 said (Refused r) = refuses (number r)
 
+-- an equality's answer in these terms
 abbrev pub compared : Compared → Said Bool
 compared (equality.Is b) = gives b
 compared (equality.Refused r) = refuses (number r)

@@ -36,6 +36,7 @@ pub record Rendered : Type 0 where
   pub said : Said (Unit {0})
   pub buffer : List Float
 
+-- "A refusal .. changes nothing": the buffer stays
 abbrev pub declined : ℕ → List Float → Rendered
 declined n buffer = record { said = refuses n; buffer = buffer }
 

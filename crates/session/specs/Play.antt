@@ -19,28 +19,35 @@ use Rattle.session.specs.declared.Session.{Session}
 abbrev pub valueAtOf : AutomationEnvelope → Float → Said (Option Float)
 valueAtOf e time = getValueAt (e .points) (e .enabled) (limitsOf e) time
 
+-- the lookup by sample
 abbrev pub valueAtSampleOf : AutomationEnvelope → ℕ → Said (Option Float)
 valueAtSampleOf e sample = getValueAtSample (e .points) (e .enabled) (limitsOf e) sample
 
+-- a run
 abbrev pub renderOf : AutomationEnvelope → Float → ℕ → ℕ → ℕ → List Float → Rendered
 renderOf e rate first count place buffer = render (e .points) (e .enabled) (limitsOf e) rate first count place buffer
 
+-- `to_buffer`
 abbrev pub toBufferOf : AutomationEnvelope → Float → Float → ℕ → List Float → Rendered
 toBufferOf e rate duration place buffer = toBuffer (e .points) (e .enabled) (limitsOf e) rate duration place buffer
 
--- "1: envelope or session not valid"
+-- 1: "envelope or session not valid"
 abbrev pub ifValid : {A : Type 0} → Session → A → A → A
 ifValid s own one = cond (validSession s) own one
 
+-- the lookup by time on a session
 unfoldable pub sessionValueAt : Session → Float → Said (Option Float)
 sessionValueAt s time = ifValid s (valueAtOf (s .envelope) time) (refuses 1)
 
+-- the lookup by sample on a session
 unfoldable pub sessionValueAtSample : Session → ℕ → Said (Option Float)
 sessionValueAtSample s sample = ifValid s (valueAtSampleOf (s .envelope) sample) (refuses 1)
 
+-- a run on a session
 unfoldable pub sessionRender : Session → Float → ℕ → ℕ → ℕ → List Float → Rendered
 sessionRender s rate first count place buffer = ifValid s (renderOf (s .envelope) rate first count place buffer) (declined 1 buffer)
 
+-- `to_buffer` on a session
 unfoldable pub sessionToBuffer : Session → Float → Float → ℕ → List Float → Rendered
 sessionToBuffer s rate duration place buffer = ifValid s (toBufferOf (s .envelope) rate duration place buffer) (declined 1 buffer)
 

@@ -21,6 +21,7 @@ use Rattle.session.specs.declared.SessionAnswer.{SessionAnswer}
 abbrev pub statesIn : ℕ → ℕ
 statesIn n = n / stateWords
 
+-- a session's D
 abbrev pub depth : Session → ℕ
 depth s = statesIn (s .length)
 
@@ -36,6 +37,7 @@ stored k e m = take (k * stateWords) m ++ (pack e ++ drop (k * stateWords + stat
 unfoldable pub slotAfter : ℕ → ℕ → ℕ
 slotAfter d at = cond (ltb (at + 1) d) (at + 1) 0
 
+-- the slot before one, of d
 unfoldable pub slotBefore : ℕ → ℕ → ℕ
 slotBefore d at = cond (eqb at 0) (d - 1) (at - 1)
 
@@ -76,6 +78,7 @@ called a m = record { said = said (a .answer); session = a .session; memory = m 
 abbrev pub declined : ℕ → Session → List ℕ → Called
 declined n s m = record { said = refuses n; session = s; memory = m }
 
+-- an accepted call gives nothing but the session and the memory
 abbrev pub accepted : Session → List ℕ → Called
 accepted s m = record { said = gives tt; session = s; memory = m }
 
@@ -136,5 +139,6 @@ forwardCall s m =
 abbrev pub refusedBy : Session → Refusal → SessionAnswer
 refusedBy s r = record { answer = Refused r; session = s }
 
+-- an accepted call's answer
 abbrev pub movedBy : Session → AutomationEnvelope → ℕ → ℕ → ℕ → SessionAnswer
 movedBy s e at kept ahead = record { answer = Accepted; session = movedTo s e at kept ahead }

@@ -29,9 +29,11 @@ stateWords = 1028
 abbrev pub halves : ℕ → ℕ → ℕ
 halves high low = high * 0x1_0000_0000 + low
 
+-- the upper half
 abbrev pub high : ℕ → ℕ
 high w = w / 0x1_0000_0000
 
+-- the lower half
 abbrev pub low : ℕ → ℕ
 low w = w % 0x1_0000_0000
 
@@ -40,6 +42,7 @@ low w = w % 0x1_0000_0000
 abbrev pub flag : Bool → ℕ
 flag b = cond b 1 0
 
+-- whether that bit is set
 abbrev pub bit : ℕ → ℕ → Bool
 bit d n = eqb (n / d % 2) 1
 
@@ -49,21 +52,26 @@ abbrev pub hasLimit : Limit → Bool
 hasLimit limit.None = false
 hasLimit (limit.Number x) = true
 
+-- its bits, or 0
 abbrev pub limitBits : Limit → ℕ
 limitBits limit.None = 0
 limitBits (limit.Number x) = toBits binary32 x
 
+-- back from the flag and the bits
 abbrev pub limitOf : Bool → ℕ → Limit
 limitOf has bits = cond has (limit.Number (ofBits binary32 bits)) limit.None
 
+-- whether there is a position
 abbrev pub hasPosition : SamplePosition → Bool
 hasPosition position.None = false
 hasPosition (position.At n) = true
 
+-- the position, or 0
 abbrev pub positionWord : SamplePosition → ℕ
 positionWord position.None = 0
 positionWord (position.At n) = n
 
+-- back from the flag and the word
 abbrev pub positionOf : Bool → ℕ → SamplePosition
 positionOf has n = cond has (position.At n) position.None
 
@@ -72,9 +80,11 @@ positionOf has n = cond has (position.At n) position.None
 abbrev pub flags : Bool → Limits → ℕ
 flags enabled l = flag enabled + 2 * flag (hasLimit (l .«min_value»)) + 4 * flag (hasLimit (l .«max_value»)) + 8 * flag (hasLimit (l .«step_size»))
 
+-- the maximum above the minimum
 abbrev pub boundsWord : Limits → ℕ
 boundsWord l = halves (limitBits (l .«max_value»)) (limitBits (l .«min_value»))
 
+-- the four words of settings
 unfoldable pub packSettings : AutomationEnvelope → List ℕ
 packSettings e = halves (flags (e .enabled) (limitsOf e)) (e .target) ∷ e .points .count ∷ boundsWord (limitsOf e) ∷ limitBits (e .«step_size») ∷ []
 
@@ -84,12 +94,15 @@ packSettings e = halves (flags (e .enabled) (limitsOf e)) (e .target) ∷ e .poi
 abbrev pub controlsWord : CurveType → ℕ
 controlsWord c = halves (toBits binary32 (controls c .cp2)) (toBits binary32 (controls c .cp1))
 
+-- the curve's number and the position's flag above the value
 abbrev pub valueWord : AutomationPoint → ℕ
 valueWord p = halves (code (p .curve) * 2 + flag (hasPosition (p .«sample_position»))) (toBits binary32 (p .value))
 
+-- the four words of a point
 unfoldable pub packPoint : AutomationPoint → List ℕ
 packPoint p = toBits binary64 (p .time) ∷ positionWord (p .«sample_position») ∷ controlsWord (p .curve) ∷ valueWord p ∷ []
 
+-- what stands in four words, whatever they are
 unfoldable pub pointOf : List ℕ → AutomationPoint
 pointOf w = record {
   time = ofBits binary64 (getD w 0 0);
@@ -98,10 +111,12 @@ pointOf w = record {
   curve = curveOf (high (getD w 3 0) / 2) (ofBits binary32 (low (getD w 2 0))) (ofBits binary32 (high (getD w 2 0)));
 }
 
+-- point after point
 unfoldable pub packPoints : List AutomationPoint → List ℕ
 packPoints [] = []
 packPoints (p ∷ l) = packPoint p ++ packPoints l
 
+-- n points, four words each
 unfoldable pub pointsOf : ℕ → List ℕ → List AutomationPoint
 pointsOf zero w = []
 pointsOf (suc n) w = pointOf w ∷ pointsOf n (drop 4 w)
@@ -122,6 +137,7 @@ stateOf w = record {
   «step_size» = limitOf (bit 8 (high (getD w 0 0))) (low (getD w 3 0));
 }
 
+-- x where the test holds
 abbrev pub ifTest : {A : Type 0} → Bool → A → Option A
 ifTest b x = cond b (some x) none
 
@@ -136,6 +152,7 @@ abbrev pub readAs : Option AutomationEnvelope → EditTold
 readAs none = declined (new 0) 12
 readAs (some e) = record { said = gives tt; envelope = e }
 
+-- reading a state from lent words
 unfoldable pub readState : List ℕ → EditTold
 readState w = readAs (unpacked w)
 
@@ -144,6 +161,7 @@ pub record WordsTold : Type 0 where
   pub said : Said (Unit {0})
   pub words : List ℕ
 
+-- writing a state into lent words
 unfoldable pub writeState : AutomationEnvelope → List ℕ → WordsTold
 writeState e w =
     cond (ltb (length w) stateWords)
