@@ -20,18 +20,23 @@ use Rattle.pointwise.specs.declared.Change.the-variants.{Shift, ScaleTim
 abbrev pub zero64 : Float
 zero64 = ofBits binary64 0
 
+-- 1.0, an f64
 abbrev pub one64 : Float
 one64 = ofBits binary64 0x3FF0_0000_0000_0000
 
+-- 0.0, an f32
 abbrev pub zero32 : Float
 zero32 = ofBits binary32 0
 
+-- 1.0, an f32
 abbrev pub one32 : Float
 one32 = ofBits binary32 0x3F80_0000
 
+-- the point at another time
 abbrev pub withTime : AutomationPoint → Float → AutomationPoint
 withTime p t = record { time = t; «sample_position» = p .«sample_position»; value = p .value; curve = p .curve }
 
+-- the point with another value
 abbrev pub withValue : AutomationPoint → Float → AutomationPoint
 withValue p v = record { time = p .time; «sample_position» = p .«sample_position»; value = v; curve = p .curve }
 
@@ -86,6 +91,7 @@ changed (Compress threshold ratio) p = withValue p (compressed threshold ratio (
 abbrev pub lowestValue : List AutomationPoint → Float
 lowestValue l = foldl (λ v p. minNum v (p .value)) (ofBits binary32 0x7F80_0000) l
 
+-- the greatest
 abbrev pub highestValue : List AutomationPoint → Float
 highestValue l = foldl (λ v p. maxNum v (p .value)) (ofBits binary32 0xFF80_0000) l
 
@@ -93,6 +99,7 @@ highestValue l = foldl (λ v p. maxNum v (p .value)) (ofBits binary32 0xFF80_000
 abbrev pub scaledTime : Float → List AutomationPoint → List AutomationPoint
 scaledTime factor l = cond (lt zero64 factor) (map (changed (ScaleTime factor)) l) l
 
+-- normalize: where the values differ they are spread over the new range
 abbrev pub normalized : Float → Float → List AutomationPoint → List AutomationPoint
 normalized newMin newMax l =
     let low = lowestValue l in
@@ -104,14 +111,17 @@ abbrev pub firstTime : List AutomationPoint → Float
 firstTime [] = zero64
 firstTime (p ∷ l) = p .time
 
+-- the last time
 abbrev pub lastTime : List AutomationPoint → Float
 lastTime [] = zero64
 lastTime (p ∷ []) = p .time
 lastTime (p ∷ (q ∷ l)) = lastTime (q ∷ l)
 
+-- apply_fade_in, from the first time on
 abbrev pub fadedInAll : Float → CurveType → List AutomationPoint → List AutomationPoint
 fadedInAll duration c l = cond (le duration zero64) l (map (changed (FadeIn (firstTime l) duration c)) l)
 
+-- apply_fade_out, up to the last time
 abbrev pub fadedOutAll : Float → CurveType → List AutomationPoint → List AutomationPoint
 fadedOutAll duration c l = cond (le duration zero64) l (map (changed (FadeOut (sub binary64 (lastTime l) duration) duration c)) l)
 

@@ -18,5 +18,6 @@ mappedIn f ps = record { count = ps .count; places = map f (take (ps .count) (ps
 abbrev pub fadedInPlaces : Float → CurveType → Points → Points
 fadedInPlaces duration c ps = cond (le duration zero64) ps (mappedIn (changed (FadeIn (firstTime (listOf ps)) duration c)) ps)
 
+-- the same at the end
 abbrev pub fadedOutPlaces : Float → CurveType → Points → Points
 fadedOutPlaces duration c ps = cond (le duration zero64) ps (mappedIn (changed (FadeOut (sub binary64 (lastTime (listOf ps)) duration) duration c)) ps)

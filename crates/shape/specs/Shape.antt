@@ -44,6 +44,7 @@ unfolding firstsAfter
 firsts [] = []
 firsts (p ∷ l) = p ∷ firstsAfter p l
 
+-- quantize_time
 abbrev pub quantized : Float → List AutomationPoint → List AutomationPoint
 quantized grid l = cond (le grid zero64) l (firsts (map (changed (Quantize grid)) l))
 
