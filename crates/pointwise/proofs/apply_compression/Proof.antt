@@ -12,7 +12,7 @@ edit-each-requires : tie.Need-edit-each-requires
 edit-each-requires c κs = search needs
 
 returns : tie.Need-returns
-returns c = cc
+returns c = rw (← c .before .before .is-finitef .ensures, ← c .before .is-finitef2 .ensures) (c .edit-each .ensures)
 
 pub apply-compression-spec : {M : Type 1} → statement M
 apply-compression-spec =

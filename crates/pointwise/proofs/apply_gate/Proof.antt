@@ -9,7 +9,7 @@ edit-each-requires : tie.Need-edit-each-requires
 edit-each-requires c κs = search needs
 
 returns : tie.Need-returns
-returns c = cc
+returns c = rw (← c .before .is-finitef .ensures) (c .edit-each .ensures)
 
 pub apply-gate-spec : {M : Type 1} → statement M
 apply-gate-spec = tie.close (tie.spec is-finitef-requires edit-each-requires returns)

@@ -18,10 +18,10 @@ keep-requires : tie.Need-keep-requires
 keep-requires c κs = search needs
 
 returns : tie.Need-returns
-returns c = rw (← c .before .before .before .value-range .ensures .0, ← c .before .before .before .value-range .ensures .1, c .before .if1 .taken) (cc)
+returns c = rw (← c .before .before .before .value-range .ensures .0, ← c .before .before .before .value-range .ensures .1, c .before .if1 .taken, ← c .before .before .before .before .before .is-finitef .ensures, ← c .before .before .before .before .is-finitef2 .ensures) (c .edit-each .ensures)
 
 returns-2 : tie.Need-returns-2
-returns-2 c = rw (← c .before .before .before .value-range .ensures .0, ← c .before .before .before .value-range .ensures .1, c .before .if1 .left) (cc)
+returns-2 c = rw (← c .before .before .before .value-range .ensures .0, ← c .before .before .before .value-range .ensures .1, c .before .if1 .left, ← c .before .before .before .before .before .is-finitef .ensures, ← c .before .before .before .before .is-finitef2 .ensures) (c .keep .ensures)
 
 pub normalize-spec : {M : Type 1} → statement M
 normalize-spec =

@@ -12,10 +12,10 @@ keep-requires : tie.Need-keep-requires
 keep-requires c κs = search needs
 
 returns : tie.Need-returns
-returns c = rw (c .before .if1 .taken) (cc)
+returns c = rw (c .before .if1 .taken, ← c .before .before .is-finite .ensures) (c .edit-each .ensures)
 
 returns-2 : tie.Need-returns-2
-returns-2 c = rw (c .before .if1 .left) (cc)
+returns-2 c = rw (c .before .if1 .left, ← c .before .before .is-finite .ensures) (c .keep .ensures)
 
 pub scale-time-spec : {M : Type 1} → statement M
 scale-time-spec =

@@ -9,7 +9,7 @@ edit-each-requires : tie.Need-edit-each-requires
 edit-each-requires c κs = search needs
 
 returns : tie.Need-returns
-returns c = cc
+returns c = rw (← c .before .is-finite .ensures) (c .edit-each .ensures)
 
 pub shift-points-spec : {M : Type 1} → statement M
 shift-points-spec = tie.close (tie.spec is-finite-requires edit-each-requires returns)

@@ -1,8 +1,8 @@
 use Prim.Native.Nat.{ℕ, _≤_, _-_}
-use mathlib.Core.Path.{_≡_, refl, ap, _∙_}
+use mathlib.Core.Path.{_≡_, refl, sym, ap, _∙_}
 use native.Mathlib.Omega.{arith}
-use lib.Ieee.{binary32, ofBits, div, neg}
-use lib.ListN.{take}
+use lib.Ieee.{Float, binary32, ofBits, div, neg}
+use lib.ListN.{take, getD}
 use Rattle.numbers.specs.Bounds.{minNum, maxNum}
 use Rattle.points.specs.Point.{anyPoint}
 use Rattle.points.specs.Laws.{take-min}
@@ -47,7 +47,12 @@ loop-again : tie.Need-loop-again Inv-loop μ-loop
 loop-again c =
     let len = places (c .before .before .before .before .before .before .args .t1) _ (c .before .before .before .before .before .before .good .0) in
     let l = c .before .before .before .before .before .before .args .t1 .places in
-    (omega arith, cc (fold-more (λ v p. minNum v (p .value)) (ofBits binary32 0x7F80_0000) l (c .before .before .before .before .loop .i) anyPoint (omega arith)), cc (fold-more (λ v p. maxNum v (p .value)) (ofBits binary32 0xFF80_0000) l (c .before .before .before .before .loop .i) anyPoint (omega arith)))
+    let h = c .before .before .before .before .loop in
+    let x = getD l (h .i) anyPoint .value in (
+      omega arith,
+      c .before .min .ensures ∙ ap (λ (v : Float). minNum v x) (h .inv .1) ∙ sym (fold-more (λ v p. minNum v (p .value)) (ofBits binary32 0x7F80_0000) l (h .i) anyPoint (omega arith)),
+      c .max .ensures ∙ ap (λ (v : Float). maxNum v x) (h .inv .2) ∙ sym (fold-more (λ v p. maxNum v (p .value)) (ofBits binary32 0xFF80_0000) l (h .i) anyPoint (omega arith)),
+    )
 
 returns : tie.Need-returns Inv-loop μ-loop
 returns c =
