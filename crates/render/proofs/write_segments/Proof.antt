@@ -109,38 +109,26 @@ write-stretch-requires c κs =
     let l = part-long (h .i) (length (a .out .now)) (h .out) (h .inv .1) (h .inv .0) in
     (omega arith, omega (arith, c .before .before .before .before .before .before .before .before .before .before .before .before .before .before .before .before .before .before .before .pre .2, h .inv .2))
 
-add-i : tie.Need-add-i Inv-loop μ-loop
-add-i c =
-    let a = c .before .before .before .before .before .before .before .before .before .before .before .before .before .before .before .before .before .before .before .before .before .before .args in
-    let h = c .before .before .before .before .before .before .before .before .before .before .before .before .before .before .before .loop in
+-- the stretch ends inside the buffer, and its samples are a u32's
+ends-inside : (c : tie.After-write-stretch Inv-loop μ-loop) → (c .before .before .before .before .before .before .before .before .before .before .before .before .before .loop .i + c .write-stretch .result ≤ length (c .before .before .before .before .before .before .before .before .before .before .before .before .before .before .before .before .before .before .before .before .args .out .now)) × (c .before .before .before .before .before .before .before .before .before .before .before .before .before .loop .k + c .write-stretch .result ≤ 4294967295)
+ends-inside c =
+    let a = c .before .before .before .before .before .before .before .before .before .before .before .before .before .before .before .before .before .before .before .before .args in
+    let h = c .before .before .before .before .before .before .before .before .before .before .before .before .before .loop in
     let l = part-long (h .i) (length (a .out .now)) (h .out) (h .inv .1) (h .inv .0) in
-    let q = c .before .before .write-stretch .ensures .most in
-    omega (arith, c .before .before .before .before .before .before .before .before .before .before .before .before .before .before .before .before .before .before .before .before .before .before .pre .2, h .inv .2)
+    let q = c .write-stretch .ensures .most in
+    (omega arith, omega (arith, c .before .before .before .before .before .before .before .before .before .before .before .before .before .before .before .before .before .before .before .before .pre .2, h .inv .2))
+
+add-i : tie.Need-add-i Inv-loop μ-loop
+add-i c = let e = ends-inside (c .before .before) in omega (arith, e .0, e .1, c .before .before .before .before .before .before .before .before .before .before .before .before .before .before .before .before .before .before .before .before .before .before .pre .2)
 
 cast-k : tie.Need-cast-k Inv-loop μ-loop
-cast-k c =
-    let a = c .before .before .before .before .before .before .before .before .before .before .before .before .before .before .before .before .before .before .before .before .before .before .args in
-    let h = c .before .before .before .before .before .before .before .before .before .before .before .before .before .before .before .loop in
-    let l = part-long (h .i) (length (a .out .now)) (h .out) (h .inv .1) (h .inv .0) in
-    let q = c .before .before .write-stretch .ensures .most in
-    omega (arith, c .before .before .before .before .before .before .before .before .before .before .before .before .before .before .before .before .before .before .before .before .before .before .pre .2, h .inv .2)
+cast-k c = omega (arith, ends-inside (c .before .before) .1)
 
 add-k : tie.Need-add-k Inv-loop μ-loop
-add-k c =
-    let a = c .before .before .before .before .before .before .before .before .before .before .before .before .before .before .before .before .before .before .before .before .before .before .args in
-    let h = c .before .before .before .before .before .before .before .before .before .before .before .before .before .before .before .loop in
-    let l = part-long (h .i) (length (a .out .now)) (h .out) (h .inv .1) (h .inv .0) in
-    let q = c .before .before .write-stretch .ensures .most in
-    omega (arith, c .before .before .before .before .before .before .before .before .before .before .before .before .before .before .before .before .before .before .before .before .before .before .pre .2, h .inv .2)
+add-k c = omega (arith, ends-inside (c .before .before) .1)
 
 loop-less : tie.Need-loop-less Inv-loop μ-loop
-loop-less c =
-    let a = c .before .before .before .before .before .before .before .before .before .before .before .before .before .before .before .before .before .before .before .before .before .before .args in
-    let h = c .before .before .before .before .before .before .before .before .before .before .before .before .before .before .before .loop in
-    let l = part-long (h .i) (length (a .out .now)) (h .out) (h .inv .1) (h .inv .0) in
-    let q = c .before .before .write-stretch .ensures .most in
-    let z = c .before .before .write-stretch .ensures .some in
-    omega arith
+loop-less c = omega (arith, ends-inside (c .before .before) .0, c .before .before .write-stretch .ensures .some)
 
 loop-again : tie.Need-loop-again Inv-loop μ-loop
 loop-again c =
