@@ -7,10 +7,14 @@ use native.Mathlib.Nat.{add-zero, not-suc-le-zero, le-of-suc-le-suc}
 use native.Mathlib.Numerals.{add-one}
 use native.Mathlib.Omega.{arith}
 use lib.Dec.{eqb}
+use lib.Ieee.{ofBits, toBits}
+use borrow.Author.Tests.{eqb-true}
+use Rattle.curve.specs.Curve.{code, controls, curveOf}
 use lib.ListN.{length, getD, take, drop, set, length-drop, take-append-drop}
 use lib.Seq.{sets, sets-eq, length-sets, take-suc-set, take-all, take-add, drop-cons, drop-drop, getD-drop, length-take-le}
 use Rattle.points.specs.Points.{everyPair}
-use Rattle.points.specs.Laws.{and-true, and-assoc, and-both}
+use Rattle.points.specs.Laws.{and-true, and-assoc, and-both, and-left, and-right}
+use Rattle.points.specs.Point.{unused}
 use Rattle.points.specs.declared.AutomationPoint.{AutomationPoint}
 use Rattle.envelope.specs.declared.AutomationEnvelope.{AutomationEnvelope}
 use Rattle.state.specs.State.{packSettings, packPoint, pointOf, packPoints, pointsOf, pack}
@@ -62,6 +66,38 @@ unfolding everyPair
 same-four w at a b c d h =
     ap (λ (t : Bool). eqb a (getD w at 0) && (eqb b (getD w (at + 1) 0) && (eqb c (getD w (at + 2) 0) && t))) (sym (and-true (eqb d (getD w (at + 3) 0))))
     ∙ ap (everyPair eqb (a ∷ b ∷ c ∷ d ∷ [])) (sym (take-four w at h))
+
+-- words that are all 0 are an unused place's
+module _ (w : List ℕ) (at : ℕ)
+    (zeros : (eqb (getD w at 0) 0 && (eqb (getD w (at + 1) 0) 0 && (eqb (getD w (at + 2) 0) 0 && eqb (getD w (at + 3) 0) 0))) ≡ true) (p : AutomationPoint) (is : p ≡ unused) where
+  first : getD w at 0 ≡ 0
+  first = eqb-true _ _ (and-left (eqb (getD w at 0) 0) _ zeros)
+
+  second : getD w (at + 1) 0 ≡ 0
+  second = eqb-true _ _ (and-left (eqb (getD w (at + 1) 0) 0) _ (and-right (eqb (getD w at 0) 0) _ zeros))
+
+  third : getD w (at + 2) 0 ≡ 0
+  third = eqb-true _ _ (and-left (eqb (getD w (at + 2) 0) 0) _ (and-right (eqb (getD w (at + 1) 0) 0) _ (and-right (eqb (getD w at 0) 0) _ zeros)))
+
+  fourth : getD w (at + 3) 0 ≡ 0
+  fourth = eqb-true _ _ (and-right (eqb (getD w (at + 2) 0) 0) _ (and-right (eqb (getD w (at + 1) 0) 0) _ (and-right (eqb (getD w at 0) 0) _ zeros)))
+
+  unused-point : unused ≡ pointOf (0 ∷ 0 ∷ 0 ∷ 0 ∷ [])
+  unfolding pointOf curveOf ofBits
+  unused-point = refl
+
+  unused-words : 0 ∷ 0 ∷ 0 ∷ 0 ∷ [] ≡ packPoint unused
+  unfolding packPoint code controls ofBits toBits
+  unused-words = refl
+
+  pub unused-read : p ≡ pointOf (drop at w)
+  unused-read = is ∙ unused-point ∙ (λ i. pointOf (sym first i ∷ sym second i ∷ sym third i ∷ sym fourth i ∷ [])) ∙ point-at w at
+
+  pub unused-same : at + 4 ≤ length w → true ≡ everyPair eqb (packPoint p) (take 4 (drop at w))
+  unused-same h =
+      (λ i. eqb 0 (sym first i) && (eqb 0 (sym second i) && (eqb 0 (sym third i) && eqb 0 (sym fourth i))))
+      ∙ same-four w at 0 0 0 0 h
+      ∙ ap (λ (l : List ℕ). everyPair eqb l (take 4 (drop at w))) (unused-words ∙ ap packPoint (sym is))
 
 -- ---- the loop that writes the places
 

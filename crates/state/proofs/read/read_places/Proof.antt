@@ -9,11 +9,6 @@ use Rattle.state.specs.State.{packPoints, pointsOf}
 use Rattle.state.proofs.Words.{read-none, same-none, read-turn, same-turn, read-all, same-all}
 use Rattle.state.proofs.read.read_places.Statement.{statement}
 use Rattle.state.proofs.read.read_places.Tie as tie
-use Rattle.state.proofs.read.read_places.Reads as reads
-use Rattle.state.proofs.read.read_places.Lts as lts
-use Rattle.points.proofs.point.unused.Reads as unused-reads
-use Rattle.state.proofs.read.read_point.Reads as read-point-reads
-use Rattle.state.proofs.read.same_point.Reads as same-point-reads
 
 abbrev Inv-loop : tie.InvT-loop
 Inv-loop words places₀ same₀ i₀ places same i = (i ≤ 256) × (length places ≡ 256) × (take i places ≡ pointsOf i (drop 4 words)) × (same ≡ everyPair eqb (packPoints (pointsOf i (drop 4 words))) (take (4 * i) (drop 4 words)))
@@ -21,56 +16,41 @@ Inv-loop words places₀ same₀ i₀ places same i = (i ≤ 256) × (length pla
 abbrev μ-loop : tie.MeasureT-loop
 μ-loop words places₀ same₀ i₀ places same i = 256 - i
 
--- src/read.rt:131:9
 unused-requires : tie.Need-unused-requires Inv-loop μ-loop
 unused-requires c κs = tt
 
--- src/read.rt:135:5
 loop-holds : tie.Need-loop-holds Inv-loop μ-loop
 loop-holds c = (omega arith, refl, read-none (c .before .before .args .words .now), same-none (c .before .before .args .words .now))
 
--- src/read.rt:136:22
 mul-at : tie.Need-mul-at Inv-loop μ-loop
 mul-at c = search needs
 
--- src/read.rt:136:18
 add-at : tie.Need-add-at Inv-loop μ-loop
 add-at c = search needs
 
--- src/read.rt:137:13
-read-point-requires : tie.Need-read-point-requires Inv-loop μ-loop
-read-point-requires c κs = omega (arith, c .before .before .before .before .pre)
+read-place-requires : tie.Need-read-place-requires Inv-loop μ-loop
+read-place-requires c κs = omega (arith, c .before .before .before .before .pre)
 
--- src/read.rt:138:23
-same-point-requires : tie.Need-same-point-requires Inv-loop μ-loop
-same-point-requires c κs = omega (arith, c .before .before .before .before .before .pre)
-
--- src/read.rt:139:9
 mul-places : tie.Need-mul-places Inv-loop μ-loop
 mul-places c = search needs
 
--- src/read.rt:139:9
 array-set-from-places : tie.Need-array-set-from-places Inv-loop μ-loop
 array-set-from-places c = search needs
 
--- src/read.rt:140:9
 add-i : tie.Need-add-i Inv-loop μ-loop
 add-i c = search needs
 
--- src/read.rt:135:5
 loop-less : tie.Need-loop-less Inv-loop μ-loop
 loop-less c = search needs
 
--- src/read.rt:135:5
 loop-again : tie.Need-loop-again Inv-loop μ-loop
 loop-again c =
-    let w = c .before .before .before .before .before .before .args .words .now in
-    let i = c .before .before .before .loop .i in
-    let p = c .before .read-point .result in
-    let is = c .before .read-point .ensures in
-    (omega arith, simp length-set (c .before .before .before .loop .inv .1), read-turn w i p is (c .before .before .before .loop .places) (omega (arith, c .before .before .before .loop .inv .1)) (c .before .before .before .loop .inv .2), same-turn w i p is (c .before .before .before .loop .same) (c .same-point .result) (omega (arith, c .before .before .before .before .before .before .pre)) (c .before .before .before .loop .inv .3) (c .same-point .ensures))
+    let w = c .before .before .before .before .before .before .before .args .words .now in
+    let h = c .before .before .before .before .loop in
+    let r = c .before .before .read-place .result in
+    let is = c .before .before .read-place .ensures in
+    (omega arith, simp length-set (h .inv .1), read-turn w (h .i) (r .point) (is .0) (h .places) (omega (arith, h .inv .1)) (h .inv .2), same-turn w (h .i) (r .point) (is .0) (h .same) (r .same) (omega (arith, c .before .before .before .before .before .before .before .pre)) (h .inv .3) (is .1))
 
--- src/read.rt:126:1
 returns : tie.Need-returns Inv-loop μ-loop
 returns c =
     let w = c .before .before .before .before .args .words .now in
@@ -87,8 +67,7 @@ read-places-spec =
     loop-holds
     mul-at
     add-at
-    read-point-requires
-    same-point-requires
+    read-place-requires
     mul-places
     array-set-from-places
     add-i
