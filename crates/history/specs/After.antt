@@ -2,13 +2,13 @@
 use Prim.Native.Nat.{ℕ, _+_, _-_, _/_, _%_, _≤_, _<_}
 use mathlib.Core.Path.{_≡_}
 use mathlib.Core.Bool.{cond, _&&_}
-use mathlib.Core.List.{List, [], _∷_}
+use mathlib.Core.List.{List}
 use lib.ListN.{length, getD, replicate}
 use lib.Ieee.{Float}
 use Rattle.numbers.specs.Bounds.{finite}
-use Rattle.points.specs.Refusal.{Said, refuses, gives}
-use Rattle.render.specs.Render.{Rendered, declined, sampleAt, runInto, sampleCount}
-use Rattle.render.specs.Pieces.{Pieces, total}
+use Rattle.points.specs.Refusal.{Said, gives}
+use Rattle.render.specs.Render.{declined, sampleAt, runInto, sampleCount}
+use Rattle.render.specs.Pieces.{total}
 use Rattle.envelope.specs.Envelope.{limitsOf}
 use Rattle.envelope.specs.declared.AutomationEnvelope.{AutomationEnvelope}
 use Rattle.state.specs.State.{stateWords, pack}
@@ -34,11 +34,11 @@ samplesOf e rate = sampleAt (e .points) (e .enabled) (limitsOf e) rate
 -- "After the list, every run of samples is refused exactly when the table says so": by 3, 13 and 8; "else its samples are that envelope's, and whatever pieces it is cut into, they leave the buffer that it leaves"
 pub record Runs (e : AutomationEnvelope) (s : Session) : Type 0 where
   pub run : (rate : Float) (first count place : ℕ) (buffer : List Float)
-    → sessionRender s rate first count place buffer ≡ cond (finite rate) (runInto (samplesOf e rate) first count place buffer) (declined 3 buffer)
+      → sessionRender s rate first count place buffer ≡ cond (finite rate) (runInto (samplesOf e rate) first count place buffer) (declined 3 buffer)
   pub whole : (rate duration : Float) (place : ℕ) (buffer : List Float)
-    → sessionToBuffer s rate duration place buffer ≡ cond (finite rate && finite duration) (runInto (samplesOf e rate) 0 (sampleCount rate duration) place buffer) (declined 3 buffer)
+      → sessionToBuffer s rate duration place buffer ≡ cond (finite rate && finite duration) (runInto (samplesOf e rate) 0 (sampleCount rate duration) place buffer) (declined 3 buffer)
   pub cut : (rate : Float) (first place : ℕ) (buffer : List Float) (counts : List ℕ) → sessionRender s rate first (total counts) place buffer .said ≡ gives tt
-    → sessionPieces s rate first place buffer counts ≡ record { said = replicate (length counts) (gives tt); buffer = sessionRender s rate first (total counts) place buffer .buffer }
+      → sessionPieces s rate first place buffer counts ≡ record { said = replicate (length counts) (gives tt); buffer = sessionRender s rate first (total counts) place buffer .buffer }
 
 -- the history by the rule, for a memory that was lent at opening
 abbrev pub historyOf : AutomationEnvelope → List ℕ → List Call → Hist
@@ -55,5 +55,5 @@ pub record After (start : AutomationEnvelope) (m₀ : List ℕ) (cs : List Call)
   pub holds : Holds start (statesIn (length m₀)) (historyOf start m₀ cs) m
   -- whatever call comes next: "words in none of these states stay"
   pub stay : (c : Call) (i : ℕ) → Outside (statesIn (length m₀)) (ruleOf start (statesIn (length m₀)) (historyOf start m₀ cs) c .hist) i
-    → getD (callOf c s m .memory) i 0 ≡ getD m i 0
+      → getD (callOf c s m .memory) i 0 ≡ getD m i 0
   pub runs : Runs (envelopeOf start (historyOf start m₀ cs)) s

@@ -1,7 +1,6 @@
 -- 01's proved example of the session.
 use Prim.Native.Nat.{ℕ}
 use mathlib.Core.Path.{_≡_, refl}
-use mathlib.Core.Bool.{Bool, true, false}
 use mathlib.Core.List.{List, [], _∷_}
 use lib.Ieee.{binary32, binary64, ofBits, toBits}
 use lib.ListN.{replicate}
@@ -12,7 +11,7 @@ use Rattle.insert.specs.Insert.{insertPoint}
 use Rattle.numbers.specs.Bounds.{finite}
 use Rattle.numbers.specs.Order.{orderKey}
 use Rattle.curve.specs.Curve.{code, controls, curveOf, finiteControls}
-use Rattle.points.specs.Points.{every, everyPair, risingBy, validPoints, holding, listOf}
+use Rattle.points.specs.Points.{every, everyPair, risingBy, validPoints}
 use Rattle.settle.specs.Settle.{editPoints, settle}
 use Rattle.envelope.specs.Envelope.{new}
 use Rattle.envelope.specs.Edit.{editOf, edited, pointsEdited}
@@ -22,7 +21,6 @@ use Rattle.state.specs.State.{packSettings, packPoint, packPoints, pack, pointO
 use Rattle.session.specs.Session.{openSession, stateAt, stored, slotAfter, slotBefore, inOrder, gate, editCall, backCall, forwardCall}
 use Rattle.session.specs.Calls.{alone, Call, edit, back, forward, callOf}
 use Rattle.session.specs.declared.Session.{Session}
-use Rattle.history.specs.Rule.{newHist, made, upTo, envelopeOf, ruleOf, histAfter, answersAfter}
 
 -- adding a point, its time and its value by their bits
 abbrev add : ℕ → ℕ → Call

@@ -2,6 +2,10 @@
 pub mod Rule
 pub mod After
 pub mod Entries
+pub mod Steps
+pub mod Edits
+pub mod Moves
+pub mod Played
 pub mod History
 pub mod Run
 pub mod Examples

@@ -1,6 +1,6 @@
 -- Every list of calls has its run, so the history theorem speaks of all of them. Assumes nothing.
 use Prim.Native.Nat.{ℕ}
-use mathlib.Core.Path.{_≡_, refl, ap, sym}
+use mathlib.Core.Path.{_≡_, refl, ap}
 use mathlib.Core.Bool.{Bool, true, false, cond, _&&_}
 use mathlib.Core.List.{List, [], _∷_}
 use mathlib.Core.Option.{Option, none, some}
@@ -23,7 +23,7 @@ use Rattle.settle.specs.declared.EditedPoints.{EditedPoints}
 use Rattle.insert.specs.Insert.{mergedPoints}
 use Rattle.combine.specs.Combine.{combinedPoints}
 use Rattle.state.specs.State.{unpacked}
-use Rattle.session.specs.Session.{stateAt, validSession, Called, called, declined, accepted, gate, settled, changed, editCall, backCall, forwardCall}
+use Rattle.session.specs.Session.{stateAt, validSession, Called, gate, settled, changed, editCall, backCall, forwardCall}
 use Rattle.session.specs.Calls.{Entry, alone, joined, madeBy, othersValid, Call, edit, back, forward, callOf, Obeys, Ran, done, call}
 use Rattle.session.specs.declared.Session.{Session}
 use Rattle.session.specs.declared.SessionAnswer.{SessionAnswer}

@@ -1,0 +1,231 @@
+-- A step back and a step forward, as the rule and as the contracts have them. Assumes nothing.
+use Prim.Native.Nat.{ℕ, _+_, _-_, _*_, _/_, _%_, _≤_, _<_}
+use mathlib.Core.Path.{_≡_, refl, ap, sym, _∙_}
+use mathlib.Core.List.{List}
+use mathlib.Core.Option.{some}
+use mathlib.Core.Logic.{⊎-elim}
+use native.Mathlib.Nat.{mod-lt}
+use native.Mathlib.Omega.{arith}
+use lib.ListN.{length, getD}
+use borrow.Author.Tests.{lt-ltb, le-ltb}
+use Rattle.points.specs.Refusal.{refuses, gives}
+use Rattle.envelope.specs.declared.AutomationEnvelope.{AutomationEnvelope}
+use Rattle.state.specs.State.{stateWords, pack, unpacked}
+use Rattle.state.specs.StateLaws.{unpacked-pack}
+use Rattle.session.specs.Session.{statesIn, stateAt, stored, slotAfter, slotBefore, movedTo, changed, steppedOver, backCall, forwardCall, accepted}
+use Rattle.session.specs.Session as session
+use Rattle.session.specs.Slots.{lt-or-le, length-stored, stored-same, stored-other, word-other, slot-fits, slots-differ, after-slot, before-slot}
+use Rattle.session.specs.Calls.{edit, back, forward, callOf}
+use Rattle.session.specs.declared.Session.{Session}
+use Rattle.history.specs.Rule.{Hist, upTo, ruleOf}
+use Rattle.history.specs.After.{Holds}
+use Rattle.history.specs.Steps.{Inv, Stepped, states, envelope-words, passes}
+
+module _ (start : AutomationEnvelope) (d : ℕ) (h : Hist) (s : Session) (m : List ℕ) (v : Inv start d h s m) where
+  -- ---- a step over edit j, whose slot is p: the session's envelope and the state in the slot change places
+  module _ (j p : ℕ) (pos : 0 < d) (slot : p ≡ j % d) where
+    p-fits : p * stateWords + stateWords ≤ length m
+    p-fits = slot-fits p (length m) (rw (← v .d-is, slot) (mod-lt j pos))
+
+    put-at : stateAt (stored p (s .envelope) m) (j % d) ≡ pack (upTo start h (h .mark))
+    put-at =
+        ap (stateAt (stored p (s .envelope) m)) (sym slot) ∙ stored-same m p (s .envelope) (envelope-words start d h s m v) p-fits ∙ ap pack (v .envelope)
+
+    put-not : (k : ℕ) → (k ≡ j → ⊥) → j < k + d → k < j + d
+        → stateAt (stored p (s .envelope) m) (k % d) ≡ stateAt m (k % d)
+    put-not k n a b = stored-other m p (s .envelope) (envelope-words start d h s m v) p-fits (k % d) (λ e. slots-differ k j d n a b (e ∙ slot))
+
+    put-length : length (stored p (s .envelope) m) ≡ length m
+    put-length = length-stored m p (s .envelope) (envelope-words start d h s m v) p-fits
+
+    put-stays : (i : ℕ) → (i / stateWords ≡ j % d → ⊥) → getD (stored p (s .envelope) m) i 0 ≡ getD m i 0
+    put-stays i n = word-other m p (s .envelope) (envelope-words start d h s m v) p-fits i (λ e. n (e ∙ slot))
+
+    reads : (k : ℕ) → k ≤ length (h .edits) → stateAt m (j % d) ≡ pack (upTo start h k) → unpacked (stateAt m p) ≡ some (upTo start h k)
+    reads k l e =
+        ap (λ (n : ℕ). unpacked (stateAt m n)) slot ∙ ap unpacked e ∙ unpacked-pack (upTo start h k) (v .in-range k l) (v .valid k l)
+
+    stepped : (k at kept ahead : ℕ) → unpacked (stateAt m p) ≡ some (upTo start h k)
+        → steppedOver s m p at kept ahead ≡ accepted (movedTo s (upTo start h k) at kept ahead) (stored p (s .envelope) m)
+    stepped k at kept ahead e = ap (changed s m p (λ f. movedTo s f at kept ahead)) e
+
+  pub no-back : h .kept ≡ 0 → Stepped start d h s m back
+  unfolding ruleOf backCall
+  no-back z =
+      record {
+        answer = refuses 10;
+        hist = h;
+        session = s;
+        memory = m;
+        rule = rw z;
+        calls = (passes start d h s m v) _ ∙ rw (v .kept, z);
+        inv = λ t. v;
+        stays = λ i out. refl;
+      }
+
+  pub no-forward : s .ahead ≡ 0 → Stepped start d h s m forward
+  unfolding ruleOf forwardCall
+  no-forward z =
+      record {
+        answer = refuses 10;
+        hist = h;
+        session = s;
+        memory = m;
+        rule = rw (le-ltb (h .mark) (length (h .edits)) (omega arith));
+        calls = (passes start d h s m v) _ ∙ rw z;
+        inv = λ t. v;
+        stays = λ i out. refl;
+      }
+
+  module _ (q : 0 < h .kept) where
+    pos-b : 0 < d
+    pos-b = omega arith
+
+    abbrev hb : Hist
+    hb = record { edits = h .edits; mark = h .mark - 1; kept = h .kept - 1 }
+
+    abbrev pb : ℕ
+    pb = slotBefore d (s .at)
+
+    slot-b : pb ≡ (h .mark - 1) % d
+    slot-b =
+        let e : h .mark ≡ h .mark - 1 + 1 = omega arith in
+        ap (slotBefore d) (v .at-slot pos-b ∙ ap (λ (n : ℕ). n % d) e) ∙ before-slot (h .mark - 1) d pos-b
+
+    read-b : unpacked (stateAt m pb) ≡ some (upTo start h (h .mark - 1))
+    read-b = reads (h .mark - 1) pb pos-b slot-b (h .mark - 1) (omega arith) (v .holds .before (h .mark - 1) (omega arith) (omega arith))
+
+    abbrev sb : Session
+    sb = movedTo s (upTo start h (h .mark - 1)) pb (s .kept - 1) (s .ahead + 1)
+
+    abbrev mb : List ℕ
+    mb = stored pb (s .envelope) m
+
+    holds-b : Holds start d hb mb
+    unfolding upTo
+    holds-b =
+        record {
+          before = λ k a b.
+              put-not (h .mark - 1) pb pos-b slot-b k (omega arith) (omega arith) (omega arith) ∙ v .holds .before k (omega arith) (omega arith);
+          after = λ k a b.
+              ⊎-elim
+              (λ (l : k < h .mark).
+              let e : h .mark - 1 ≡ k = omega arith in
+              let f : h .mark ≡ k + 1 = omega arith in
+              ap (λ (n : ℕ). stateAt mb (n % d)) (sym e) ∙ put-at (h .mark - 1) pb pos-b slot-b ∙ ap (λ (n : ℕ). pack (upTo start h n)) f)
+              (λ (l : h .mark ≤ k).
+              put-not (h .mark - 1) pb pos-b slot-b k (omega arith) (omega arith) (omega arith) ∙ v .holds .after k l b)
+              (lt-or-le k (h .mark));
+        }
+
+    inv-b : Inv start d hb sb mb
+    unfolding upTo
+    inv-b =
+        record {
+          words = v .words ∙ sym (put-length (h .mark - 1) pb pos-b slot-b);
+          d-is = v .d-is ∙ ap statesIn (sym (put-length (h .mark - 1) pb pos-b slot-b));
+          envelope = refl;
+          kept = ap (λ (n : ℕ). n - 1) (v .kept);
+          ahead = omega arith;
+          kept-le = omega arith;
+          room = omega arith;
+          at-zero = λ e. absurd (omega (arith, pos-b));
+          at-slot = λ x. slot-b;
+          valid = v .valid;
+          in-range = v .in-range;
+          holds = holds-b;
+        }
+
+    calls-b : callOf back s m ≡ accepted sb mb
+    unfolding backCall
+    calls-b =
+        (passes start d h s m v) _
+        ∙ rw (lt-ltb 0 (s .kept) (omega arith), (states start d h s m v)) (stepped (h .mark - 1) pb pos-b slot-b (h .mark - 1) pb (s .kept - 1) (s .ahead + 1) read-b)
+
+    pub yes-back : Stepped start d h s m back
+    unfolding ruleOf
+    yes-back =
+        record {
+          answer = gives tt;
+          hist = hb;
+          session = sb;
+          memory = mb;
+          rule = rw (lt-ltb 0 (h .kept) q);
+          calls = calls-b;
+          inv = λ t. inv-b;
+          stays = λ i out. put-stays (h .mark - 1) pb pos-b slot-b i (out (h .mark - 1) (omega arith) (omega arith));
+        }
+
+  module _ (q : 0 < s .ahead) where
+    pos-f : 0 < d
+    pos-f = omega arith
+
+    abbrev hf : Hist
+    hf = record { edits = h .edits; mark = h .mark + 1; kept = h .kept + 1 }
+
+    read-f : unpacked (stateAt m (s .at)) ≡ some (upTo start h (h .mark + 1))
+    read-f =
+        reads (h .mark) (s .at) pos-f (v .at-slot pos-f) (h .mark + 1) (omega arith) (v .holds .after (h .mark) (omega arith) (omega arith))
+
+    abbrev sf : Session
+    sf = movedTo s (upTo start h (h .mark + 1)) (slotAfter d (s .at)) (s .kept + 1) (s .ahead - 1)
+
+    abbrev mf : List ℕ
+    mf = stored (s .at) (s .envelope) m
+
+    holds-f : Holds start d hf mf
+    unfolding upTo
+    holds-f =
+        record {
+          before = λ k a b.
+              ⊎-elim
+              (λ (l : k < h .mark).
+              put-not (h .mark) (s .at) pos-f (v .at-slot pos-f) k (omega arith) (omega arith) (omega arith)
+              ∙ v .holds .before k (omega arith) l)
+              (λ (l : h .mark ≤ k).
+              let e : h .mark ≡ k = omega arith in
+              ap (λ (n : ℕ). stateAt mf (n % d)) (sym e) ∙ put-at (h .mark) (s .at) pos-f (v .at-slot pos-f)
+              ∙ ap (λ (n : ℕ). pack (upTo start h n)) e)
+              (lt-or-le k (h .mark));
+          after = λ k a b.
+              put-not (h .mark) (s .at) pos-f (v .at-slot pos-f) k (omega arith) (omega arith) (omega arith)
+              ∙ v .holds .after k (omega arith) b;
+        }
+
+    inv-f : Inv start d hf sf mf
+    unfolding upTo
+    inv-f =
+        record {
+          words = v .words ∙ sym (put-length (h .mark) (s .at) pos-f (v .at-slot pos-f));
+          d-is = v .d-is ∙ ap statesIn (sym (put-length (h .mark) (s .at) pos-f (v .at-slot pos-f)));
+          envelope = refl;
+          kept = ap (λ (n : ℕ). n + 1) (v .kept);
+          ahead = omega arith;
+          kept-le = omega arith;
+          room = omega arith;
+          at-zero = λ e. absurd (omega (arith, pos-f));
+          at-slot = λ x. ap (slotAfter d) (v .at-slot pos-f) ∙ after-slot (h .mark) d pos-f;
+          valid = v .valid;
+          in-range = v .in-range;
+          holds = holds-f;
+        }
+
+    calls-f : callOf forward s m ≡ accepted sf mf
+    unfolding forwardCall
+    calls-f =
+        (passes start d h s m v) _
+        ∙ rw (lt-ltb 0 (s .ahead) q, (states start d h s m v)) (stepped (h .mark) (s .at) pos-f (v .at-slot pos-f) (h .mark + 1) (slotAfter d (s .at)) (s .kept + 1) (s .ahead - 1) read-f)
+
+    pub yes-forward : Stepped start d h s m forward
+    unfolding ruleOf
+    yes-forward =
+        record {
+          answer = gives tt;
+          hist = hf;
+          session = sf;
+          memory = mf;
+          rule = rw (lt-ltb (h .mark) (length (h .edits)) (omega arith));
+          calls = calls-f;
+          inv = λ t. inv-f;
+          stays = λ i out. put-stays (h .mark) (s .at) pos-f (v .at-slot pos-f) i (out (h .mark) (omega arith) (omega arith));
+        }
