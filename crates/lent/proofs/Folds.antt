@@ -1,5 +1,5 @@
 -- The fold of `merge_points` is what 01 says.
-use Prim.Native.Nat.{ℕ, suc, _+_, _≤_}
+use Prim.Native.Nat.{_≤_}
 use mathlib.Core.Path.{_≡_, refl, sym, ap, subst, _∙_}
 use mathlib.Core.Bool.{Bool, true, false, cond, not, _&&_, _||_, true≢false}
 use mathlib.Core.List.{List, [], _∷_, _++_, append-nil, append-assoc}
@@ -21,7 +21,7 @@ use Rattle.settle.specs.declared.EditedPoints.{EditedPoints}
 use Rattle.insert.specs.Insert.{insertPoint}
 use Rattle.insert.proofs.Inserting.{insert-last, rising-prefix}
 use Rattle.envelope.specs.Envelope.{new}
-use Rattle.envelope.specs.Edit.{EditTold, withPoints, joinOf, declined}
+use Rattle.envelope.specs.Edit.{withPoints, joinOf, declined}
 use Rattle.envelope.specs.declared.AutomationEnvelope.{AutomationEnvelope}
 use Rattle.envelope.specs.declared.edit.Join.the-variants.{Merge}
 use Rattle.lent.specs.Merge.{validList, mergeListOf, isAccepted, mergeStart, addedTo, mergeStep, mergeEnd, foldOf}

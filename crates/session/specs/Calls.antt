@@ -48,4 +48,4 @@ Obeys s m c a m′ = called a m′ ≡ callOf c s m
 pub data Ran : Session → List ℕ → List Call → List (Said (Unit {0})) → Session → List ℕ → Type 0 where
   done : {s : Session} {m : List ℕ} → Ran s m [] [] s m
   call : {s : Session} {m : List ℕ} {c : Call} (a : SessionAnswer) {m′ : List ℕ} {cs : List Call} {answers : List (Said (Unit {0}))} {s″ : Session} {m″ : List ℕ}
-    → Obeys s m c a m′ → Ran (a .session) m′ cs answers s″ m″ → Ran s m (c ∷ cs) (said (a .answer) ∷ answers) s″ m″
+      → Obeys s m c a m′ → Ran (a .session) m′ cs answers s″ m″ → Ran s m (c ∷ cs) (said (a .answer) ∷ answers) s″ m″

@@ -1,17 +1,16 @@
 -- 1 comes first in an edit of its own: one that gets an envelope that isn't valid says 1. Assumes nothing.
-use Prim.Native.Nat.{ℕ}
 use mathlib.Core.Path.{_≡_, refl, ap, sym, _∙_}
 use mathlib.Core.Bool.{Bool, true, false, cond, _&&_, false≢true}
 use mathlib.Core.List.{List}
 use lib.Ieee.{Float}
 use Rattle.numbers.specs.Bounds.{finite}
-use Rattle.points.specs.Refusal.{Said, refuses, gives, said}
+use Rattle.points.specs.Refusal.{refuses, said}
 use Rattle.points.specs.Points.{validPoints, listOf}
 use Rattle.points.specs.declared.AutomationPoint.{AutomationPoint}
 use Rattle.points.specs.declared.Points.{Points}
 use Rattle.points.specs.declared.refusal.Refusal.the-variants.{NotValid}
 use Rattle.points.specs.declared.refusal.Answer.the-variants.{Refused}
-use Rattle.settle.specs.Settle.{editPoints, settle, refused}
+use Rattle.settle.specs.Settle.{editPoints, refused}
 use Rattle.settle.specs.declared.EditedPoints.{EditedPoints}
 use Rattle.pointwise.specs.Each.{clampedEdit}
 use Rattle.insert.specs.Insert.{mergedPoints, merged}

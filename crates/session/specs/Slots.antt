@@ -1,14 +1,14 @@
 -- Laws of the slots: what a store leaves, and that D numbers in a row have D different slots. Assumes nothing.
-use Prim.Native.Nat.{ℕ, suc, zero, _+_, _-_, _*_, _/_, _%_, _≤_, _<_}
+use Prim.Native.Nat.{ℕ, suc, _+_, _-_, _*_, _/_, _%_, _≤_, _<_}
 use mathlib.Core.Path.{_≡_, refl, ap, sym, _∙_}
-use mathlib.Core.List.{List, [], _∷_, _++_, append-assoc}
+use mathlib.Core.List.{List, _++_, append-assoc}
 use mathlib.Core.Bool.{Bool, true, false}
 use mathlib.Core.Logic.{_⊎_, inl, inr, ⊎-elim}
 use native.Mathlib.Nat.{div-add-mod', mul-le-mul-right, mod-lt, mod-eq-of-lt, mod-self, mod-add-mod, suc-mul}
 use native.Mathlib.Omega.{arith}
 use lib.ListN.{length, getD, take, drop, length-append, length-drop, take-append-drop, List·getD-append}
 use lib.Seq.{take-append-le, drop-append-le, drop-append-add, drop-drop, take-at, drop-at, length-take-le, getD-drop, getD-take}
-use lib.Dec.{ltb, eqb}
+use lib.Dec.{ltb}
 use borrow.Author.Tests.{lt-ltb, le-ltb, ne-eqb, ltb-true, ltb-false}
 use Rattle.envelope.specs.declared.AutomationEnvelope.{AutomationEnvelope}
 use Rattle.state.specs.State.{stateWords, pack}
@@ -78,6 +78,7 @@ module _ (m : List ℕ) (p : ℕ) (e : AutomationEnvelope) (words : length (pack
       low : i < p * stateWords → getD (stored p e m) i 0 ≡ getD m i 0
       low l =
           List·getD-append (take (p * stateWords) m) (pack e ++ drop (p * stateWords + stateWords) m) 0 i (omega (arith, front)) ∙ getD-take (p * stateWords) m i 0 l
+
       high : p * stateWords ≤ i → getD (stored p e m) i 0 ≡ getD m i 0
       high g =
           let k : i ≡ p * stateWords + stateWords + (i - (p * stateWords + stateWords)) + 0 = omega arith in
@@ -96,7 +97,7 @@ slots-apart : (k j d : ℕ) → k < j → j < k + d → k % d ≡ j % d → ⊥
 slots-apart k j d h g e =
     ⊎-elim
     (λ (l : k / d < j / d).
-        omega (arith, div-add-mod' k d, div-add-mod' j d, mul-le-mul-right {m = suc (k / d)} {n = j / d} d l, suc-mul (k / d) d))
+    omega (arith, div-add-mod' k d, div-add-mod' j d, mul-le-mul-right {m = suc (k / d)} {n = j / d} d l, suc-mul (k / d) d))
     (λ (l : j / d ≤ k / d). omega (arith, div-add-mod' k d, div-add-mod' j d, mul-le-mul-right {m = j / d} {n = k / d} d l))
     (lt-or-le (k / d) (j / d))
 
@@ -110,6 +111,7 @@ after-slot k d h = ⊎-elim inside wrap (lt-or-le (k % d + 1) d)
   where
     inside : k % d + 1 < d → slotAfter d (k % d) ≡ (k + 1) % d
     inside l = rw (lt-ltb (k % d + 1) d l) (sym (mod-eq-of-lt l) ∙ mod-add-mod k d 1)
+
     wrap : d ≤ k % d + 1 → slotAfter d (k % d) ≡ (k + 1) % d
     wrap l =
         let e : k % d + 1 ≡ d = omega (arith, mod-lt k h) in
@@ -121,6 +123,7 @@ before-after r d h = ⊎-elim inside wrap (lt-or-le (r + 1) d)
   where
     inside : r + 1 < d → slotBefore d (slotAfter d r) ≡ r
     inside l = rw (lt-ltb (r + 1) d l) (rw (ne-eqb (r + 1) 0 (omega arith)) (omega arith))
+
     wrap : d ≤ r + 1 → slotBefore d (slotAfter d r) ≡ r
     wrap l = rw (le-ltb (r + 1) d l) (omega arith)
 

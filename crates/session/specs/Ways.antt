@@ -1,5 +1,5 @@
 -- The ways out of the session's functions, each as a law over plain variables: the functions' proofs cite these. Assumes nothing.
-use Prim.Native.Nat.{ℕ, _+_, _-_, _*_, _/_, _≤_, _<_, min}
+use Prim.Native.Nat.{ℕ, _+_, _-_, _/_, _≤_, _<_, min}
 use mathlib.Core.Path.{_≡_, refl, ap, sym, _∙_}
 use mathlib.Core.Bool.{Bool, true, false, cond, _&&_, false≢true, true≢false}
 use mathlib.Core.List.{List, _++_, append-nil}
@@ -8,8 +8,8 @@ use native.Mathlib.Omega.{arith}
 use lib.ListN.{length, take, drop, length-drop, drop-of-length-le}
 use lib.Seq.{length-take-le}
 use lib.Dec.{ltb, leb, eqb}
-use borrow.Author.Tests.{lt-ltb, le-ltb, le-leb, lt-leb, eq-eqb, ne-eqb, leb-true, leb-false, ltb-true, eqb-true, eqb-false}
-use Rattle.points.specs.Refusal.{Said, refuses, gives, said, number}
+use borrow.Author.Tests.{lt-ltb, le-ltb, le-leb, lt-leb, eq-eqb, ne-eqb, leb-true, leb-false, ltb-true, eqb-true}
+use Rattle.points.specs.Refusal.{Said, refuses, gives, said}
 use Rattle.points.specs.Laws.{and-left, and-right}
 use Rattle.points.specs.declared.refusal.Refusal.{Refusal}
 use Rattle.points.specs.declared.refusal.Refusal.the-variants.{NotValid, MemoryLength, StoredState}
@@ -20,7 +20,7 @@ use Rattle.envelope.specs.Edit.{EditTold, toldEdit}
 use Rattle.envelope.specs.declared.AutomationEnvelope.{AutomationEnvelope}
 use Rattle.envelope.specs.declared.Edited.{Edited}
 use Rattle.state.specs.State.{stateWords, pack, unpacked, readAs, readState, WordsTold, writeState}
-use Rattle.session.specs.Session.{depth, stateAt, stored, slotAfter, slotBefore, placeBelow, inOrder, validSession, Called, called, declined, accepted, gate, movedTo, counted, settled, editCall, changed, steppedOver, backCall, forwardCall, refusedBy, movedBy}
+use Rattle.session.specs.Session.{depth, stateAt, stored, slotAfter, slotBefore, placeBelow, inOrder, validSession, Called, called, declined, accepted, gate, movedTo, settled, editCall, changed, steppedOver, backCall, forwardCall, refusedBy, movedBy}
 use Rattle.session.specs.declared.Session.{Session}
 use Rattle.session.specs.declared.SessionAnswer.{SessionAnswer}
 
@@ -37,6 +37,7 @@ in-order s h = go (eqb (depth s) 0) refl (and-right (leb (s .kept + s .ahead) (d
   where
     few : s .kept + s .ahead ≤ s .length / 1028
     few = leb-true _ _ (and-left (leb (s .kept + s .ahead) (depth s)) (placeBelow (s .at) (depth s)) h)
+
     go : (b : Bool) → eqb (depth s) 0 ≡ b → cond b (eqb (s .at) 0) (ltb (s .at) (depth s)) ≡ true → InOrder s
     go true z p =
         let a : s .at ≡ 0 = eqb-true _ _ p in
@@ -165,7 +166,7 @@ module _ (s : Session) (m : List ℕ) (r : Edited) (a : SessionAnswer) where
   settle-refused x is h = ap (λ (y : SessionAnswer). called y m) is ∙ rw h
 
   module _ (at kept : ℕ) (m′ : List ℕ) (is : a ≡ movedBy s (r .envelope) at kept 0) (h : r .answer ≡ Accepted) (p : at ≡ slotAfter (s .length / 1028) (s .at))
-    (q : kept ≡ min (s .kept + 1) (s .length / 1028)) where
+      (q : kept ≡ min (s .kept + 1) (s .length / 1028)) where
     pub settle-none : s .length / 1028 ≡ 0 → m′ ≡ m → called a m′ ≡ settled s m (said (r .answer)) (r .envelope)
     settle-none z e = ap (λ (y : SessionAnswer). called y m′) is ∙ rw (h, p, q, e, eq-eqb (s .length / 1028) 0 z)
 

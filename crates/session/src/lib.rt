@@ -127,7 +127,13 @@ impl Session {
         }
     }
 
-    fn moved(self, envelope: AutomationEnvelope, at: usize, kept: usize, ahead: usize) -> SessionAnswer
+    fn moved(
+        self,
+        envelope: AutomationEnvelope,
+        at: usize,
+        kept: usize,
+        ahead: usize,
+    ) -> SessionAnswer
         ensures { λ a. ⌜ a ≡ movedBy self envelope at kept ahead ⌝ }
     {
         SessionAnswer {
@@ -198,7 +204,12 @@ impl Session {
     }
 
     // Any of 01's edits that take a second envelope: 1 for either comes first.
-    pub fn join(mut self, join: Join, other: AutomationEnvelope, memory: &mut [u64]) -> SessionAnswer
+    pub fn join(
+        mut self,
+        join: Join,
+        other: AutomationEnvelope,
+        memory: &mut [u64],
+    ) -> SessionAnswer
         ensures { λ a. ⌜ Obeys self (now (memory .entry)) (edit (joined join other)) a (now (memory .exit)) ⌝ }
     {
         let envelope = self.envelope;

@@ -1,6 +1,3 @@
-use mathlib.Core.Path.{ap}
-use Rattle.points.specs.declared.Points.{Points}
-use Rattle.lent.specs.declared.Merging.{Merging}
 use Rattle.lent.specs.Merge.{mergeStart}
 use borrow.Author.Needs.{needs}
 use Rattle.lent.proofs.merge_start.Statement.{statement}

@@ -1,4 +1,4 @@
-use mathlib.Core.Path.{_≡_, refl, ap, sym, _∙_}
+use mathlib.Core.Path.{_≡_, ap, _∙_}
 use denote.Ref.{now}
 use Prim.Native.Nat.{ℕ, _+_, _-_, _*_}
 use native.Mathlib.Omega.{arith}
@@ -43,7 +43,7 @@ read-state-requires c κs = search needs
 -- src/lib.rt:48:1
 returns : tie.Need-returns
 unfolding stateAt
-returns c = 
+returns c =
     let a = c .before .before .before .args in
     let e : a .slot * 1028 + 1028 - a .slot * 1028 ≡ 1028 = omega arith in
     c .read-state .ensures ∙ ap (λ (n : ℕ). readState (take n (drop (a .slot * 1028) (now (a .memory))))) e

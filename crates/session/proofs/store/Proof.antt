@@ -1,4 +1,4 @@
-use mathlib.Core.Path.{_≡_, refl, ap, sym, _∙_}
+use mathlib.Core.Path.{ap, _∙_}
 use denote.Ref.{now}
 use Prim.Native.Nat.{ℕ, _+_, _-_, _*_}
 use mathlib.Core.List.{List, _++_}
@@ -50,7 +50,7 @@ same-length c = search needs
 -- src/lib.rt:39:1
 returns : tie.Need-returns
 unfolding stored
-returns c = 
+returns c =
     let a = c .before .before .before .before .before .args in
     ap (λ (l : List ℕ). take (a .slot * 1028) (now (a .memory)) ++ (l ++ postOf (a .slot * 1028) (a .slot * 1028 + 1028 - a .slot * 1028) (now (a .memory))))
     (part-written (a .envelope) _ _ (part-words (a .slot * 1028) (now (a .memory)) (c .before .before .before .before .before .pre)) (c .before .before .write-state .ensures .1))

@@ -1,15 +1,10 @@
-use mathlib.Core.Path.{_≡_, refl, ap, sym, _∙_}
+use mathlib.Core.Path.{ap, sym, _∙_}
 use denote.Ref.{now}
-use Prim.Native.Nat.{_<_}
-use mathlib.Core.Bool.{true}
 use native.Mathlib.Omega.{arith}
-use lib.ListN.{length}
 use Rattle.points.specs.Laws.{and-right}
 use Rattle.envelope.specs.Envelope.{validEnvelope}
 use Rattle.session.specs.Session.{inOrder, called, backCall}
-use Rattle.session.specs.Slots.{slot-fits}
-use Rattle.session.specs.Ways.{InOrder, in-order, before-below, gate-one, gate-eleven, back-none, back-over}
-use Rattle.session.specs.declared.Session.{Session}
+use Rattle.session.specs.Ways.{in-order, before-below, gate-one, gate-eleven, back-none, back-over}
 use Rattle.session.specs.declared.SessionAnswer.{SessionAnswer}
 use borrow.Author.Needs.{needs}
 use Rattle.session.proofs.Session.back.Statement.{statement}
@@ -43,7 +38,7 @@ add-step-over c = let o = in-order (c .before .before .before .before .before .b
 
 -- src/lib.rt:236:21
 step-over-requires : tie.Need-step-over-requires
-step-over-requires c κs = 
+step-over-requires c κs =
     let s = c .before .before .before .before .before .before .before .before .before .before .args .self in
     let o = in-order s (and-right (validEnvelope (s .envelope)) (inOrder s) (sym (c .before .before .before .before .before .before .before .before .is-valid .ensures) ∙ c .before .before .before .before .before .before .before .if1 .taken)) in
     let l = before-below s (c .before .before .slot-before .result) o (omega (arith, c .before .before .before .before .if3 .left)) (c .before .before .slot-before .ensures) in
@@ -59,7 +54,7 @@ refuse-requires-3 c κs = search needs
 
 -- src/lib.rt:226:5
 returns : tie.Need-returns
-returns c = 
+returns c =
     let a = c .before .before .before .before .before .before .before .args in
     ap (λ (x : SessionAnswer). called x (now (a .memory))) (c .refuse .ensures)
     ∙ back-none (a .self) (now (a .memory)) (sym (c .before .before .before .before .before .is-valid .ensures) ∙ c .before .before .before .before .if1 .taken) (c .before .before .if2 .taken) (called (c .refuse .result) (now (a .memory))) (c .before .if3 .taken)
@@ -70,21 +65,21 @@ same-length c = search needs
 
 -- src/lib.rt:226:5
 returns-2 : tie.Need-returns-2
-returns-2 c = 
+returns-2 c =
     let a = c .before .before .before .before .before .before .before .before .before .before .before .before .before .args in
     back-over (a .self) (now (a .memory)) (sym (c .before .before .before .before .before .before .before .before .before .before .before .is-valid .ensures) ∙ c .before .before .before .before .before .before .before .before .before .before .if1 .taken) (c .before .before .before .before .before .before .before .before .if2 .taken) _ (c .before .before .before .before .before .slot-before .result) (omega (arith, c .before .before .before .before .before .before .before .if3 .left)) (c .before .before .before .before .before .slot-before .ensures) (c .before .before .step-over .ensures)
 
 -- src/lib.rt:226:5
 returns-3 : tie.Need-returns-3
 unfolding backCall
-returns-3 c = 
+returns-3 c =
     let a = c .before .before .before .before .before .before .args in
     ap (λ (x : SessionAnswer). called x (now (a .memory))) (c .refuse2 .ensures) ∙ gate-eleven (a .self) (now (a .memory)) _ (sym (c .before .before .before .before .is-valid .ensures) ∙ c .before .before .before .if1 .taken) (c .before .if2 .left)
 
 -- src/lib.rt:226:5
 returns-4 : tie.Need-returns-4
 unfolding backCall
-returns-4 c = 
+returns-4 c =
     let a = c .before .before .before .before .args in
     ap (λ (x : SessionAnswer). called x (now (a .memory))) (c .refuse3 .ensures) ∙ gate-one (a .self) (now (a .memory)) _ (sym (c .before .before .is-valid .ensures) ∙ c .before .if1 .left)
 

@@ -1,4 +1,4 @@
-use mathlib.Core.Path.{_≡_, refl, ap, sym, _∙_}
+use mathlib.Core.Path.{ap, sym, _∙_}
 use denote.Ref.{now}
 use mathlib.Core.Bool.{true}
 use Rattle.points.specs.Laws.{and-true}
@@ -50,7 +50,7 @@ same-length c = search needs
 
 -- src/lib.rt:184:5
 returns : tie.Need-returns
-returns c = 
+returns c =
     let a = c .before .before .before .before .before .before .before .before .before .before .before .args in
     c .before .before .settle .ensures
     ∙ ap (λ (t : EditTold). settled (a .self) (now (a .memory)) (t .said) (t .envelope)) (c .before .before .before .before .edit .ensures)
@@ -59,7 +59,7 @@ returns c =
 
 -- src/lib.rt:184:5
 returns-2 : tie.Need-returns-2
-returns-2 c = 
+returns-2 c =
     let a = c .before .before .before .before .before .before .before .before .args in
     ap (λ (x : SessionAnswer). called x (now (a .memory))) (c .refuse-length .ensures)
     ∙ edit-length true (editOf (a .e) (a .self .envelope)) (a .self) (now (a .memory)) (c .before .is-valid .result) (sym (c .before .before .before .before .before .in-order .ensures) ∙ c .before .before .before .before .if1 .taken) (c .before .before .if2 .left)
@@ -67,7 +67,7 @@ returns-2 c =
 
 -- src/lib.rt:184:5
 returns-3 : tie.Need-returns-3
-returns-3 c = 
+returns-3 c =
     let a = c .before .before .before .before .before .args in
     ap (λ (x : SessionAnswer). called x (now (a .memory))) (c .refuse .ensures)
     ∙ edit-order true (editOf (a .e) (a .self .envelope)) (a .self) (now (a .memory)) (sym (c .before .before .in-order .ensures) ∙ c .before .if1 .left)

@@ -1,4 +1,4 @@
-use mathlib.Core.Path.{_≡_, sym, _∙_}
+use mathlib.Core.Path.{sym, _∙_}
 use Rattle.session.specs.Play.{value-own, value-not}
 use borrow.Author.Needs.{needs}
 use Rattle.session.proofs.Session.get_value_at.Statement.{statement}

@@ -1,4 +1,4 @@
-use mathlib.Core.Path.{_≡_, ap, sym, _∙_}
+use mathlib.Core.Path.{ap, sym, _∙_}
 use mathlib.Core.Bool.{Bool, cond}
 use Rattle.points.specs.declared.refusal.Refusal.the-variants.{NotValid, MemoryLength}
 use Rattle.session.specs.Session.{refusedBy}

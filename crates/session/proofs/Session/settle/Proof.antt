@@ -1,4 +1,4 @@
-use mathlib.Core.Path.{_≡_, refl, ap, sym, _∙_}
+use mathlib.Core.Path.{refl}
 use denote.Ref.{now}
 use native.Mathlib.Omega.{arith}
 use Rattle.session.specs.Ways.{in-order, settle-none, settle-put, settle-refused}
@@ -47,7 +47,7 @@ refuse-requires c κs = search needs
 
 -- src/lib.rt:158:5
 returns : tie.Need-returns
-returns c = 
+returns c =
     let a = c .before .before .before .before .before .before .before .before .before .args in
     settle-none (a .self) (now (a .memory)) (a .r) _ _ _ _ (c .moved .ensures) (c .before .before .before .before .before .before .enum-told .given .1) (c .before .before .before .before .slot-after .ensures) (c .before .before .before .one-more .ensures) (c .before .if1 .taken) refl
 
@@ -57,13 +57,13 @@ same-length c = search needs
 
 -- src/lib.rt:158:5
 returns-2 : tie.Need-returns-2
-returns-2 c = 
+returns-2 c =
     let a = c .before .before .before .before .before .before .before .before .before .before .before .before .before .before .args in
     settle-put (a .self) (now (a .memory)) (a .r) _ _ _ _ (c .moved2 .ensures) (c .before .before .before .before .before .before .before .before .before .before .before .enum-told .given .1) (c .before .before .before .before .before .before .before .before .before .slot-after .ensures) (c .before .before .before .before .before .before .before .before .one-more .ensures) (c .before .before .before .before .before .before .if1 .left) (c .before .before .before .store .ensures)
 
 -- src/lib.rt:158:5
 returns-3 : tie.Need-returns-3
-returns-3 c = 
+returns-3 c =
     let a = c .before .before .before .before .before .args in
     settle-refused (a .self) (now (a .memory)) (a .r) _ _ (c .refuse .ensures) (c .before .before .answer .given .1)
 

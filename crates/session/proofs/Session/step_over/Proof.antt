@@ -1,4 +1,3 @@
-use mathlib.Core.Path.{_≡_, refl, ap, sym, _∙_}
 use denote.Ref.{now}
 use Rattle.session.specs.Ways.{step-done, step-bad}
 use borrow.Author.Needs.{needs}
@@ -41,7 +40,7 @@ same-length c = search needs
 
 -- src/lib.rt:202:5
 returns : tie.Need-returns
-returns c = 
+returns c =
     let a = c .before .before .before .before .before .before .before .before .before .before .before .before .args in
     step-done (a .self) (now (a .memory)) (a .slot) (a .at) (a .kept) (a .ahead) (c .before .before .before .before .before .before .before .before .before .load .result) _ _ (c .moved .ensures) (c .before .before .before .before .before .before .before .before .before .load .ensures) (c .before .before .before .before .before .before .before .enum-told .given .1) (c .before .before .before .store .ensures)
 
@@ -51,7 +50,7 @@ same-length-2 c = search needs
 
 -- src/lib.rt:202:5
 returns-2 : tie.Need-returns-2
-returns-2 c = 
+returns-2 c =
     let a = c .before .before .before .before .before .before .args in
     step-bad (a .self) (now (a .memory)) (a .slot) (a .at) (a .kept) (a .ahead) (c .before .before .before .load .result) _ _ (c .refuse .ensures) (c .before .before .before .load .ensures) (c .before .enum-told2 .given .1)
 

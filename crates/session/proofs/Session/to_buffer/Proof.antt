@@ -1,4 +1,4 @@
-use mathlib.Core.Path.{_≡_, refl, sym, ap, _∙_}
+use mathlib.Core.Path.{refl, sym, _∙_}
 use denote.Ref.{now}
 use Rattle.render.specs.RenderLaws.{answers}
 use Rattle.session.specs.Play.{toBufferOf, buffer-own, buffer-not}
@@ -24,13 +24,13 @@ same-length c = search needs
 
 -- src/play.rt:48:5
 returns : tie.Need-returns
-returns c = 
+returns c =
     let a = c .before .before .before .before .before .before .before .before .args in
     answers {x = toBufferOf (a .self .envelope) (a .rate) (a .duration) (a .place) (now (a .out))} (c .before .before .to-buffer .ensures .0) (c .before .before .to-buffer .ensures .1) (buffer-own (a .self) (a .rate) (a .duration) (a .place) (now (a .out)) (sym (c .before .before .before .before .before .before .in-order .ensures) ∙ c .before .before .before .before .before .if1 .taken))
 
 -- src/play.rt:48:5
 returns-2 : tie.Need-returns-2
-returns-2 c = 
+returns-2 c =
     let a = c .before .before .before .args in
     answers refl refl (buffer-not (a .self) (a .rate) (a .duration) (a .place) (now (a .out)) (sym (c .before .in-order .ensures) ∙ c .if1 .left))
 
