@@ -1,177 +1,151 @@
 // The Bench's edits, by 000's names: the envelope goes in and its changed successor comes back.
 ghost use mathlib.Core.Path.{_≡_};
 ghost use Rattle.envelope.specs.Edit.{toldEdit, editOf, joinOf};
-ghost use Rattle.envelope.specs.declared.edit.Edit.the-variants.{OfPoints, Replace, SetEnabled, SetMin, SetMax, SetStep};
+ghost use Rattle.envelope.specs.declared.edit.Edit.the-variants.{OfPoints, Replace};
 ghost use Rattle.envelope.specs.declared.edit.PointsEdit.the-variants.{AddPoint, RemovePointAt, ShiftPoints, ScaleTime, Trim, Reverse, InvertValues, QuantizeTime, Simplify, Normalize, Scale, Offset, ClampValues, ApplyFadeIn, ApplyFadeOut, ApplyFades, ApplyGate, ApplyCompression};
 ghost use Rattle.envelope.specs.declared.edit.Replacement.the-variants.{FadeIn, FadeOut, Pulse, Ramp};
 ghost use Rattle.envelope.specs.declared.edit.Join.the-variants.{Merge, Combine};
 ghost use Rattle.combine.specs.declared.Operation.the-variants.{Blend, Add, Multiply, Min, Max, Subtract};
 use crate::AutomationEnvelope;
 use crate::Edited;
-use crate::edit::Edit;
 use crate::edit::Join;
 use crate::edit::PointsEdit;
 use crate::edit::Replacement;
 use combine::Operation;
 use curve::CurveType;
-use lookup::Limit;
 use points::AutomationPoint;
 
 impl AutomationEnvelope {
     pub fn add_point(mut self, p: AutomationPoint) -> Edited
         ensures { λ r. ⌜ toldEdit r ≡ editOf (OfPoints (AddPoint p)) self ⌝ }
     {
-        self.edit(Edit::OfPoints(PointsEdit::AddPoint(p)))
+        self.edit_points(PointsEdit::AddPoint(p))
     }
 
     pub fn remove_point_at(mut self, time: f64) -> Edited
         ensures { λ r. ⌜ toldEdit r ≡ editOf (OfPoints (RemovePointAt time)) self ⌝ }
     {
-        self.edit(Edit::OfPoints(PointsEdit::RemovePointAt(time)))
+        self.edit_points(PointsEdit::RemovePointAt(time))
     }
 
     pub fn shift_points(mut self, offset: f64) -> Edited
         ensures { λ r. ⌜ toldEdit r ≡ editOf (OfPoints (ShiftPoints offset)) self ⌝ }
     {
-        self.edit(Edit::OfPoints(PointsEdit::ShiftPoints(offset)))
+        self.edit_points(PointsEdit::ShiftPoints(offset))
     }
 
     pub fn scale_time(mut self, factor: f64) -> Edited
         ensures { λ r. ⌜ toldEdit r ≡ editOf (OfPoints (ScaleTime factor)) self ⌝ }
     {
-        self.edit(Edit::OfPoints(PointsEdit::ScaleTime(factor)))
+        self.edit_points(PointsEdit::ScaleTime(factor))
     }
 
     pub fn trim(mut self, start: f64, end: f64) -> Edited
         ensures { λ r. ⌜ toldEdit r ≡ editOf (OfPoints (Trim start end)) self ⌝ }
     {
-        self.edit(Edit::OfPoints(PointsEdit::Trim(start, end)))
+        self.edit_points(PointsEdit::Trim(start, end))
     }
 
     pub fn reverse(mut self) -> Edited
         ensures { λ r. ⌜ toldEdit r ≡ editOf (OfPoints Reverse) self ⌝ }
     {
-        self.edit(Edit::OfPoints(PointsEdit::Reverse))
+        self.edit_points(PointsEdit::Reverse)
     }
 
     pub fn invert_values(mut self, min: f32, max: f32) -> Edited
         ensures { λ r. ⌜ toldEdit r ≡ editOf (OfPoints (InvertValues min max)) self ⌝ }
     {
-        self.edit(Edit::OfPoints(PointsEdit::InvertValues(min, max)))
+        self.edit_points(PointsEdit::InvertValues(min, max))
     }
 
     pub fn quantize_time(mut self, grid: f64) -> Edited
         ensures { λ r. ⌜ toldEdit r ≡ editOf (OfPoints (QuantizeTime grid)) self ⌝ }
     {
-        self.edit(Edit::OfPoints(PointsEdit::QuantizeTime(grid)))
+        self.edit_points(PointsEdit::QuantizeTime(grid))
     }
 
     pub fn simplify(mut self, tolerance: f32) -> Edited
         ensures { λ r. ⌜ toldEdit r ≡ editOf (OfPoints (Simplify tolerance)) self ⌝ }
     {
-        self.edit(Edit::OfPoints(PointsEdit::Simplify(tolerance)))
+        self.edit_points(PointsEdit::Simplify(tolerance))
     }
 
     pub fn normalize(mut self, min: f32, max: f32) -> Edited
         ensures { λ r. ⌜ toldEdit r ≡ editOf (OfPoints (Normalize min max)) self ⌝ }
     {
-        self.edit(Edit::OfPoints(PointsEdit::Normalize(min, max)))
+        self.edit_points(PointsEdit::Normalize(min, max))
     }
 
     pub fn scale(mut self, factor: f32) -> Edited
         ensures { λ r. ⌜ toldEdit r ≡ editOf (OfPoints (Scale factor)) self ⌝ }
     {
-        self.edit(Edit::OfPoints(PointsEdit::Scale(factor)))
+        self.edit_points(PointsEdit::Scale(factor))
     }
 
     pub fn offset(mut self, amount: f32) -> Edited
         ensures { λ r. ⌜ toldEdit r ≡ editOf (OfPoints (Offset amount)) self ⌝ }
     {
-        self.edit(Edit::OfPoints(PointsEdit::Offset(amount)))
+        self.edit_points(PointsEdit::Offset(amount))
     }
 
     pub fn clamp_values(mut self, min: f32, max: f32) -> Edited
         ensures { λ r. ⌜ toldEdit r ≡ editOf (OfPoints (ClampValues min max)) self ⌝ }
     {
-        self.edit(Edit::OfPoints(PointsEdit::ClampValues(min, max)))
+        self.edit_points(PointsEdit::ClampValues(min, max))
     }
 
     pub fn apply_fade_in(mut self, duration: f64, curve: CurveType) -> Edited
         ensures { λ r. ⌜ toldEdit r ≡ editOf (OfPoints (ApplyFadeIn duration curve)) self ⌝ }
     {
-        self.edit(Edit::OfPoints(PointsEdit::ApplyFadeIn(duration, curve)))
+        self.edit_points(PointsEdit::ApplyFadeIn(duration, curve))
     }
 
     pub fn apply_fade_out(mut self, duration: f64, curve: CurveType) -> Edited
         ensures { λ r. ⌜ toldEdit r ≡ editOf (OfPoints (ApplyFadeOut duration curve)) self ⌝ }
     {
-        self.edit(Edit::OfPoints(PointsEdit::ApplyFadeOut(duration, curve)))
+        self.edit_points(PointsEdit::ApplyFadeOut(duration, curve))
     }
 
     pub fn apply_fades(mut self, rise: f64, fall: f64, curve: CurveType) -> Edited
         ensures { λ r. ⌜ toldEdit r ≡ editOf (OfPoints (ApplyFades rise fall curve)) self ⌝ }
     {
-        self.edit(Edit::OfPoints(PointsEdit::ApplyFades(rise, fall, curve)))
+        self.edit_points(PointsEdit::ApplyFades(rise, fall, curve))
     }
 
     pub fn apply_gate(mut self, threshold: f32) -> Edited
         ensures { λ r. ⌜ toldEdit r ≡ editOf (OfPoints (ApplyGate threshold)) self ⌝ }
     {
-        self.edit(Edit::OfPoints(PointsEdit::ApplyGate(threshold)))
+        self.edit_points(PointsEdit::ApplyGate(threshold))
     }
 
     pub fn apply_compression(mut self, threshold: f32, ratio: f32) -> Edited
         ensures { λ r. ⌜ toldEdit r ≡ editOf (OfPoints (ApplyCompression threshold ratio)) self ⌝ }
     {
-        self.edit(Edit::OfPoints(PointsEdit::ApplyCompression(threshold, ratio)))
+        self.edit_points(PointsEdit::ApplyCompression(threshold, ratio))
     }
 
     pub fn fade_in(mut self, duration: f64, curve: CurveType) -> Edited
         ensures { λ r. ⌜ toldEdit r ≡ editOf (Replace (FadeIn duration curve)) self ⌝ }
     {
-        self.edit(Edit::Replace(Replacement::FadeIn(duration, curve)))
+        self.replace_points(Replacement::FadeIn(duration, curve))
     }
 
     pub fn fade_out(mut self, duration: f64, curve: CurveType) -> Edited
         ensures { λ r. ⌜ toldEdit r ≡ editOf (Replace (FadeOut duration curve)) self ⌝ }
     {
-        self.edit(Edit::Replace(Replacement::FadeOut(duration, curve)))
+        self.replace_points(Replacement::FadeOut(duration, curve))
     }
 
     pub fn pulse(mut self, rise: f64, sustain: f64, fall: f64, curve: CurveType) -> Edited
         ensures { λ r. ⌜ toldEdit r ≡ editOf (Replace (Pulse rise sustain fall curve)) self ⌝ }
     {
-        self.edit(Edit::Replace(Replacement::Pulse(rise, sustain, fall, curve)))
+        self.replace_points(Replacement::Pulse(rise, sustain, fall, curve))
     }
 
     pub fn ramp(mut self, duration: f64, start: f32, end: f32, curve: CurveType) -> Edited
         ensures { λ r. ⌜ toldEdit r ≡ editOf (Replace (Ramp duration start end curve)) self ⌝ }
     {
-        self.edit(Edit::Replace(Replacement::Ramp(duration, start, end, curve)))
-    }
-
-    pub fn set_enabled(mut self, enabled: bool) -> Edited
-        ensures { λ r. ⌜ toldEdit r ≡ editOf (SetEnabled enabled) self ⌝ }
-    {
-        self.edit(Edit::SetEnabled(enabled))
-    }
-
-    pub fn set_min(mut self, min: Limit) -> Edited
-        ensures { λ r. ⌜ toldEdit r ≡ editOf (SetMin min) self ⌝ }
-    {
-        self.edit(Edit::SetMin(min))
-    }
-
-    pub fn set_max(mut self, max: Limit) -> Edited
-        ensures { λ r. ⌜ toldEdit r ≡ editOf (SetMax max) self ⌝ }
-    {
-        self.edit(Edit::SetMax(max))
-    }
-
-    pub fn set_step(mut self, step: Limit) -> Edited
-        ensures { λ r. ⌜ toldEdit r ≡ editOf (SetStep step) self ⌝ }
-    {
-        self.edit(Edit::SetStep(step))
+        self.replace_points(Replacement::Ramp(duration, start, end, curve))
     }
 
     // Blends this envelope with another: 0.0 is this one, 1.0 the other.

@@ -1,6 +1,8 @@
 // 01's edits as data, and what each makes of an envelope.
 ghost use mathlib.Core.Path.{_≡_};
-ghost use Rattle.envelope.specs.Edit.{toldEdit, pointsEdited, replacedPoints, edited, renewed, replaced, setting, editOf, sideOf, mergeOf, combineOf, joinOf, withPoints, withSettings, refusedEdit};
+ghost use Rattle.envelope.specs.Envelope.{new};
+ghost use Rattle.envelope.specs.declared.edit.Edit.the-variants.{OfPoints, Replace, SetEnabled, SetMin, SetMax, SetStep};
+ghost use Rattle.envelope.specs.Edit.{toldEdit, pointsEdited, replacedPoints, edited, renewed, setting, editOf, sideOf, mergeOf, combineOf, joinOf, withPoints, withSettings, refusedEdit};
 use crate::AutomationEnvelope;
 use crate::Edited;
 use combine::Operation;
@@ -163,6 +165,20 @@ impl AutomationEnvelope {
         }
     }
 
+    // A new envelope's settings, and these points.
+    fn fresh(target: u32, points: Points) -> AutomationEnvelope
+        ensures { λ r. ⌜ r ≡ withPoints (new target) points ⌝ }
+    {
+        AutomationEnvelope {
+            target,
+            points,
+            enabled: true,
+            min_value: Limit::None,
+            max_value: Limit::None,
+            step_size: Limit::None,
+        }
+    }
+
     // The target, and the points with new settings.
     fn renew(self, r: EditedPoints) -> Edited
         ensures { λ t. ⌜ toldEdit t ≡ renewed self r ⌝ }
@@ -170,26 +186,11 @@ impl AutomationEnvelope {
         let answer = r.answer;
         let points = r.points;
         match answer {
-            Answer::Accepted => {
-                let fresh = AutomationEnvelope::new(self.target);
-                Edited {
-                    answer: Answer::Accepted,
-                    envelope: fresh.with_points(points),
-                }
-            }
+            Answer::Accepted => Edited {
+                answer: Answer::Accepted,
+                envelope: AutomationEnvelope::fresh(self.target, points),
+            },
             Answer::Refused(refusal) => self.refuse(refusal),
-        }
-    }
-
-    // What a replacement makes of it.
-    fn replace(self, r: EditedPoints) -> Edited
-        ensures { λ t. ⌜ toldEdit t ≡ replaced self r ⌝ }
-    {
-        let limits = self.limits();
-        if limits.is_finite() {
-            self.renew(r)
-        } else {
-            self.refuse(Refusal::NotValid)
         }
     }
 
@@ -229,53 +230,88 @@ impl AutomationEnvelope {
         }
     }
 
+    // Any edit of the points.
+    pub fn edit_points(mut self, edit: PointsEdit) -> Edited
+        ensures { λ r. ⌜ toldEdit r ≡ editOf (OfPoints edit) self ⌝ }
+    {
+        let limits = self.limits();
+        if limits.is_finite() {
+            let points = self.points;
+            self.settle(edit.apply(points))
+        } else {
+            self.refuse(Refusal::NotValid)
+        }
+    }
+
+    // Any of 000's constructors.
+    pub fn replace_points(mut self, replacement: Replacement) -> Edited
+        ensures { λ r. ⌜ toldEdit r ≡ editOf (Replace replacement) self ⌝ }
+    {
+        let limits = self.limits();
+        if limits.is_finite() {
+            let points = self.points;
+            self.renew(replacement.apply(points))
+        } else {
+            self.refuse(Refusal::NotValid)
+        }
+    }
+
+    pub fn set_enabled(mut self, enabled: bool) -> Edited
+        ensures { λ r. ⌜ toldEdit r ≡ editOf (SetEnabled enabled) self ⌝ }
+    {
+        self.set(true, enabled, self.limits())
+    }
+
+    pub fn set_min(mut self, min: Limit) -> Edited
+        ensures { λ r. ⌜ toldEdit r ≡ editOf (SetMin min) self ⌝ }
+    {
+        let max_value = self.max_value;
+        let step_size = self.step_size;
+        let limits = Limits {
+            min_value: min,
+            max_value,
+            step_size,
+        };
+        self.set(min.is_finite(), self.enabled, limits)
+    }
+
+    pub fn set_max(mut self, max: Limit) -> Edited
+        ensures { λ r. ⌜ toldEdit r ≡ editOf (SetMax max) self ⌝ }
+    {
+        let min_value = self.min_value;
+        let step_size = self.step_size;
+        let limits = Limits {
+            min_value,
+            max_value: max,
+            step_size,
+        };
+        self.set(max.is_finite(), self.enabled, limits)
+    }
+
+    pub fn set_step(mut self, step: Limit) -> Edited
+        ensures { λ r. ⌜ toldEdit r ≡ editOf (SetStep step) self ⌝ }
+    {
+        let min_value = self.min_value;
+        let max_value = self.max_value;
+        let limits = Limits {
+            min_value,
+            max_value,
+            step_size: step,
+        };
+        self.set(step.is_finite(), self.enabled, limits)
+    }
+
     // Any of 01's edits.
     pub fn edit(mut self, e: Edit) -> Edited
         ensures { λ r. ⌜ toldEdit r ≡ editOf e self ⌝ }
     {
-        let points = self.points;
-        let enabled = self.enabled;
-        let min_value = self.min_value;
-        let max_value = self.max_value;
-        let step_size = self.step_size;
         match e {
-            Edit::OfPoints(edit) => self.settle(edit.apply(points)),
-            Edit::Replace(replacement) => self.replace(replacement.apply(points)),
-            Edit::SetEnabled(on) => {
-                let limits = Limits {
-                    min_value,
-                    max_value,
-                    step_size,
-                };
-                self.set(true, on, limits)
-            }
-            Edit::SetMin(l) => {
-                let ok = l.is_finite();
-                let limits = Limits {
-                    min_value: l,
-                    max_value,
-                    step_size,
-                };
-                self.set(ok, enabled, limits)
-            }
-            Edit::SetMax(l) => {
-                let ok = l.is_finite();
-                let limits = Limits {
-                    min_value,
-                    max_value: l,
-                    step_size,
-                };
-                self.set(ok, enabled, limits)
-            }
-            Edit::SetStep(l) => {
-                let ok = l.is_finite();
-                let limits = Limits {
-                    min_value,
-                    max_value,
-                    step_size: l,
-                };
-                self.set(ok, enabled, limits)
-            }
+            Edit::OfPoints(edit) => self.edit_points(edit),
+            Edit::Replace(replacement) => self.replace_points(replacement),
+            Edit::SetEnabled(on) => self.set_enabled(on),
+            Edit::SetMin(l) => self.set_min(l),
+            Edit::SetMax(l) => self.set_max(l),
+            Edit::SetStep(l) => self.set_step(l),
         }
     }
 }

@@ -1,8 +1,8 @@
 -- `envelope::AutomationEnvelope::renew` meets its contract. Assumes nothing.
-use mathlib.Core.Path.{ap, _∙_}
+use mathlib.Core.Path.{ap}
 use Rattle.points.specs.Refusal.{gives}
 use Rattle.envelope.specs.declared.AutomationEnvelope.{AutomationEnvelope}
-use Rattle.envelope.specs.Edit.{EditTold, toldEdit, withPoints}
+use Rattle.envelope.specs.Edit.{EditTold, toldEdit}
 use borrow.Author.Needs.{needs}
 use Rattle.envelope.proofs.AutomationEnvelope.renew.Statement.{statement}
 use Rattle.envelope.proofs.AutomationEnvelope.renew.Tie as tie
@@ -10,11 +10,8 @@ use Rattle.envelope.proofs.AutomationEnvelope.renew.Tie as tie
 enum-told : tie.Need-enum-told
 enum-told c = search needs
 
-new-requires : tie.Need-new-requires
-new-requires c κs = search needs
-
-with-points-requires : tie.Need-with-points-requires
-with-points-requires c κs = search needs
+fresh-requires : tie.Need-fresh-requires
+fresh-requires c κs = search needs
 
 enum-known-answer : tie.Need-enum-known-answer
 enum-known-answer c = search needs
@@ -23,9 +20,7 @@ refuse-requires : tie.Need-refuse-requires
 refuse-requires c κs = search needs
 
 returns : tie.Need-returns
-returns c = rw (c .before .before .enum-told .given .1)
-    (ap {B = EditTold} (λ (e : AutomationEnvelope). record { said = gives tt; envelope = e })
-    (c .with-points .ensures ∙ ap (λ (e : AutomationEnvelope). withPoints e (c .before .before .before .before .before .args .r .points)) (c .before .new .ensures)))
+returns c = rw (c .before .enum-told .given .1) (ap {B = EditTold} (λ (e : AutomationEnvelope). record { said = gives tt; envelope = e }) (c .fresh .ensures))
 
 returns-2 : tie.Need-returns-2
 returns-2 c = rw (c .before .before .answer .given .1) (ap toldEdit (c .refuse .ensures))
@@ -35,8 +30,7 @@ renew-spec =
     tie.close
     (tie.spec
     enum-told
-    new-requires
-    with-points-requires
+    fresh-requires
     enum-known-answer
     refuse-requires
     returns

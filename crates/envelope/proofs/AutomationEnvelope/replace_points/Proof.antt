@@ -1,0 +1,43 @@
+use mathlib.Core.Path.{sym, ap, _∙_}
+use Rattle.lookup.specs.Limits.{finiteLimits}
+use Rattle.lookup.specs.declared.Limits.{Limits}
+use Rattle.settle.specs.declared.EditedPoints.{EditedPoints}
+use Rattle.envelope.specs.Edit.{toldEdit, renewed, replaced, editOf}
+use borrow.Author.Needs.{needs}
+use Rattle.envelope.proofs.AutomationEnvelope.replace_points.Statement.{statement}
+use Rattle.envelope.proofs.AutomationEnvelope.replace_points.Tie as tie
+
+limits-requires : tie.Need-limits-requires
+limits-requires c κs = search needs
+
+is-finite-requires : tie.Need-is-finite-requires
+is-finite-requires c κs = search needs
+
+apply-requires : tie.Need-apply-requires
+apply-requires c κs = search needs
+
+renew-requires : tie.Need-renew-requires
+renew-requires c κs = search needs
+
+refuse-requires : tie.Need-refuse-requires
+refuse-requires c κs = search needs
+
+returns : tie.Need-returns
+unfolding editOf replaced
+returns c = rw (sym (c .before .before .before .before .is-finite .ensures ∙ ap (λ (l : Limits). finiteLimits l) (c .before .before .before .before .before .limits .ensures)) ∙ c .before .before .before .if1 .taken) (c .renew .ensures ∙ ap (λ (r : EditedPoints). renewed (c .before .before .before .before .before .before .args .self) r) (c .before .apply .ensures))
+
+returns-2 : tie.Need-returns-2
+unfolding editOf replaced
+returns-2 c = rw (sym (c .before .before .is-finite .ensures ∙ ap (λ (l : Limits). finiteLimits l) (c .before .before .before .limits .ensures)) ∙ c .before .if1 .left) (ap toldEdit (c .refuse .ensures))
+
+pub replace-points-spec : {M : Type 1} → statement M
+replace-points-spec =
+    tie.close
+    (tie.spec
+    limits-requires
+    is-finite-requires
+    apply-requires
+    renew-requires
+    refuse-requires
+    returns
+    returns-2)

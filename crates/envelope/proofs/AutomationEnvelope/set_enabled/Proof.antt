@@ -1,0 +1,20 @@
+use mathlib.Core.Path.{ap, _∙_}
+use mathlib.Core.Bool.{true}
+use Rattle.lookup.specs.declared.Limits.{Limits}
+use Rattle.envelope.specs.Edit.{setting, withSettings, editOf}
+use borrow.Author.Needs.{needs}
+use Rattle.envelope.proofs.AutomationEnvelope.set_enabled.Statement.{statement}
+use Rattle.envelope.proofs.AutomationEnvelope.set_enabled.Tie as tie
+
+limits-requires : tie.Need-limits-requires
+limits-requires c κs = search needs
+
+set-requires : tie.Need-set-requires
+set-requires c κs = search needs
+
+returns : tie.Need-returns
+unfolding editOf
+returns c = c .set .ensures ∙ ap (λ (l : Limits). setting (c .before .before .args .self) true (withSettings (c .before .before .args .self) (c .before .before .args .enabled) l)) (c .before .limits .ensures)
+
+pub set-enabled-spec : {M : Type 1} → statement M
+set-enabled-spec = tie.close (tie.spec limits-requires set-requires returns)
