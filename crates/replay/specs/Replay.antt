@@ -1,7 +1,7 @@
 -- The calls that lists of numbers stand for, and the history theorem over them.
 use Prim.Native.Nat.{ℕ, zero, suc, _+_, _<_, _≤_, min}
 use mathlib.Core.Path.{_≡_, refl, ap, sym, _∙_}
-use mathlib.Core.Bool.{Bool, true, false, cond, _&&_}
+use mathlib.Core.Bool.{true, false, cond}
 use mathlib.Core.List.{List, [], _∷_, _++_, map, map-append}
 use mathlib.Core.Logic.{⊎-elim}
 use native.Mathlib.Numerals.{add-one}
@@ -178,8 +178,8 @@ begun target m₀ kinds xs ys codes s e = record { ran = rw e done; in-range = r
 
 module _ (target : ℕ) (m₀ kinds : List ℕ) (xs ys : List Float) (codes₀ codes : List ℕ) (i : ℕ) (s : Session) (m : List ℕ) (v : Replaying target m₀ kinds xs ys codes₀ codes i s m) where
   module _ (a : SessionAnswer) (m′ : List ℕ) (c : ℕ) (hk : i < length kinds) (hx : i < length xs) (hy : i < length ys) (hc : i < length codes)
-    (ob : Obeys s m (callFrom (getD kinds i 0) (getD xs i nan) (getD ys i nan)) a m′) (ty : typedCall (callFrom (getD kinds i 0) (getD xs i nan) (getD ys i nan)) ≡ true)
-    (says : saidOf c ≡ said (a .answer)) where
+      (ob : Obeys s m (callFrom (getD kinds i 0) (getD xs i nan) (getD ys i nan)) a m′) (ty : typedCall (callFrom (getD kinds i 0) (getD xs i nan) (getD ys i nan)) ≡ true)
+      (says : saidOf c ≡ said (a .answer)) where
     abbrev this : Call
     this = callFrom (getD kinds i 0) (getD xs i nan) (getD ys i nan)
 
@@ -218,10 +218,10 @@ module _ (target : ℕ) (m₀ kinds : List ℕ) (xs ys : List Float) (codes₀ c
     all =
         ⊎-elim
         (λ (l : length codes₀ < length (callsOf kinds xs ys)).
-            let e : i ≡ length codes₀ = omega (arith, length-calls kinds xs ys) in
-            ap (λ (k : ℕ). take k (callsOf kinds xs ys)) e)
+        let e : i ≡ length codes₀ = omega (arith, length-calls kinds xs ys) in
+        ap (λ (k : ℕ). take k (callsOf kinds xs ys)) e)
         (λ (l : length (callsOf kinds xs ys) ≤ length codes₀).
-            take-all i (callsOf kinds xs ys) (omega (arith, length-calls kinds xs ys)) ∙ sym (take-all (length codes₀) (callsOf kinds xs ys) l))
+        take-all i (callsOf kinds xs ys) (omega (arith, length-calls kinds xs ys)) ∙ sym (take-all (length codes₀) (callsOf kinds xs ys) l))
         (lt-or-le (length codes₀) (length (callsOf kinds xs ys)))
 
     pub ended : After (new target) m₀ (replayed kinds xs ys codes₀) (map saidOf (take (length (replayed kinds xs ys codes₀)) codes)) s m

@@ -4,43 +4,27 @@ ghost use mathlib.Core.Bool.{true};
 ghost use mathlib.Core.List.{map};
 ghost use Prim.Native.Nat.{min};
 ghost use lib.ListN.{length, take, drop};
-ghost use Rattle.points.specs.Refusal.{said, number};
-ghost use Rattle.points.specs.Point.{pointWith};
-ghost use Rattle.curve.specs.declared.CurveType.the-variants.{Linear};
+ghost use Rattle.points.specs.Refusal.{said};
 ghost use Rattle.envelope.specs.Envelope.{new};
 ghost use Rattle.session.specs.Calls.{Obeys};
 ghost use Rattle.history.specs.After.{After};
 ghost use Rattle.history.specs.Entries.{typedCall};
 ghost use Rattle.replay.specs.Replay.{otherFrom, callFrom, replayed, saidOf};
-use curve::CurveType;
 use envelope::AutomationEnvelope;
 use envelope::edit::Edit;
 use envelope::edit::Join;
 use envelope::edit::PointsEdit;
 use points::AutomationPoint;
-use points::SamplePosition;
 use points::refusal::Answer;
-use points::refusal::Refusal;
 use session::Session;
 use session::SessionAnswer;
-
-fn point(time: f64, value: f32) -> AutomationPoint
-    ensures { λ r. ⌜ r ≡ pointWith time value Linear ⌝ }
-{
-    AutomationPoint {
-        time,
-        sample_position: SamplePosition::None,
-        value,
-        curve: CurveType::Linear,
-    }
-}
 
 // The envelope with one point, which a merge takes.
 fn other(x: f64, y: f32) -> AutomationEnvelope
     ensures { λ r. ⌜ r ≡ otherFrom x y ⌝ }
 {
     let empty = AutomationEnvelope::new(0);
-    let r = empty.add_point(point(x, y));
+    let r = empty.add_point(AutomationPoint::new(x, y));
     r.envelope
 }
 
@@ -57,27 +41,10 @@ fn call(session: Session, kind: u8, x: f64, y: f32, memory: &mut [u64]) -> Sessi
         4 => session.edit(Edit::OfPoints(PointsEdit::ShiftPoints(x)), memory),
         5 => session.edit(Edit::OfPoints(PointsEdit::Scale(y)), memory),
         6 => session.join(Join::Merge(x), other(x, y), memory),
-        _ => session.edit(Edit::OfPoints(PointsEdit::AddPoint(point(x, y))), memory),
-    }
-}
-
-fn number(why: Refusal) -> u32
-    ensures { λ r. ⌜ r ≡ number why ⌝ }
-{
-    match why {
-        Refusal::NotValid => 1,
-        Refusal::SheetCurve => 2,
-        Refusal::NotFinite => 3,
-        Refusal::BoundsCross => 4,
-        Refusal::TooManyPoints => 5,
-        Refusal::TimesDontRise => 6,
-        Refusal::KeysDontRise => 7,
-        Refusal::NoRoom => 8,
-        Refusal::SheetForm => 9,
-        Refusal::NoStep => 10,
-        Refusal::MemoryLength => 11,
-        Refusal::StoredState => 12,
-        Refusal::TooManySamples => 13,
+        _ => session.edit(
+            Edit::OfPoints(PointsEdit::AddPoint(AutomationPoint::new(x, y))),
+            memory,
+        ),
     }
 }
 
@@ -87,7 +54,7 @@ fn code(answer: Answer) -> u32
 {
     match answer {
         Answer::Accepted => 0,
-        Answer::Refused(why) => number(why),
+        Answer::Refused(why) => why.number(),
     }
 }
 
@@ -109,7 +76,10 @@ pub fn replay(
     ensures { λ r. ⌜ After (new target) (now (memory .entry)) (replayed (now (kinds .entry)) (now (xs .entry)) (now (ys .entry)) (now (codes .entry))) (map saidOf (take (length (replayed (now (kinds .entry)) (now (xs .entry)) (now (ys .entry)) (now (codes .entry)))) (now (codes .exit)))) r (now (memory .exit)) ⌝ }
     ensures { λ _. ⌜ drop (length (replayed (now (kinds .entry)) (now (xs .entry)) (now (ys .entry)) (now (codes .entry)))) (now (codes .exit)) ≡ drop (length (replayed (now (kinds .entry)) (now (xs .entry)) (now (ys .entry)) (now (codes .entry)))) (now (codes .entry)) ⌝ }
 {
-    let n = shorter(shorter(kinds.len(), xs.len()), shorter(ys.len(), codes.len()));
+    let n = shorter(
+        shorter(kinds.len(), xs.len()),
+        shorter(ys.len(), codes.len()),
+    );
     let mut session = Session::open(target, memory);
     let mut i: usize = 0;
     while i < n {

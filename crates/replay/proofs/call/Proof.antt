@@ -1,6 +1,5 @@
-use mathlib.Core.Path.{_≡_, ap, sym, _∙_}
+use mathlib.Core.Path.{ap, sym, _∙_}
 use denote.Ref.{now}
-use Rattle.curve.specs.declared.CurveType.the-variants.{Linear}
 use Rattle.points.specs.declared.AutomationPoint.{AutomationPoint}
 use Rattle.envelope.specs.declared.AutomationEnvelope.{AutomationEnvelope}
 use Rattle.envelope.specs.declared.edit.Edit.the-variants.{OfPoints}
@@ -11,138 +10,108 @@ use Rattle.replay.specs.Replay.{is-back, is-forward, is-off, is-on, is-s
 use borrow.Author.Needs.{needs}
 use Rattle.replay.proofs.call.Statement.{statement}
 use Rattle.replay.proofs.call.Tie as tie
-use Rattle.replay.proofs.call.Reads as reads
-use Rattle.replay.proofs.call.Lts as lts
-use Rattle.replay.proofs.other.Reads as other-reads
-use Rattle.replay.proofs.point.Reads as point-reads
-use Rattle.session.proofs.Session.back.Reads as back-reads
-use Rattle.session.proofs.Session.edit.Reads as edit-reads
-use Rattle.session.proofs.Session.forward.Reads as forward-reads
-use Rattle.session.proofs.Session.join.Reads as join-reads
 
--- src/lib.rt:53:14
 back-requires : tie.Need-back-requires
 back-requires c κs = search needs
 
--- src/lib.rt:54:14
 forward-requires : tie.Need-forward-requires
 forward-requires c κs = search needs
 
--- src/lib.rt:55:14
 edit-requires : tie.Need-edit-requires
 edit-requires c κs = search needs
 
--- src/lib.rt:56:14
 edit-requires-2 : tie.Need-edit-requires-2
 edit-requires-2 c κs = search needs
 
--- src/lib.rt:57:14
 edit-requires-3 : tie.Need-edit-requires-3
 edit-requires-3 c κs = search needs
 
--- src/lib.rt:58:14
 edit-requires-4 : tie.Need-edit-requires-4
 edit-requires-4 c κs = search needs
 
--- src/lib.rt:59:43
 other-requires : tie.Need-other-requires
 other-requires c κs = search needs
 
--- src/lib.rt:59:14
 join-requires : tie.Need-join-requires
 join-requires c κs = search needs
 
--- src/lib.rt:60:63
-point-requires : tie.Need-point-requires
-point-requires c κs = search needs
+new-requires : tie.Need-new-requires
+new-requires c κs = search needs
 
--- src/lib.rt:60:14
 edit-requires-5 : tie.Need-edit-requires-5
 edit-requires-5 c κs = search needs
 
--- src/lib.rt:48:1
 same-length : tie.Need-same-length
 same-length c = search needs
 
--- src/lib.rt:48:1
 returns : tie.Need-returns
-returns c = 
+returns c =
     let a = c .before .before .before .before .before .before .args in
     (c .before .before .back .ensures ∙ ap (λ (c : Call). callOf c (a .session) (now (a .memory))) (sym (is-back (a .kind) (a .x) (a .y) (c .before .before .before .before .match .keys1))), call-typed (a .kind) (a .x) (a .y) (c .before .before .before .before .before .before .good .1 .1 .0 .1) (c .before .before .before .before .before .before .good .1 .1 .1 .0 .1))
 
--- src/lib.rt:48:1
 same-length-2 : tie.Need-same-length-2
 same-length-2 c = search needs
 
--- src/lib.rt:48:1
 returns-2 : tie.Need-returns-2
-returns-2 c = 
+returns-2 c =
     let a = c .before .before .before .before .before .before .args in
     (c .before .before .forward .ensures ∙ ap (λ (c : Call). callOf c (a .session) (now (a .memory))) (sym (is-forward (a .kind) (a .x) (a .y) (c .before .before .before .before .match .keys2))), call-typed (a .kind) (a .x) (a .y) (c .before .before .before .before .before .before .good .1 .1 .0 .1) (c .before .before .before .before .before .before .good .1 .1 .1 .0 .1))
 
--- src/lib.rt:48:1
 same-length-3 : tie.Need-same-length-3
 same-length-3 c = search needs
 
--- src/lib.rt:48:1
 returns-3 : tie.Need-returns-3
-returns-3 c = 
+returns-3 c =
     let a = c .before .before .before .before .before .before .args in
     (c .before .before .edit .ensures ∙ ap (λ (c : Call). callOf c (a .session) (now (a .memory))) (sym (is-off (a .kind) (a .x) (a .y) (c .before .before .before .before .match .keys3))), call-typed (a .kind) (a .x) (a .y) (c .before .before .before .before .before .before .good .1 .1 .0 .1) (c .before .before .before .before .before .before .good .1 .1 .1 .0 .1))
 
--- src/lib.rt:48:1
 same-length-4 : tie.Need-same-length-4
 same-length-4 c = search needs
 
--- src/lib.rt:48:1
 returns-4 : tie.Need-returns-4
-returns-4 c = 
+returns-4 c =
     let a = c .before .before .before .before .before .before .args in
     (c .before .before .edit2 .ensures ∙ ap (λ (c : Call). callOf c (a .session) (now (a .memory))) (sym (is-on (a .kind) (a .x) (a .y) (c .before .before .before .before .match .keys4))), call-typed (a .kind) (a .x) (a .y) (c .before .before .before .before .before .before .good .1 .1 .0 .1) (c .before .before .before .before .before .before .good .1 .1 .1 .0 .1))
 
--- src/lib.rt:48:1
 same-length-5 : tie.Need-same-length-5
 same-length-5 c = search needs
 
--- src/lib.rt:48:1
 returns-5 : tie.Need-returns-5
-returns-5 c = 
+returns-5 c =
     let a = c .before .before .before .before .before .before .args in
     (c .before .before .edit3 .ensures ∙ ap (λ (c : Call). callOf c (a .session) (now (a .memory))) (sym (is-shift (a .kind) (a .x) (a .y) (c .before .before .before .before .match .keys5))), call-typed (a .kind) (a .x) (a .y) (c .before .before .before .before .before .before .good .1 .1 .0 .1) (c .before .before .before .before .before .before .good .1 .1 .1 .0 .1))
 
--- src/lib.rt:48:1
 same-length-6 : tie.Need-same-length-6
 same-length-6 c = search needs
 
--- src/lib.rt:48:1
 returns-6 : tie.Need-returns-6
-returns-6 c = 
+returns-6 c =
     let a = c .before .before .before .before .before .before .args in
     (c .before .before .edit4 .ensures ∙ ap (λ (c : Call). callOf c (a .session) (now (a .memory))) (sym (is-scale (a .kind) (a .x) (a .y) (c .before .before .before .before .match .keys6))), call-typed (a .kind) (a .x) (a .y) (c .before .before .before .before .before .before .good .1 .1 .0 .1) (c .before .before .before .before .before .before .good .1 .1 .1 .0 .1))
 
--- src/lib.rt:48:1
 same-length-7 : tie.Need-same-length-7
 same-length-7 c = search needs
 
--- src/lib.rt:48:1
 returns-7 : tie.Need-returns-7
-returns-7 c = 
-    let a = c .before .before .before .before .before .before .before .args in
-    (c .before .before .join .ensures ∙ ap (λ (o : AutomationEnvelope). callOf (edit (joined (Merge (a .x)) o)) (a .session) (now (a .memory))) (c .before .before .before .before .other .ensures)
-    ∙ ap (λ (c : Call). callOf c (a .session) (now (a .memory))) (sym (is-merge (a .kind) (a .x) (a .y) (c .before .before .before .before .before .match .keys7))), call-typed (a .kind) (a .x) (a .y) (c .before .before .before .before .before .before .before .good .1 .1 .0 .1) (c .before .before .before .before .before .before .before .good .1 .1 .1 .0 .1))
+returns-7 c =
+    let a = c .before .before .before .before .before .before .before .args in (
+      c .before .before .join .ensures ∙ ap (λ (o : AutomationEnvelope). callOf (edit (joined (Merge (a .x)) o)) (a .session) (now (a .memory))) (c .before .before .before .before .other .ensures)
+          ∙ ap (λ (c : Call). callOf c (a .session) (now (a .memory))) (sym (is-merge (a .kind) (a .x) (a .y) (c .before .before .before .before .before .match .keys7))),
+      call-typed (a .kind) (a .x) (a .y) (c .before .before .before .before .before .before .before .good .1 .1 .0 .1) (c .before .before .before .before .before .before .before .good .1 .1 .1 .0 .1),
+    )
 
--- src/lib.rt:48:1
 same-length-8 : tie.Need-same-length-8
 same-length-8 c = search needs
 
--- src/lib.rt:48:1
 returns-8 : tie.Need-returns-8
-returns-8 c = 
+returns-8 c =
     let a = c .before .before .before .before .before .before .before .args in
-    let r = c .before .before .before .before .before .match .rest in
-    (c .before .before .edit5 .ensures ∙ ap (λ (p : AutomationPoint). callOf (edit (alone (OfPoints (AddPoint p)))) (a .session) (now (a .memory))) (c .before .before .before .before .point .ensures)
-    ∙ ap (λ (c : Call). callOf c (a .session) (now (a .memory)))
-    (sym (is-add (a .kind) (a .x) (a .y) (r .0 .0 .0 .0 .0 .0 .1) (r .0 .0 .0 .0 .0 .1) (r .0 .0 .0 .0 .1) (r .0 .0 .0 .1) (r .0 .0 .1) (r .0 .1) (r .1))), call-typed (a .kind) (a .x) (a .y) (c .before .before .before .before .before .before .before .good .1 .1 .0 .1) (c .before .before .before .before .before .before .before .good .1 .1 .1 .0 .1))
+    let r = c .before .before .before .before .before .match .rest in (
+      c .before .before .edit5 .ensures ∙ ap (λ (p : AutomationPoint). callOf (edit (alone (OfPoints (AddPoint p)))) (a .session) (now (a .memory))) (c .before .before .before .before .new .ensures)
+          ∙ ap (λ (c : Call). callOf c (a .session) (now (a .memory)))
+          (sym (is-add (a .kind) (a .x) (a .y) (r .0 .0 .0 .0 .0 .0 .1) (r .0 .0 .0 .0 .0 .1) (r .0 .0 .0 .0 .1) (r .0 .0 .0 .1) (r .0 .0 .1) (r .0 .1) (r .1))),
+      call-typed (a .kind) (a .x) (a .y) (c .before .before .before .before .before .before .before .good .1 .1 .0 .1) (c .before .before .before .before .before .before .before .good .1 .1 .1 .0 .1),
+    )
 
 pub call-spec : {M : Type 1} → statement M
 call-spec =
@@ -156,7 +125,7 @@ call-spec =
     edit-requires-4
     other-requires
     join-requires
-    point-requires
+    new-requires
     edit-requires-5
     same-length
     returns

@@ -1,4 +1,4 @@
-use mathlib.Core.Path.{_≡_, ap, _∙_}
+use mathlib.Core.Path.{ap, _∙_}
 use Rattle.curve.specs.declared.CurveType.the-variants.{Linear}
 use Rattle.points.specs.declared.AutomationPoint.{AutomationPoint}
 use Rattle.points.specs.Point.{pointWith}
@@ -10,31 +10,22 @@ use Rattle.replay.specs.Replay.{otherFrom}
 use borrow.Author.Needs.{needs}
 use Rattle.replay.proofs.other.Statement.{statement}
 use Rattle.replay.proofs.other.Tie as tie
-use Rattle.replay.proofs.other.Reads as reads
-use Rattle.replay.proofs.other.Lts as lts
-use Rattle.envelope.proofs.AutomationEnvelope.add_point.Reads as add-point-reads
-use Rattle.envelope.proofs.AutomationEnvelope.new.Reads as new-reads
-use Rattle.replay.proofs.point.Reads as point-reads
 
--- src/lib.rt:42:9
 new-requires : tie.Need-new-requires
 new-requires c κs = search needs
 
--- src/lib.rt:43:29
-point-requires : tie.Need-point-requires
-point-requires c κs = search needs
+new-requires-2 : tie.Need-new-requires-2
+new-requires-2 c κs = search needs
 
--- src/lib.rt:43:9
 add-point-requires : tie.Need-add-point-requires
 add-point-requires c κs = search needs
 
--- src/lib.rt:39:1
 returns : tie.Need-returns
 unfolding otherFrom
-returns c = 
+returns c =
     ap (λ (t : EditTold). t .envelope) (c .before .add-point .ensures)
-    ∙ ap (λ (p : AutomationPoint). editOf (OfPoints (AddPoint p)) (c .before .before .before .new .result) .envelope) (c .before .before .point .ensures)
+    ∙ ap (λ (p : AutomationPoint). editOf (OfPoints (AddPoint p)) (c .before .before .before .new .result) .envelope) (c .before .before .new2 .ensures)
     ∙ ap (λ (e : AutomationEnvelope). editOf (OfPoints (AddPoint (pointWith (c .before .before .before .before .args .x) (c .before .before .before .before .args .y) Linear))) e .envelope) (c .before .before .before .new .ensures)
 
 pub other-spec : {M : Type 1} → statement M
-other-spec = tie.close (tie.spec new-requires point-requires add-point-requires returns)
+other-spec = tie.close (tie.spec new-requires new-requires-2 add-point-requires returns)

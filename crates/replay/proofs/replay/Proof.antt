@@ -40,10 +40,14 @@ open-requires c κs = search needs
 
 -- src/lib.rt:115:5
 loop-holds : tie.Need-loop-holds Inv-loop μ-loop
-loop-holds c = 
-    let a = c .before .before .before .before .before .before .before .before .before .before .args in
-    (omega arith, c .before .before .shorter3 .ensures ∙ (λ i. min (c .before .before .before .before .shorter .ensures i) (c .before .before .before .shorter2 .ensures i)), refl, refl,
-     begun (a .target) (now (a .memory)) (now (a .kinds)) (now (a .xs)) (now (a .ys)) (now (a .codes)) _ (c .«open» .ensures))
+loop-holds c =
+    let a = c .before .before .before .before .before .before .before .before .before .before .args in (
+      omega arith,
+      c .before .before .shorter3 .ensures ∙ (λ i. min (c .before .before .before .before .shorter .ensures i) (c .before .before .before .shorter2 .ensures i)),
+      refl,
+      refl,
+      begun (a .target) (now (a .memory)) (now (a .kinds)) (now (a .xs)) (now (a .ys)) (now (a .codes)) _ (c .«open» .ensures),
+    )
 
 -- src/lib.rt:116:31
 shared-slice-read-call : tie.Need-shared-slice-read-call Inv-loop μ-loop
@@ -91,14 +95,18 @@ loop-less c = search needs
 
 -- src/lib.rt:115:5
 loop-again : tie.Need-loop-again Inv-loop μ-loop
-loop-again c = 
+loop-again c =
     let a = c .before .before .before .before .before .before .before .before .before .before .before .before .before .before .before .before .before .before .before .before .before .args in
     let l = c .before .before .before .before .before .before .before .before .before .before .loop in
-    let t = c .before .before .before .before .before .before .before .before .before .loop-test .taken in
-    (omega (arith, t), l .inv .1, c .before .before .before .before .call .kept .1 .1 .1 .1 .0 ∙ l .inv .2, simp length-set (l .inv .3),
-     again (a .target) (now (a .memory)) (now (a .kinds)) (now (a .xs)) (now (a .ys)) (now (a .codes)) (l .codes) (l .i) (l .session) (l .memory) (l .inv .4)
-     (c .before .before .before .before .call .result) _ (c .before .code .result) (omega (arith, t, l .inv .1)) (omega (arith, t, l .inv .1)) (omega (arith, t, l .inv .1)) (omega (arith, t, l .inv .1, l .inv .3))
-     (c .before .before .before .before .call .ensures .0) (c .before .before .before .before .call .ensures .1) (c .before .code .ensures))
+    let t = c .before .before .before .before .before .before .before .before .before .loop-test .taken in (
+      omega (arith, t),
+      l .inv .1,
+      c .before .before .before .before .call .kept .1 .1 .1 .1 .0 ∙ l .inv .2,
+      simp length-set (l .inv .3),
+      again (a .target) (now (a .memory)) (now (a .kinds)) (now (a .xs)) (now (a .ys)) (now (a .codes)) (l .codes) (l .i) (l .session) (l .memory) (l .inv .4)
+          (c .before .before .before .before .call .result) _ (c .before .code .result) (omega (arith, t, l .inv .1)) (omega (arith, t, l .inv .1)) (omega (arith, t, l .inv .1)) (omega (arith, t, l .inv .1, l .inv .3))
+          (c .before .before .before .before .call .ensures .0) (c .before .before .before .before .call .ensures .1) (c .before .code .ensures),
+    )
 
 -- src/lib.rt:101:1
 same-length : tie.Need-same-length Inv-loop μ-loop
@@ -110,7 +118,7 @@ same-length-2 c = search needs
 
 -- src/lib.rt:101:1
 returns : tie.Need-returns Inv-loop μ-loop
-returns c = 
+returns c =
     let a = c .before .before .before .before .before .before .before .before .before .before .before .before .args in
     let l = c .before .loop in
     ended (a .target) (now (a .memory)) (now (a .kinds)) (now (a .xs)) (now (a .ys)) (now (a .codes)) (l .codes) (l .i) (l .session) (l .memory) (l .inv .4)
