@@ -7,7 +7,6 @@ use lookup::Limit;
 use points::AutomationPoint;
 use points::SamplePosition;
 use points::refusal::Answer;
-use points::refusal::Refusal;
 
 fn shorter(n: usize, m: usize) -> usize
     ensures { λ r. ⌜ r ≡ min n m ⌝ }
@@ -64,18 +63,11 @@ pub(crate) fn made(times: &[f64], values: &[f32], code: u32) -> AutomationEnvelo
     }
 }
 
-// The refusals that an edit can give, by 01's numbers; 0 for none.
+// 01's number of a refusal; 0 for none.
 fn number(answer: Answer) -> u64 {
     match answer {
         Answer::Accepted => 0,
-        Answer::Refused(why) => match why {
-            Refusal::NotValid => 1,
-            Refusal::NotFinite => 3,
-            Refusal::BoundsCross => 4,
-            Refusal::TooManyPoints => 5,
-            Refusal::TimesDontRise => 6,
-            _ => 15,
-        },
+        Answer::Refused(why) => why.number() as u64,
     }
 }
 

@@ -1,6 +1,5 @@
 use Prim.Native.Nat.{_≤_, _-_}
 use native.Mathlib.Omega.{arith}
-use lib.ListN.{length}
 use Rattle.bench_exports.proofs.bench.rattle_edit.Statement.{statement}
 use Rattle.bench_exports.proofs.bench.rattle_edit.Tie as tie
 use Rattle.bench_exports.proofs.bench.rattle_edit.Reads as reads
