@@ -14,8 +14,8 @@ use Rattle.points.specs.Refusal.{Said, refuses, gives}
 use Rattle.render.specs.Render.{written, Rendered, declined, lastSample, runInto, render}
 use Rattle.lookup.specs.Runs.{run, run-long}
 use Rattle.envelope.specs.Envelope.{limitsOf, validEnvelope}
-use Rattle.sheet.specs.Told.{Put}
-use Rattle.sheet.proofs.Texts.{put-all}
+use Rattle.fields.specs.Told.{Put}
+use Rattle.fields.proofs.Stores.{put-all}
 use Rattle.play.specs.Play.{samplesOf, sampleLines}
 use Rattle.play.specs.Blocks.{over, blockCount, blockText, after, BlockTold, declines, nextBlock}
 use Rattle.play.specs.declared.Play.{Play}

@@ -12,12 +12,13 @@ use Rattle.render.specs.Render.{sampleCount, lastSample}
 use Rattle.envelope.specs.Envelope.{new}
 use Rattle.envelope.specs.declared.AutomationEnvelope.{AutomationEnvelope}
 use Rattle.sheet.specs.Sheet.{Input, declined, input, playInput}
-use Rattle.sheet.specs.Told.{Put, Fitted, inputBy, toldInput}
+use Rattle.fields.specs.Told.{Put, Fitted}
+use Rattle.sheet.specs.Told.{inputBy, toldInput}
 use Rattle.sheet.specs.declared.read.SheetAnswer.{SheetAnswer}
 use Rattle.sheet.specs.declared.read.SheetAnswer.the-variants.{Accepted, Refused}
-use Rattle.sheet.specs.declared.play.Block.{Block}
+use Rattle.lines.specs.declared.block.Block.{Block}
 use Rattle.sheet.specs.declared.play.PlayInput.{PlayInput}
-use Rattle.sheet.proofs.Stores.{put-fits}
+use Rattle.fields.proofs.Stores.{put-fits}
 use Rattle.play.specs.Play.{sampleNames, refusalText, counted}
 use Rattle.play.specs.Blocks.{firstText, firstPlay, Opens}
 use Rattle.play.specs.declared.Opened.{Opened}

@@ -9,11 +9,12 @@ use lib.Ieee.{Float, binary32, toBits}
 use lib.ListN.{length, take, getD, length-append, length-take}
 use lib.Seq.{take-suc, length-take-le}
 use Rattle.lookup.specs.Runs.{run}
-use Rattle.sheet.specs.Text.{placesOf, numberText, decimalText}
+use Rattle.fields.specs.Text.{placesOf, numberText, decimalText}
 use Rattle.sheet.specs.Sheet.{Input, declined, input}
-use Rattle.sheet.specs.Told.{Put, Fitted}
-use Rattle.sheet.proofs.Stores.{length-number, put-length, put-then, put-fits}
-use Rattle.sheet.proofs.Texts.{places-le, put-all}
+use Rattle.fields.specs.Told.{Put, Fitted}
+use Rattle.fields.proofs.Stores.{length-number, put-length, put-then, put-fits}
+use Rattle.fields.proofs.Places.{places-le}
+use Rattle.fields.proofs.Stores.{put-all}
 use Rattle.play.specs.Play.{sampleLine, sampleLines, refusalNames, refusalText}
 use Rattle.play.specs.Blocks.{firstText, firstPlay, Opens}
 use Rattle.play.specs.Output.{lines-append}

@@ -12,10 +12,11 @@ use Rattle.points.specs.Search.{placeBy}
 use Rattle.lookup.specs.Limits.{constrained}
 use Rattle.lookup.specs.Lookup.{surrounded, fraction, rawAt}
 use Rattle.lookup.specs.Runs.{run}
-use Rattle.sheet.specs.Form.{text, startsWith, nextIs, readDigits, numberForm, optionalForm, decimals, nextDigit, targetForm}
-use Rattle.sheet.specs.Lines.{settingsForm, limitOf, finiteBits, settingsMeaning, settingsLine, controlsForm, pointForm, positionOf, pointMeaning, pointLine, blockForm, blockMeaning, blockLine}
-use Rattle.sheet.specs.Sheet.{isEmpty, pointsEnd, pointLines, sheetLines, playInput}
-use Rattle.sheet.specs.Text.{digitByte, digitsOf, placesOf}
+use Rattle.fields.specs.Form.{text, startsWith, nextIs, readDigits, numberForm, optionalForm, decimals, nextDigit, targetForm}
+use Rattle.lines.specs.Lines.{settingsForm, limitOf, finiteBits, settingsMeaning, settingsLine, controlsForm, pointForm, positionOf, pointMeaning, pointLine, blockForm, blockMeaning, blockLine}
+use Rattle.lines.specs.PointLines.{isEmpty, pointsEnd, pointLines}
+use Rattle.sheet.specs.Sheet.{sheetLines, playInput}
+use Rattle.fields.specs.Text.{digitByte, digitsOf, placesOf}
 use Rattle.play.specs.Play.{sampleLine, sampleLines, refusalText, counted, printed, output}
 
 -- 01's input, with a line of rate and duration

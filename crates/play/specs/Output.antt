@@ -18,11 +18,12 @@ use Rattle.render.specs.Render.{sampleCount, lastSample}
 use Rattle.lookup.specs.Runs.{run, run-long, run-cut}
 use Rattle.envelope.specs.Envelope.{new, validEnvelope}
 use Rattle.envelope.specs.declared.AutomationEnvelope.{AutomationEnvelope}
-use Rattle.sheet.specs.Form.{Got, bad, got}
-use Rattle.sheet.specs.Lines.{Line, refused, line, meant, lineOf, check, blockForm, blockLine, blockMeaning}
-use Rattle.sheet.specs.Sheet.{Lines, stop, lines, isEmpty, Input, declined, input, sheetLines, blockFrom, lastLine, playInput}
-use Rattle.sheet.specs.declared.play.RawBlock.{RawBlock}
-use Rattle.sheet.specs.declared.play.Block.{Block}
+use Rattle.fields.specs.Form.{Got, bad, got}
+use Rattle.lines.specs.Lines.{Line, refused, line, meant, lineOf, check, blockForm, blockLine, blockMeaning}
+use Rattle.lines.specs.PointLines.{Lines, stop, lines, isEmpty}
+use Rattle.sheet.specs.Sheet.{Input, declined, input, sheetLines, blockFrom, lastLine, playInput}
+use Rattle.lines.specs.declared.block.RawBlock.{RawBlock}
+use Rattle.lines.specs.declared.block.Block.{Block}
 use Rattle.sheet.proofs.Sheets.{sheet-read}
 use Rattle.sheet.proofs.Prefix.{input-decided}
 use Rattle.play.specs.Play.{sampleNames, samplesOf, sampleLine, sampleLines, refusalText, counted, printed, output}

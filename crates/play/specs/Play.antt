@@ -8,9 +8,9 @@ use Rattle.lookup.specs.Runs.{run}
 use Rattle.render.specs.Render.{sampleAt, sampleCount, lastSample}
 use Rattle.envelope.specs.Envelope.{limitsOf}
 use Rattle.envelope.specs.declared.AutomationEnvelope.{AutomationEnvelope}
-use Rattle.sheet.specs.Form.{text, space, newline}
+use Rattle.fields.specs.Form.{text, space, newline}
 use Rattle.sheet.specs.Sheet.{Input, declined, input, playInput}
-use Rattle.sheet.specs.Text.{digitsOf, placesOf, numberText, decimalText}
+use Rattle.fields.specs.Text.{digitsOf, placesOf, numberText, decimalText}
 
 -- "prints names": those above the samples, and those above a refusal
 abbrev pub sampleNames : List ℕ

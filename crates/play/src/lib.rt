@@ -63,7 +63,7 @@ pub fn open(s: &[u8], out: &mut [u8; 20480]) -> Opened
                 return refused(Refusal::TooManySamples, 0, out);
             }
             let envelope = r.envelope;
-            let bytes = sheet::write::fit_text(out, 0, b"sample value\n");
+            let bytes = fields::write::fit_text(out, 0, b"sample value\n");
             Opened {
                 bytes,
                 play: Play {

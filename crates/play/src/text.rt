@@ -4,7 +4,7 @@ ghost use Prim.Native.Nat.{_+_, _*_, _≤_};
 ghost use lib.ListN.{length, take};
 ghost use lib.Ieee.{binary32, toBits};
 ghost use Rattle.points.specs.Refusal.{number};
-ghost use Rattle.sheet.specs.Told.{Put};
+ghost use Rattle.fields.specs.Told.{Put};
 ghost use Rattle.play.specs.Play.{sampleLine, sampleLines, refusalText};
 use points::refusal::Refusal;
 
@@ -34,9 +34,9 @@ pub(crate) fn put_refusal(out: &mut [u8], why: Refusal, line: u64) -> usize
     requires { ⌜ 35 ≤ length (now out) ⌝ }
     ensures { λ r. ⌜ Put (now (out .entry)) 0 (refusalText (number why) line) (now (out .exit)) r ⌝ }
 {
-    let a = sheet::write::fit_text(&mut *out, 0, b"refusal line\n");
-    let b = sheet::write::fit_decimal(&mut *out, a, number_of(why), b' ');
-    sheet::write::fit_decimal(&mut *out, b, line, b'\n')
+    let a = fields::write::fit_text(&mut *out, 0, b"refusal line\n");
+    let b = fields::write::fit_decimal(&mut *out, a, number_of(why), b' ');
+    fields::write::fit_decimal(&mut *out, b, line, b'\n')
 }
 
 // A sample's bits. A NaN's are not determined: it is printed as the quiet one without a sign.
@@ -53,8 +53,8 @@ fn put_line(out: &mut [u8], at: usize, number: u64, x: f32) -> usize
     requires { ⌜ at + 20 ≤ length (now out) ⌝ }
     ensures { λ r. ⌜ Put (now (out .entry)) at (sampleLine number x) (now (out .exit)) r ⌝ }
 {
-    let a = sheet::write::fit_decimal(&mut *out, at, number, b' ');
-    sheet::write::fit_bits(&mut *out, a, bits_of(x), b'\n')
+    let a = fields::write::fit_decimal(&mut *out, at, number, b' ');
+    fields::write::fit_bits(&mut *out, a, bits_of(x), b'\n')
 }
 
 // The lines of the first n samples, numbered from `first` on.

@@ -1,17 +1,6 @@
-pub mod Entries
-pub mod ReadDigits
-pub mod Fields
-pub mod Starts
-pub mod Decimal
-pub mod Floats
 pub mod Answers
-pub mod Forms
-pub mod Reading
-pub mod Stores
 pub mod Texts
 pub mod Valid
-pub mod Back
-pub mod Target
 pub mod LineForms
 pub mod Meanings
 pub mod Sheets

@@ -7,18 +7,19 @@ use native.Mathlib.Omega.{arith}
 use lib.ListN.{drop}
 use lib.Dec.{eqb}
 use borrow.Author.Tests.{eqb-true, eqb-false}
-use Rattle.sheet.specs.Form.{got, startsWith, numberForm, optionalForm, targetForm}
-use Rattle.sheet.specs.Lines.{settingsForm, dashes, controlsForm, pointForm}
-use Rattle.sheet.specs.Text.{numberText, optionalText, decimalText, settingsText, controlsText, pointText}
-use Rattle.sheet.specs.Told.{Below}
-use Rattle.sheet.specs.declared.settings.RawSettings.{RawSettings}
-use Rattle.sheet.specs.declared.point.RawPoint.{RawPoint}
-use Rattle.sheet.proofs.ReadDigits.{number-lt}
-use Rattle.sheet.proofs.Decimal.{target-lt}
-use Rattle.sheet.proofs.Starts.{starts-back}
-use Rattle.sheet.proofs.Forms.{unthen, uncond, optional-lt}
-use Rattle.sheet.proofs.Back.{read-number, write-number, read-optional, write-optional}
-use Rattle.sheet.proofs.Target.{read-target, write-target}
+use Rattle.fields.specs.Form.{got, startsWith, numberForm, optionalForm, targetForm}
+use Rattle.lines.specs.Lines.{settingsForm, dashes, controlsForm, pointForm}
+use Rattle.fields.specs.Text.{numberText, optionalText, decimalText}
+use Rattle.sheet.specs.Text.{settingsText, controlsText, pointText}
+use Rattle.fields.specs.Told.{Below}
+use Rattle.lines.specs.declared.settings.RawSettings.{RawSettings}
+use Rattle.lines.specs.declared.point.RawPoint.{RawPoint}
+use Rattle.fields.proofs.ReadDigits.{number-lt}
+use Rattle.fields.proofs.Decimal.{target-lt}
+use Rattle.fields.proofs.Starts.{starts-back}
+use Rattle.fields.proofs.Forms.{unthen, uncond, optional-lt}
+use Rattle.fields.proofs.Back.{read-number, write-number, read-optional, write-optional}
+use Rattle.fields.proofs.Target.{read-target, write-target}
 
 -- five parts in a row, and what follows
 parts : (a b c d e rest : List ℕ) → (a ++ (b ++ (c ++ (d ++ e)))) ++ rest ≡ a ++ (b ++ (c ++ (d ++ (e ++ rest))))

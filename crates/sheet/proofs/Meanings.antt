@@ -26,16 +26,16 @@ use Rattle.lookup.specs.declared.Limit.the-variants as limit
 use Rattle.envelope.specs.Envelope.{limitsOf}
 use Rattle.envelope.specs.Typed.{typedCurve, typedPosition, typedPoint, typedLimit}
 use Rattle.envelope.specs.declared.AutomationEnvelope.{AutomationEnvelope}
-use Rattle.sheet.specs.Lines.{check, limitOf, finiteBits, settingsMeaning, positionOf, pointMeaning}
+use Rattle.lines.specs.Lines.{check, limitOf, finiteBits, settingsMeaning, positionOf, pointMeaning}
 use Rattle.sheet.specs.Sheet.{envelopeOf}
 use Rattle.sheet.specs.Text.{limitBits, rawSettings, positionBits, rawPoint}
-use Rattle.sheet.specs.Told.{Below}
-use Rattle.sheet.specs.declared.field.Optional.{Optional}
-use Rattle.sheet.specs.declared.field.Optional.the-variants as optional
-use Rattle.sheet.specs.declared.settings.RawSettings.{RawSettings}
-use Rattle.sheet.specs.declared.settings.Settings.{Settings}
-use Rattle.sheet.specs.declared.point.RawPoint.{RawPoint}
-use Rattle.sheet.proofs.Floats.{finite-no-nan}
+use Rattle.fields.specs.Told.{Below}
+use Rattle.fields.specs.declared.Optional.{Optional}
+use Rattle.fields.specs.declared.Optional.the-variants as optional
+use Rattle.lines.specs.declared.settings.RawSettings.{RawSettings}
+use Rattle.lines.specs.declared.settings.Settings.{Settings}
+use Rattle.lines.specs.declared.point.RawPoint.{RawPoint}
+use Rattle.lines.proofs.Floats.{finite-no-nan}
 use Rattle.sheet.proofs.LineForms.{FineSettings, FinePoint}
 use Rattle.sheet.proofs.Valid.{finite-time, finite-value, finite-cp1, finite-cp2, finite-min, finite-max, finite-step}
 

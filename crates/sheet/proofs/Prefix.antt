@@ -14,19 +14,20 @@ use Rattle.points.specs.Refusal.{Said, refuses, gives}
 use Rattle.points.specs.declared.AutomationPoint.{AutomationPoint}
 use Rattle.points.specs.declared.Points.{Points}
 use Rattle.envelope.specs.declared.AutomationEnvelope.{AutomationEnvelope}
-use Rattle.sheet.specs.Form.{Got, bad, got, then, startsWith, nextIs, ended, digit, readDigits, numberForm, optionalForm, decimals, nextDigit, targetForm}
-use Rattle.sheet.specs.Lines.{Line, refused, line, meant, lineOf, settingsForm, settingsLine, settingsMeaning, dashes, controlsForm, pointForm, pointLine, pointMeaning, blockForm, blockLine, blockMeaning}
-use Rattle.sheet.specs.Sheet.{Lines, stop, lines, onward, named, settingNames, pointNames, blockNames, isEmpty, pointsEnd, lineAfter, pointLines, withSettings, sheetLines, lastLine, blockFrom, playInput, readFrom, readSheet}
-use Rattle.sheet.specs.Text.{placesOf, decimalText}
-use Rattle.sheet.specs.declared.field.Optional.the-variants as optional
-use Rattle.sheet.specs.declared.settings.RawSettings.{RawSettings}
-use Rattle.sheet.specs.declared.settings.Settings.{Settings}
-use Rattle.sheet.specs.declared.point.RawPoint.{RawPoint}
-use Rattle.sheet.specs.declared.play.RawBlock.{RawBlock}
-use Rattle.sheet.specs.declared.play.Block.{Block}
-use Rattle.sheet.proofs.Stores.{length-number}
-use Rattle.sheet.proofs.Texts.{places-le}
-use Rattle.sheet.proofs.Target.{grows, write-target}
+use Rattle.fields.specs.Form.{Got, bad, got, then, startsWith, nextIs, ended, digit, readDigits, numberForm, optionalForm, decimals, nextDigit, targetForm}
+use Rattle.lines.specs.Lines.{Line, refused, line, meant, lineOf, settingsForm, settingsLine, settingsMeaning, dashes, controlsForm, pointForm, pointLine, pointMeaning, blockForm, blockLine, blockMeaning}
+use Rattle.lines.specs.PointLines.{Lines, stop, lines, onward, blockNames, isEmpty, pointsEnd, lineAfter, pointLines}
+use Rattle.sheet.specs.Sheet.{named, settingNames, pointNames, withSettings, sheetLines, lastLine, blockFrom, playInput, readFrom, readSheet}
+use Rattle.fields.specs.Text.{placesOf, decimalText}
+use Rattle.fields.specs.declared.Optional.the-variants as optional
+use Rattle.lines.specs.declared.settings.RawSettings.{RawSettings}
+use Rattle.lines.specs.declared.settings.Settings.{Settings}
+use Rattle.lines.specs.declared.point.RawPoint.{RawPoint}
+use Rattle.lines.specs.declared.block.RawBlock.{RawBlock}
+use Rattle.lines.specs.declared.block.Block.{Block}
+use Rattle.fields.proofs.Stores.{length-number}
+use Rattle.fields.proofs.Places.{places-le}
+use Rattle.fields.proofs.Target.{grows, write-target}
 
 -- ---- a form that k bytes decide
 

@@ -12,7 +12,8 @@ use Rattle.points.specs.Refusal.{refuses, gives}
 use Rattle.envelope.specs.Envelope.{validEnvelope}
 use Rattle.envelope.specs.Typed.{typed}
 use Rattle.envelope.specs.declared.AutomationEnvelope.{AutomationEnvelope}
-use Rattle.sheet.specs.Sheet.{Lines, stop, lines, isEmpty, pointsEnd, sheetLines, sheet, readFrom, readSheet}
+use Rattle.lines.specs.PointLines.{Lines, stop, lines, isEmpty, pointsEnd}
+use Rattle.sheet.specs.Sheet.{sheetLines, sheet, readFrom, readSheet}
 use Rattle.sheet.specs.Text.{sheetText, WriteTold, writeSheet}
 use Rattle.sheet.proofs.Sheets.{SheetRead, sheet-read, sheet-written}
 

@@ -25,14 +25,15 @@ use Rattle.envelope.specs.Typed.{typedPoint, typedPoints, typedLimit, typed}
 use Rattle.envelope.specs.declared.AutomationEnvelope.{AutomationEnvelope}
 use lib.IntN.{pos, negsuc}
 use lib.Ieee.{Float, nan, inf, fin}
-use Rattle.sheet.specs.Form.{Got, bad, got, startsWith}
-use Rattle.sheet.specs.Lines.{Line, refused, line, meant, lineOf, settingsForm, settingsMeaning, settingsLine, pointForm, pointMeaning, pointLine}
-use Rattle.sheet.specs.Sheet.{Lines, stop, lines, onward, named, settingNames, pointNames, isEmpty, pointsEnd, lineAfter, pointLines, envelopeOf, withSettings, sheetLines}
+use Rattle.fields.specs.Form.{Got, bad, got, startsWith}
+use Rattle.lines.specs.Lines.{Line, refused, line, meant, lineOf, settingsForm, settingsMeaning, settingsLine, pointForm, pointMeaning, pointLine}
+use Rattle.lines.specs.PointLines.{Lines, stop, lines, onward, isEmpty, pointsEnd, lineAfter, pointLines}
+use Rattle.sheet.specs.Sheet.{named, settingNames, pointNames, envelopeOf, withSettings, sheetLines}
 use Rattle.sheet.specs.Text.{settingsText, pointText, rawSettings, rawPoint, pointTexts, sheetText}
-use Rattle.sheet.specs.declared.settings.RawSettings.{RawSettings}
-use Rattle.sheet.specs.declared.settings.Settings.{Settings}
-use Rattle.sheet.specs.declared.point.RawPoint.{RawPoint}
-use Rattle.sheet.proofs.Starts.{starts-back}
+use Rattle.lines.specs.declared.settings.RawSettings.{RawSettings}
+use Rattle.lines.specs.declared.settings.Settings.{Settings}
+use Rattle.lines.specs.declared.point.RawPoint.{RawPoint}
+use Rattle.fields.proofs.Starts.{starts-back}
 use Rattle.sheet.proofs.LineForms.{read-settings, settings-found, read-point, point-found}
 use Rattle.sheet.proofs.Meanings.{settingsOf, TypedLimits, settings-read, settings-fine, settings-back, back-limits, point-read, point-fine, point-back, back-finite-point}
 use Rattle.sheet.proofs.Texts.{point-length}

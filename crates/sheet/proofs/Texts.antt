@@ -1,91 +1,59 @@
 -- How long a sheet's lines are, and the points' lines one after the other. Assumes nothing.
-use Prim.Native.Nat.{ℕ, zero, suc, _+_, _-_, _*_, _/_, _≤_, _<_}
+use Prim.Native.Nat.{ℕ, zero, suc, _+_, _*_, _≤_, _<_}
 use mathlib.Core.Path.{_≡_, refl, sym, ap, _∙_}
-use mathlib.Core.Bool.{Bool, true, false, cond, _&&_}
+use mathlib.Core.Bool.{Bool, true, false}
 use mathlib.Core.List.{List, [], _∷_, _++_, append-assoc, append-nil}
-use native.Mathlib.Nat.{zero-add}
 use native.Mathlib.Numerals.{add-one}
 use native.Mathlib.Omega.{arith}
-use borrow.Author.Tests.{lt-ltb, le-ltb, ltb-true, ltb-false, leb-true, leb-false}
-use lib.Dec.{ltb, leb}
-use lib.ListN.{length, take, drop, getD, length-append, length-take}
-use lib.Seq.{take-suc, sets-eq}
+use borrow.Author.Tests.{eq-eqb, ne-eqb, eqb-true, eqb-false}
+use lib.Dec.{eqb}
+use lib.ListN.{length, take, getD, length-append, length-take}
+use lib.Seq.{take-suc}
 use Rattle.points.specs.Laws.{and-right, and-left}
 use Rattle.points.specs.Points.{listOf, every}
 use Rattle.points.specs.declared.AutomationPoint.{AutomationPoint}
-use Rattle.sheet.specs.Text.{numberText, optionalText, placesOf, decimalText, settingsText, controlsText, pointText, rawSettings, rawPoint, pointTexts, sheetText}
 use Rattle.envelope.specs.declared.AutomationEnvelope.{AutomationEnvelope}
+use Rattle.fields.specs.Text.{numberText, optionalText, placesOf, decimalText}
+use Rattle.fields.specs.Told.{Put, Fitted}
+use Rattle.fields.proofs.Places.{places-le}
+use Rattle.fields.proofs.Stores.{length-number, same-length, length-le, front, back, put-then, room-after, fit-then}
+use Rattle.lines.specs.Lines.{dashes}
+use Rattle.lines.specs.declared.settings.RawSettings.{RawSettings}
+use Rattle.lines.specs.declared.point.RawPoint.{RawPoint}
 use Rattle.sheet.specs.Sheet.{settingNames, pointNames}
-use Rattle.sheet.specs.declared.settings.RawSettings.{RawSettings}
-use Rattle.sheet.specs.declared.point.RawPoint.{RawPoint}
-use Rattle.sheet.proofs.Stores.{length-number, same-length, length-le, controls-le, controls-same, back, put-then}
-use Rattle.sheet.specs.Told.{Put}
+use Rattle.sheet.specs.Text.{settingsText, controlsText, pointText, rawSettings, rawPoint, pointTexts, sheetText}
 
--- ---- a number's decimal digits
+-- ---- the controls
 
--- another digit
-pub places-more : (k v : ℕ) → 10 ≤ v → placesOf (suc k) v ≡ placesOf k (v / 10) + 1
-unfolding placesOf
-places-more k v h = rw (le-ltb v 10 h) (sym (add-one (placesOf k (v / 10))))
+module _ (code a b : ℕ) where
+  pub controls-five : code ≡ 5 → numberText 16 8 32 a ++ numberText 16 8 10 b ≡ controlsText code a b
+  controls-five e = rw (eq-eqb code 5 e)
 
--- the last one
-pub places-one : (k v : ℕ) → v < 10 → placesOf (suc k) v ≡ 1
-unfolding placesOf
-places-one k v h = rw (lt-ltb v 10 h)
+  pub controls-other : (code ≡ 5 → ⊥) → dashes ≡ controlsText code a b
+  controls-other e = rw (ne-eqb code 5 e)
 
--- at most one
-pub place-one : (v : ℕ) → placesOf 1 v ≡ 1
-unfolding placesOf
-place-one v = go (ltb v 10)
+  pub five-length : code ≡ 5 → length (controlsText code a b) ≡ 18
+  five-length e =
+      ap length (sym (controls-five e))
+      ∙ omega (arith, length-append (numberText 16 8 32 a) (numberText 16 8 10 b), length-number 16 8 32 a, length-number 16 8 10 b)
+
+  pub other-length : (code ≡ 5 → ⊥) → length (controlsText code a b) ≡ 4
+  other-length e = ap length (sym (controls-other e))
+
+pub controls-le : (code a b : ℕ) → length (controlsText code a b) ≤ 18
+controls-le code a b = go (eqb code 5) refl
   where
-    one : ℕ
-    one = 1
+    go : (t : Bool) → eqb code 5 ≡ t → length (controlsText code a b) ≤ 18
+    go true e = omega (arith, five-length code a b (eqb-true code 5 e))
+    go false e = omega (arith, other-length code a b (eqb-false code 5 e))
 
-    go : (t : Bool) → cond t one one ≡ one
-    go true = refl
-    go false = refl
-
-pub places-le : (k v : ℕ) → placesOf k v ≤ k
-unfolding placesOf
-places-le zero v = omega arith
-places-le (suc k) v = go (ltb v 10) (places-le k (v / 10))
+-- what they are does not matter
+pub controls-same : (code a b : ℕ) → length (controlsText code a b) ≡ length (controlsText code 0 0)
+controls-same code a b = go (eqb code 5) refl
   where
-    go : (t : Bool) → placesOf k (v / 10) ≤ k → cond t 1 (suc (placesOf k (v / 10))) ≤ suc k
-    go true h = omega arith
-    go false h = omega arith
-
--- the loop that counts them, up to ten
-pub record Counting (v left places : ℕ) : Type 0 where
-  pub few : places ≤ 10
-  pub so-far : placesOf 10 v + 1 ≡ places + placesOf (11 - places) left
-
-pub counting : (v : ℕ) → Counting v v 1
-counting v = record { few = omega arith; so-far = omega arith }
-
-module _ {v left places : ℕ} (c : Counting v left places) where
-  pub again : (leb 10 left && ltb places 10) ≡ true → (10 ≤ left) × (places < 10)
-  again h = (leb-true 10 left (and-left (leb 10 left) (ltb places 10) h), ltb-true places 10 (and-right (leb 10 left) (ltb places 10) h))
-
-  pub counts : 10 ≤ left → places < 10 → Counting v (left / 10) (places + 1)
-  counts h m =
-      let k : 11 - places ≡ suc (11 - (places + 1)) = omega arith in
-      record {
-        few = omega arith;
-        so-far = c .so-far ∙ rw (k, places-more (11 - (places + 1)) left h) (omega arith);
-      }
-
-  -- the loop's test fails
-  pub counted : (leb 10 left && ltb places 10) ≡ false → places ≡ placesOf 10 v
-  counted h = omega (arith, c .so-far, last (leb 10 left) refl (ltb places 10) refl h)
-    where
-      last : (s : Bool) → leb 10 left ≡ s → (t : Bool) → ltb places 10 ≡ t → (s && t) ≡ false → placesOf (11 - places) left ≡ 1
-      last false e t q z =
-          let k : 11 - places ≡ suc (10 - places) = omega (arith, c .few) in
-          rw k (places-one (10 - places) left (leb-false 10 left e))
-      last true e false q z =
-          let k : 11 - places ≡ 1 = omega (arith, c .few, ltb-false places 10 q) in
-          rw k (place-one left)
-      last true e true q z = let n : _≡_ {A = ℕ} 0 1 = cc in absurd (omega arith)
+    go : (t : Bool) → eqb code 5 ≡ t → length (controlsText code a b) ≡ length (controlsText code 0 0)
+    go true e = five-length code a b (eqb-true code 5 e) ∙ sym (five-length code 0 0 (eqb-true code 5 e))
+    go false e = other-length code a b (eqb-false code 5 e) ∙ sym (other-length code 0 0 (eqb-false code 5 e))
 
 -- ---- lines
 
@@ -186,6 +154,49 @@ sheet-length e =
 pub texts-few : (e : AutomationEnvelope) → e .points .count ≤ 256 → length (pointTexts (listOf (e .points))) ≤ 16640
 texts-few e h = omega (arith, texts-bound (listOf (e .points)), length-take (e .points .count) (e .points .places))
 
--- put from the start: the text, and the places after it
-pub put-all : (l w m : List ℕ) (n : ℕ) → Put l 0 w m n → length w ≤ length l → m ≡ w ++ drop (length w) l
-put-all l w m n p h = p .bytes ∙ sets-eq w l 0 (omega arith) ∙ ap (λ (k : ℕ). w ++ drop k l) (zero-add (length w))
+-- ---- texts put one after another
+
+module _ {l l1 l2 l3 l4 u1 u2 u3 u4 : List ℕ} {at n1 n2 n3 n4 : ℕ} (u5 : List ℕ) (h : at + length (u1 ++ (u2 ++ (u3 ++ (u4 ++ u5)))) ≤ length l)
+    (f1 : Fitted l at u1 l1 n1) (f2 : Fitted l1 n1 u2 l2 n2) (f3 : Fitted l2 n2 u3 l3 n3) (f4 : Fitted l3 n3 u4 l4 n4) where
+  after-one : n1 + length (u2 ++ (u3 ++ (u4 ++ u5))) ≤ length l1
+  after-one = room-after f1 (u2 ++ (u3 ++ (u4 ++ u5))) h
+
+  after-two : n2 + length (u3 ++ (u4 ++ u5)) ≤ length l2
+  after-two = room-after f2 (u3 ++ (u4 ++ u5)) after-one
+
+  after-three : n3 + length (u4 ++ u5) ≤ length l3
+  after-three = room-after f3 (u4 ++ u5) after-two
+
+  -- the fifth has its place, and all stand there
+  pub fifth-room : n4 + length u5 ≤ length l4
+  fifth-room = room-after f4 u5 after-three
+
+  pub five-put : {m : List ℕ} {n : ℕ} → Put l4 n4 u5 m n → Put l at (u1 ++ (u2 ++ (u3 ++ (u4 ++ u5)))) m n
+  five-put p = fit-then f1 (u2 ++ (u3 ++ (u4 ++ u5))) h (fit-then f2 (u3 ++ (u4 ++ u5)) after-one (fit-then f3 (u4 ++ u5) after-two (fit-then f4 u5 after-three p)))
+
+-- the names, the settings, the names and the points' lines
+module _ (e : AutomationEnvelope) {l l1 : List ℕ} {a : ℕ} (h : length (sheetText e) ≤ length l) (f1 : Fitted l 0 settingNames l1 a) where
+  unfoldable points-text : List ℕ
+  points-text = pointTexts (listOf (e .points))
+
+  whole : 0 + length (settingNames ++ (settingsText (rawSettings e) ++ (pointNames ++ points-text))) ≤ length l
+  unfolding sheetText points-text
+  whole = omega (arith, h)
+
+  after-names : a + length (settingsText (rawSettings e) ++ (pointNames ++ points-text)) ≤ length l1
+  after-names = room-after f1 (settingsText (rawSettings e) ++ (pointNames ++ points-text)) whole
+
+  pub settings-room : a + length (settingsText (rawSettings e)) ≤ length l1
+  settings-room = front a l1 (settingsText (rawSettings e)) (pointNames ++ points-text) after-names
+
+  module _ {l2 l3 : List ℕ} {b c : ℕ} (p2 : Put l1 a (settingsText (rawSettings e)) l2 b) (f3 : Fitted l2 b pointNames l3 c) where
+    after-settings : b + length (pointNames ++ points-text) ≤ length l2
+    after-settings = back p2 (pointNames ++ points-text) after-names
+
+    pub points-room : c + length (pointTexts (listOf (e .points))) ≤ length l3
+    unfolding points-text
+    points-room = room-after f3 points-text after-settings
+
+    pub sheet-put : {m : List ℕ} {n : ℕ} → Put l3 c (pointTexts (listOf (e .points))) m n → Put l 0 (sheetText e) m n
+    unfolding sheetText points-text
+    sheet-put p4 = fit-then f1 (settingsText (rawSettings e) ++ (pointNames ++ points-text)) whole (put-then p2 (fit-then f3 points-text after-settings p4))

@@ -14,10 +14,12 @@ use Rattle.points.specs.declared.AutomationPoint.{AutomationPoint}
 use Rattle.points.specs.declared.SamplePosition.the-variants as position
 use Rattle.lookup.specs.declared.Limit.the-variants as limit
 use Rattle.envelope.specs.declared.AutomationEnvelope.{AutomationEnvelope}
-use Rattle.sheet.specs.Form.{text, startsWith, nextIs, readDigits, numberForm, optionalForm, decimals, nextDigit, targetForm}
-use Rattle.sheet.specs.Lines.{settingsForm, limitOf, finiteBits, settingsMeaning, settingsLine, controlsForm, pointForm, positionOf, pointMeaning, pointLine, blockForm, blockMeaning, blockLine}
-use Rattle.sheet.specs.Sheet.{settingNames, pointNames, blockNames, isEmpty, pointsEnd, pointLines, sheetLines, Read, refusal, sheet, readSheet, Input, declined, input, playInput}
-use Rattle.sheet.specs.Text.{digitByte, digitsOf, optionalText, placesOf, settingsText, pointText, rawSettings, rawPoint, pointTexts, sheetText}
+use Rattle.fields.specs.Form.{text, startsWith, nextIs, readDigits, numberForm, optionalForm, decimals, nextDigit, targetForm}
+use Rattle.lines.specs.Lines.{settingsForm, limitOf, finiteBits, settingsMeaning, settingsLine, controlsForm, pointForm, positionOf, pointMeaning, pointLine, blockForm, blockMeaning, blockLine}
+use Rattle.lines.specs.PointLines.{blockNames, isEmpty, pointsEnd, pointLines}
+use Rattle.sheet.specs.Sheet.{settingNames, pointNames, sheetLines, Read, refusal, sheet, readSheet, Input, declined, input, playInput}
+use Rattle.fields.specs.Text.{digitByte, digitsOf, optionalText, placesOf}
+use Rattle.sheet.specs.Text.{settingsText, pointText, rawSettings, rawPoint, pointTexts, sheetText}
 
 -- ---- 01's example
 

@@ -1,6 +1,4 @@
 -- 01, "The sheet" and "What the player declines": what is read, what is refused, what is written.
-pub mod Form
-pub mod Lines
 pub mod Sheet
 pub mod Text
 -- What the code's answers say in these terms.

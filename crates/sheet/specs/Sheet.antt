@@ -1,26 +1,15 @@
 -- 01, "The sheet": its lines one after the other, and the program's input. "Sheet: line by line", lines counted from 1.
-use Prim.Native.Nat.{ℕ, zero, suc, _+_}
+use Prim.Native.Nat.{ℕ, _+_}
 use mathlib.Core.Bool.{Bool, true, false, cond}
-use mathlib.Core.List.{List, [], _∷_, _++_}
+use mathlib.Core.List.{List, []}
 use lib.ListN.{length, drop}
-use Rattle.points.specs.Points.{holding, rising}
-use Rattle.points.specs.declared.AutomationPoint.{AutomationPoint}
 use Rattle.points.specs.declared.Points.{Points}
 use Rattle.envelope.specs.declared.AutomationEnvelope.{AutomationEnvelope}
-use Rattle.sheet.specs.Form.{text, startsWith}
-use Rattle.sheet.specs.Lines.{Line, refused, line, settingsLine, pointLine, blockLine}
-use Rattle.sheet.specs.declared.settings.Settings.{Settings}
-use Rattle.sheet.specs.declared.play.Block.{Block}
-
--- some lines: a refusal with its number and its line, or what they say and the bytes after them
-pub data Lines (A : Type 0) : Type 0 where
-  stop : ℕ → ℕ → Lines A
-  lines : A → List ℕ → Lines A
-
--- line k, then the next ones
-abbrev pub onward : {A B : Type 0} → ℕ → Line A → (A → List ℕ → Lines B) → Lines B
-onward k (refused n) next = stop n k
-onward k (line a rest) next = next a rest
+use Rattle.fields.specs.Form.{text, startsWith}
+use Rattle.lines.specs.Lines.{Line, refused, line, settingsLine, blockLine}
+use Rattle.lines.specs.PointLines.{Lines, stop, lines, onward, blockNames, isEmpty, pointLines}
+use Rattle.lines.specs.declared.settings.Settings.{Settings}
+use Rattle.lines.specs.declared.block.Block.{Block}
 
 -- line k is the names that stand here, then the next ones
 abbrev pub named : {B : Type 0} → ℕ → List ℕ → List ℕ → (List ℕ → Lines B) → Lines B
@@ -31,34 +20,6 @@ settingNames = text "target enabled min max step\n"
 
 abbrev pub pointNames : List ℕ
 pointNames = text "time position value curve cp1 cp2\n"
-
-abbrev pub blockNames : List ℕ
-blockNames = text "rate duration\n"
-
--- ---- the point lines
-
-unfoldable pub isEmpty : List ℕ → Bool
-isEmpty [] = true
-isEmpty (b ∷ l) = false
-
--- the points end where the bytes do; "In the program the points end at `rate duration`."
-unfoldable pub pointsEnd : Bool → List ℕ → Bool
-pointsEnd program l = cond program (startsWith blockNames l) (isEmpty l)
-
--- the line of the point after these: the first point stands on line 4
-abbrev pub lineAfter : List AutomationPoint → ℕ
-lineAfter ps = length ps + 4
-
--- the lines after those of the points `before`, with room for so many points more. "the 257th point line is 5", whatever it holds; with no line there, 9: "A line missing .. is 9 at its number."
--- "then 6": "resulting times don't rise"
-unfoldable pub pointLines : Bool → ℕ → List AutomationPoint → List ℕ → Lines Points
-pointLines program zero before l =
-    cond (pointsEnd program l) (lines (holding before) l)
-    (cond (isEmpty l) (stop 9 (lineAfter before)) (stop 5 (lineAfter before)))
-pointLines program (suc room) before l =
-    cond (pointsEnd program l) (lines (holding before) l)
-    (onward (lineAfter before) (pointLine l) (λ p rest.
-    cond (rising (before ++ (p ∷ []))) (pointLines program room (before ++ (p ∷ [])) rest) (stop 6 (lineAfter before))))
 
 -- ---- a sheet's lines, up to where the points end
 

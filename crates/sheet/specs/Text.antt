@@ -1,9 +1,9 @@
 -- 01, "The sheet": what the writer writes.
-use Prim.Native.Nat.{ℕ, zero, suc, _+_, _/_, _%_}
+use Prim.Native.Nat.{ℕ}
 use mathlib.Core.Bool.{cond}
 use mathlib.Core.List.{List, [], _∷_, _++_}
 use lib.ListN.{length, drop}
-use lib.Dec.{ltb, leb, eqb}
+use lib.Dec.{leb, eqb}
 use lib.Ieee.{binary32, binary64, toBits}
 use Rattle.curve.specs.Curve.{code, controls}
 use Rattle.points.specs.Refusal.{Said, refuses, gives}
@@ -15,43 +15,14 @@ use Rattle.lookup.specs.declared.Limit.{Limit}
 use Rattle.lookup.specs.declared.Limit.the-variants as limit
 use Rattle.envelope.specs.Envelope.{validEnvelope}
 use Rattle.envelope.specs.declared.AutomationEnvelope.{AutomationEnvelope}
-use Rattle.sheet.specs.Form.{space, newline, dash}
-use Rattle.sheet.specs.Lines.{dashes}
+use Rattle.fields.specs.Form.{space, newline}
+use Rattle.fields.specs.Text.{digitsOf, numberText, optionalText, placesOf, decimalText}
+use Rattle.lines.specs.Lines.{dashes}
 use Rattle.sheet.specs.Sheet.{settingNames, pointNames}
-use Rattle.sheet.specs.declared.field.Optional.{Optional}
-use Rattle.sheet.specs.declared.field.Optional.the-variants as optional
-use Rattle.sheet.specs.declared.settings.RawSettings.{RawSettings}
-use Rattle.sheet.specs.declared.point.RawPoint.{RawPoint}
-
--- ---- fields
-
--- the byte of a digit below 16
-unfoldable pub digitByte : ℕ → ℕ
-digitByte d = cond (ltb d 10) (d + 48) (d + 55)
-
--- v in so many digits of the base
-unfoldable pub digitsOf : ℕ → ℕ → ℕ → List ℕ
-unfolding digitByte
-digitsOf base zero v = []
-digitsOf base (suc width) v = digitsOf base width (v / base) ++ (digitByte (v % base) ∷ [])
-
--- the number, and the byte after it
-abbrev pub numberText : ℕ → ℕ → ℕ → ℕ → List ℕ
-numberText base width e v = digitsOf base width v ++ (e ∷ [])
-
-unfoldable pub optionalText : ℕ → ℕ → Optional → List ℕ
-unfolding digitsOf
-optionalText width e optional.None = dash ∷ e ∷ []
-optionalText width e (optional.Bits v) = numberText 16 width e v
-
--- how many decimal digits the number v has, if at most `most`
-unfoldable pub placesOf : ℕ → ℕ → ℕ
-placesOf zero v = 0
-placesOf (suc most) v = cond (ltb v 10) 1 (suc (placesOf most (v / 10)))
-
--- "decimal without leading zeros": as many digits as the number has. 2^32 − 1 has ten.
-abbrev pub decimalText : ℕ → ℕ → List ℕ
-decimalText e v = numberText 10 (placesOf 10 v) e v
+use Rattle.fields.specs.declared.Optional.{Optional}
+use Rattle.fields.specs.declared.Optional.the-variants as optional
+use Rattle.lines.specs.declared.settings.RawSettings.{RawSettings}
+use Rattle.lines.specs.declared.point.RawPoint.{RawPoint}
 
 -- ---- lines
 

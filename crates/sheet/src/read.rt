@@ -1,18 +1,18 @@
 // The sheet reader.
 ghost use mathlib.Core.Path.{_≡_};
-ghost use mathlib.Core.Bool.{cond};
-ghost use mathlib.Core.List.{List, []};
+ghost use mathlib.Core.List.{List};
 ghost use Prim.Native.Nat.{ℕ};
-ghost use lib.ListN.{drop};
 ghost use Rattle.points.specs.Refusal.{number};
-ghost use Rattle.sheet.specs.Sheet.{stop, isEmpty, pointsEnd, pointLines, withSettings, sheetLines, readSheet};
-ghost use Rattle.sheet.specs.Told.{DigitTable, toldPointLines, toldSheetLines, toldRead};
-use crate::point::PointLine;
-use crate::settings::Settings;
-use crate::settings::SettingsForm;
-use crate::settings::SettingsSaid;
+ghost use Rattle.envelope.specs.declared.AutomationEnvelope.{AutomationEnvelope};
+ghost use Rattle.lines.specs.PointLines.{stop};
+ghost use Rattle.lines.specs.Told.{linesBy, toldPointLines};
+ghost use Rattle.sheet.specs.Sheet.{withSettings, sheetLines, readFrom, readSheet};
+ghost use Rattle.sheet.specs.Told.{toldSheetLines, readBy, toldRead};
 use envelope::AutomationEnvelope;
-use points::Points;
+use lines::point_lines::PointLines;
+use lines::settings::Settings;
+use lines::settings::SettingsLine;
+use points::refusal::Answer;
 use points::refusal::Refusal;
 
 // A refusal has its line, counted from 1.
@@ -21,14 +21,9 @@ pub enum SheetAnswer {
     Refused(Refusal, u64),
 }
 
-pub struct PointLines {
-    pub answer: SheetAnswer,
-    pub points: Points,
-    pub next: usize,
-}
-
 pub struct SheetLines {
-    pub answer: SheetAnswer,
+    pub answer: Answer,
+    pub line: u64,
     pub envelope: AutomationEnvelope,
     pub next: usize,
 }
@@ -39,83 +34,13 @@ pub struct ReadSheet {
     pub envelope: AutomationEnvelope,
 }
 
-// Whether the points end at the place: with the bytes, or in the program at the names of its block.
-fn points_end(s: &[u8], at: usize, program: bool) -> bool
-    ensures { λ r. ⌜ r ≡ pointsEnd program (drop at (now (s .entry))) ⌝ }
-{
-    if program {
-        crate::field::starts_with(s, at, b"rate duration\n")
-    } else {
-        s.len() <= at
-    }
-}
-
-// What is wrong after 256 points: no line, or one more.
-fn after_last(s: &[u8], at: usize) -> Refusal
-    ensures { λ r. ⌜ number r ≡ cond (isEmpty (drop at (now (s .entry)))) 9 5 ⌝ }
-{
-    if at < s.len() {
-        Refusal::TooManyPoints
-    } else {
-        Refusal::SheetForm
-    }
-}
-
-fn no_points(refusal: Refusal, line: u64) -> PointLines
-    ensures { λ r. ⌜ ((s : List ℕ) → toldPointLines s r ≡ stop (number refusal) line) ⌝ }
-{
-    let points = points::list::none();
-    PointLines {
-        answer: SheetAnswer::Refused(refusal, line),
-        points,
-        next: 0,
-    }
-}
-
-// The point lines from the place on.
-fn point_lines(t: &[u8; 256], s: &[u8], start: usize, program: bool) -> PointLines
-    requires { ⌜ DigitTable (now t) ⌝ }
-    ensures { λ r. ⌜ toldPointLines (now (s .entry)) r ≡ pointLines program 256 [] (drop start (now (s .entry))) ⌝ }
-{
-    let unused = points::point::unused();
-    let mut places = [unused; 256];
-    let mut count: usize = 0;
-    let mut at = start;
-    let mut last: u64 = 0;
-    while !points_end(s, at, program) {
-        let line = (count + 4) as u64;
-        if count == 256 {
-            return no_points(after_last(s, at), line);
-        }
-        match crate::point::point_line(t, s, at) {
-            PointLine::Refused(refusal) => {
-                return no_points(refusal, line);
-            }
-            PointLine::Is(p, next) => {
-                let key = numbers::order::order_key(p.time);
-                if (0 < count) & (key <= last) {
-                    return no_points(Refusal::TimesDontRise, line);
-                }
-                places[count] = p;
-                count += 1;
-                last = key;
-                at = next;
-            }
-        }
-    }
-    PointLines {
-        answer: SheetAnswer::Accepted,
-        points: Points { count, places },
-        next: at,
-    }
-}
-
 fn no_sheet(refusal: Refusal, line: u64) -> SheetLines
     ensures { λ r. ⌜ ((s : List ℕ) → toldSheetLines s r ≡ stop (number refusal) line) ⌝ }
 {
     let envelope = AutomationEnvelope::new(0);
     SheetLines {
-        answer: SheetAnswer::Refused(refusal, line),
+        answer: Answer::Refused(refusal),
+        line,
         envelope,
         next: 0,
     }
@@ -131,6 +56,7 @@ fn with_settings(settings: Settings, r: PointLines) -> SheetLines
     let step_size = settings.step;
     SheetLines {
         answer,
+        line: r.line,
         envelope: AutomationEnvelope {
             target: settings.target,
             points,
@@ -144,24 +70,33 @@ fn with_settings(settings: Settings, r: PointLines) -> SheetLines
 }
 
 // A sheet's lines, up to where the points end.
-pub(crate) fn sheet_lines(t: &[u8; 256], s: &[u8], program: bool) -> SheetLines
-    requires { ⌜ DigitTable (now t) ⌝ }
+pub(crate) fn sheet_lines(s: &[u8], program: bool) -> SheetLines
     ensures { λ r. ⌜ toldSheetLines (now (s .entry)) r ≡ sheetLines program (now (s .entry)) ⌝ }
 {
-    if !crate::field::starts_with(s, 0, b"target enabled min max step\n") {
+    if !fields::bytes::starts_with(s, 0, b"target enabled min max step\n") {
         return no_sheet(Refusal::SheetForm, 1);
     }
-    let SettingsForm::Is(raw, at) = crate::settings::settings_form(t, s, 28) else {
-        return no_sheet(Refusal::SheetForm, 2);
-    };
-    match crate::settings::settings_of(raw) {
-        SettingsSaid::Refused(refusal) => no_sheet(refusal, 2),
-        SettingsSaid::Is(settings) => {
-            if !crate::field::starts_with(s, at, b"time position value curve cp1 cp2\n") {
+    match lines::settings::settings_line(s, 28) {
+        SettingsLine::Refused(refusal) => no_sheet(refusal, 2),
+        SettingsLine::Is(settings, at) => {
+            if !fields::bytes::starts_with(s, at, b"time position value curve cp1 cp2\n") {
                 return no_sheet(Refusal::SheetForm, 3);
             }
-            with_settings(settings, point_lines(t, s, at + 34, program))
+            with_settings(
+                settings,
+                lines::point_lines::point_lines(s, at + 34, program),
+            )
         }
+    }
+}
+
+// A refusal with its line.
+fn sheet_answer(answer: Answer, line: u64) -> SheetAnswer
+    ensures { λ r. ⌜ ((e : AutomationEnvelope) (rest : List ℕ) → readBy r e ≡ readFrom (linesBy answer line e rest)) ⌝ }
+{
+    match answer {
+        Answer::Accepted => SheetAnswer::Accepted,
+        Answer::Refused(refusal) => SheetAnswer::Refused(refusal, line),
     }
 }
 
@@ -169,9 +104,11 @@ pub(crate) fn sheet_lines(t: &[u8; 256], s: &[u8], program: bool) -> SheetLines
 pub fn read_sheet(s: &[u8]) -> ReadSheet
     ensures { λ r. ⌜ toldRead r ≡ readSheet (now (s .entry)) ⌝ }
 {
-    let t = crate::digits::table();
-    let r = sheet_lines(&t, s, false);
+    let r = sheet_lines(s, false);
     let answer = r.answer;
     let envelope = r.envelope;
-    ReadSheet { answer, envelope }
+    ReadSheet {
+        answer: sheet_answer(answer, r.line),
+        envelope,
+    }
 }

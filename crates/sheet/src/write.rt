@@ -1,18 +1,20 @@
 // The sheet writer, into lent bytes. Each function that puts something returns the place after it.
 ghost use mathlib.Core.Path.{_≡_};
 ghost use mathlib.Core.Bool.{true, cond};
-ghost use Prim.Native.Nat.{_+_, _<_, _≤_};
+ghost use Prim.Native.Nat.{_+_, _≤_};
 ghost use lib.ListN.{length};
 ghost use Rattle.points.specs.Point.{finitePoint};
 ghost use Rattle.points.specs.Points.{listOf, every};
 ghost use Rattle.lookup.specs.Limits.{finiteLimit, finiteLimits};
 ghost use Rattle.envelope.specs.Envelope.{limitsOf, validEnvelope};
-ghost use Rattle.sheet.specs.Text.{digitByte, numberText, optionalText, placesOf, decimalText, settingsText, controlsText, pointText, limitBits, rawSettings, positionBits, rawPoint, pointTexts, sheetText, writeSheet};
-ghost use Rattle.sheet.specs.Told.{Put, Fitted, toldWritten};
-use crate::field::Optional;
-use crate::point::RawPoint;
-use crate::settings::RawSettings;
+ghost use Rattle.fields.specs.Text.{optionalText};
+ghost use Rattle.fields.specs.Told.{Put};
+ghost use Rattle.sheet.specs.Text.{settingsText, controlsText, pointText, limitBits, rawSettings, positionBits, rawPoint, pointTexts, sheetText, writeSheet};
+ghost use Rattle.sheet.specs.Told.{toldWritten};
 use envelope::AutomationEnvelope;
+use fields::Optional;
+use lines::point::RawPoint;
+use lines::settings::RawSettings;
 use lookup::Limit;
 use points::AutomationPoint;
 use points::Points;
@@ -25,69 +27,15 @@ pub enum Written {
     Refused(Refusal),
 }
 
-fn digit_byte(d: u64) -> u8
-    requires { ⌜ d < 16 ⌝ }
-    ensures { λ r. ⌜ r ≡ digitByte d ⌝ }
-{
-    if d < 10 {
-        (d + 48) as u8
-    } else {
-        (d + 55) as u8
-    }
-}
-
-// A number in so many digits, and the byte `end`.
-fn put_number(out: &mut [u8], at: usize, v: u64, base: u64, width: usize, end: u8) -> usize
-    requires { ⌜ (0 < base) × (base ≤ 16) ⌝ }
-    requires { ⌜ at + length (numberText base width end v) ≤ length (now out) ⌝ }
-    ensures { λ r. ⌜ Put (now (out .entry)) at (numberText base width end v) (now (out .exit)) r ⌝ }
-{
-    out[at + width] = end;
-    let mut left = v;
-    let mut k = width;
-    while 0 < k {
-        k -= 1;
-        out[at + k] = digit_byte(left % base);
-        left = left / base;
-    }
-    at + width + 1
-}
-
-fn put_optional(out: &mut [u8], at: usize, p: Optional, width: usize, end: u8) -> usize
-    requires { ⌜ at + length (optionalText width end p) ≤ length (now out) ⌝ }
-    ensures { λ r. ⌜ Put (now (out .entry)) at (optionalText width end p) (now (out .exit)) r ⌝ }
-{
-    match p {
-        Optional::Bits(v) => put_number(&mut *out, at, v, 16, width, end),
-        Optional::None => {
-            out[at] = b'-';
-            out[at + 1] = end;
-            at + 2
-        }
-    }
-}
-
-fn put_text(out: &mut [u8], at: usize, w: &[u8]) -> usize
-    requires { ⌜ at + length (now w) ≤ length (now out) ⌝ }
-    ensures { λ r. ⌜ Put (now (out .entry)) at (now (w .entry)) (now (out .exit)) r ⌝ }
-{
-    let mut i: usize = 0;
-    while i < w.len() {
-        out[at + i] = w[i];
-        i += 1;
-    }
-    at + w.len()
-}
-
 fn put_controls(out: &mut [u8], at: usize, code: u32, cp1: u32, cp2: u32) -> usize
     requires { ⌜ at + length (controlsText code cp1 cp2) ≤ length (now out) ⌝ }
     ensures { λ r. ⌜ Put (now (out .entry)) at (controlsText code cp1 cp2) (now (out .exit)) r ⌝ }
 {
     if code == 5 {
-        let next = put_number(&mut *out, at, cp1 as u64, 16, 8, b' ');
-        put_number(&mut *out, next, cp2 as u64, 16, 8, b'\n')
+        let next = fields::write::fit_bits(&mut *out, at, cp1, b' ');
+        fields::write::fit_bits(&mut *out, next, cp2, b'\n')
     } else {
-        put_text(&mut *out, at, b"- -\n")
+        fields::write::fit_text(&mut *out, at, b"- -\n")
     }
 }
 
@@ -97,65 +45,11 @@ fn put_point(out: &mut [u8], at: usize, r: RawPoint) -> usize
     ensures { λ o. ⌜ Put (now (out .entry)) at (pointText r) (now (out .exit)) o ⌝ }
 {
     let position = r.position;
-    let a = put_number(&mut *out, at, r.time, 16, 16, b' ');
-    let b = put_optional(&mut *out, a, position, 16, b' ');
-    let c = put_number(&mut *out, b, r.value as u64, 16, 8, b' ');
-    let d = put_number(&mut *out, c, r.curve as u64, 10, 2, b' ');
+    let a = fields::write::fit_hex(&mut *out, at, r.time, 16, b' ');
+    let b = fields::write::fit_optional(&mut *out, a, position, 16, b' ');
+    let c = fields::write::fit_bits(&mut *out, b, r.value, b' ');
+    let d = fields::write::fit_digits(&mut *out, c, r.curve as u64, 2, b' ');
     put_controls(&mut *out, d, r.curve, r.cp1, r.cp2)
-}
-
-// How many decimal digits a number has, ten at most.
-fn places_of(v: u64) -> usize
-    ensures { λ r. ⌜ r ≡ placesOf 10 v ⌝ }
-{
-    let mut left = v;
-    let mut places: usize = 1;
-    while (10 <= left) & (places < 10) {
-        left = left / 10;
-        places += 1;
-    }
-    places
-}
-
-// ---- open to callers: what fits from the place on is put, else nothing
-
-pub fn fit_text(out: &mut [u8], at: usize, w: &[u8]) -> usize
-    ensures { λ r. ⌜ Fitted (now (out .entry)) at (now (w .entry)) (now (out .exit)) r ⌝ }
-{
-    if out.len() < w.len() {
-        return at;
-    }
-    if out.len() - w.len() < at {
-        return at;
-    }
-    put_text(&mut *out, at, w)
-}
-
-fn fit_number(out: &mut [u8], at: usize, v: u64, base: u64, width: usize, end: u8) -> usize
-    requires { ⌜ (0 < base) × (base ≤ 16) ⌝ }
-    ensures { λ r. ⌜ Fitted (now (out .entry)) at (numberText base width end v) (now (out .exit)) r ⌝ }
-{
-    if out.len() <= width {
-        return at;
-    }
-    if out.len() - width <= at {
-        return at;
-    }
-    put_number(&mut *out, at, v, base, width, end)
-}
-
-// A number in decimal, and the byte `end`.
-pub fn fit_decimal(out: &mut [u8], at: usize, v: u64, end: u8) -> usize
-    ensures { λ r. ⌜ Fitted (now (out .entry)) at (decimalText end v) (now (out .exit)) r ⌝ }
-{
-    fit_number(out, at, v, 10, places_of(v), end)
-}
-
-// The bits of an f32 in hexadecimal, and the byte `end`.
-pub fn fit_bits(out: &mut [u8], at: usize, v: u32, end: u8) -> usize
-    ensures { λ r. ⌜ Fitted (now (out .entry)) at (numberText 16 8 end v) (now (out .exit)) r ⌝ }
-{
-    fit_number(out, at, v as u64, 16, 8, end)
 }
 
 // The settings line.
@@ -166,12 +60,11 @@ fn put_settings(out: &mut [u8], at: usize, r: RawSettings) -> usize
     let min = r.min;
     let max = r.max;
     let step = r.step;
-    let places = places_of(r.target as u64);
-    let a = put_number(&mut *out, at, r.target as u64, 10, places, b' ');
-    let b = put_number(&mut *out, a, r.enabled as u64, 2, 1, b' ');
-    let c = put_optional(&mut *out, b, min, 8, b' ');
-    let d = put_optional(&mut *out, c, max, 8, b' ');
-    put_optional(&mut *out, d, step, 8, b'\n')
+    let a = fields::write::fit_decimal(&mut *out, at, r.target as u64, b' ');
+    let b = fields::write::fit_flag(&mut *out, a, r.enabled, b' ');
+    let c = fields::write::fit_optional(&mut *out, b, min, 8, b' ');
+    let d = fields::write::fit_optional(&mut *out, c, max, 8, b' ');
+    fields::write::fit_optional(&mut *out, d, step, 8, b'\n')
 }
 
 // ---- from the records to their bits
@@ -256,7 +149,7 @@ fn settings_length(r: RawSettings) -> usize
     let min = r.min;
     let max = r.max;
     let step = r.step;
-    places_of(r.target as u64)
+    fields::write::places_of(r.target as u64)
         + 3
         + optional_length(min, 8)
         + optional_length(max, 8)
@@ -324,9 +217,9 @@ fn put_sheet(out: &mut [u8], e: AutomationEnvelope) -> usize
     ensures { λ r. ⌜ Put (now (out .entry)) 0 (sheetText e) (now (out .exit)) r ⌝ }
 {
     let points = e.points;
-    let a = put_text(&mut *out, 0, b"target enabled min max step\n");
+    let a = fields::write::fit_text(&mut *out, 0, b"target enabled min max step\n");
     let b = put_settings(&mut *out, a, raw_settings(e));
-    let c = put_text(&mut *out, b, b"time position value curve cp1 cp2\n");
+    let c = fields::write::fit_text(&mut *out, b, b"time position value curve cp1 cp2\n");
     put_points(&mut *out, c, points)
 }
 

@@ -8,7 +8,7 @@ use Rattle.play.proofs.open.Lts as lts
 use Rattle.numbers.proofs.convert.f64_to_u64.Reads as f64-to-u64-reads
 use Rattle.play.proofs.refused.Reads as refused-reads
 use Rattle.sheet.proofs.play.read_play.Reads as read-play-reads
-use Rattle.sheet.proofs.write.fit_text.Reads as fit-text-reads
+use Rattle.fields.proofs.write.fit_text.Reads as fit-text-reads
 
 -- src/lib.rt:56:9
 read-play-requires : tie.Need-read-play-requires

@@ -7,8 +7,8 @@ use Rattle.play.proofs.text.put_line.Tie as tie
 use Rattle.play.proofs.text.put_line.Reads as reads
 use Rattle.play.proofs.text.put_line.Lts as lts
 use Rattle.play.proofs.text.bits_of.Reads as bits-of-reads
-use Rattle.sheet.proofs.write.fit_bits.Reads as fit-bits-reads
-use Rattle.sheet.proofs.write.fit_decimal.Reads as fit-decimal-reads
+use Rattle.fields.proofs.write.fit_bits.Reads as fit-bits-reads
+use Rattle.fields.proofs.write.fit_decimal.Reads as fit-decimal-reads
 
 -- src/text.rt:56:9
 fit-decimal-requires : tie.Need-fit-decimal-requires

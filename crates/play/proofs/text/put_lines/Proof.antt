@@ -3,8 +3,8 @@ use mathlib.Core.Path.{_≡_, refl}
 use native.Mathlib.Omega.{arith}
 use lib.Ieee.{nan}
 use lib.ListN.{length, take}
-use Rattle.sheet.specs.Told.{Put}
-use Rattle.sheet.proofs.Stores.{put-length}
+use Rattle.fields.specs.Told.{Put}
+use Rattle.fields.proofs.Stores.{put-length}
 use Rattle.play.specs.Play.{sampleLines}
 use Rattle.play.proofs.Texts.{line-room, line-put}
 use Rattle.play.proofs.text.put_lines.Statement.{statement}

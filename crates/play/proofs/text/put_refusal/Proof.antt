@@ -6,8 +6,8 @@ use Rattle.play.proofs.text.put_refusal.Tie as tie
 use Rattle.play.proofs.text.put_refusal.Reads as reads
 use Rattle.play.proofs.text.put_refusal.Lts as lts
 use Rattle.play.proofs.text.number_of.Reads as number-of-reads
-use Rattle.sheet.proofs.write.fit_decimal.Reads as fit-decimal-reads
-use Rattle.sheet.proofs.write.fit_text.Reads as fit-text-reads
+use Rattle.fields.proofs.write.fit_decimal.Reads as fit-decimal-reads
+use Rattle.fields.proofs.write.fit_text.Reads as fit-text-reads
 
 -- src/text.rt:37:50
 slice-aggregate-fit-text : tie.Need-slice-aggregate-fit-text

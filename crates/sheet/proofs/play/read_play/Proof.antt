@@ -1,6 +1,7 @@
 use mathlib.Core.Bool.{true}
 use mathlib.Core.Path.{sym, ap, _∙_}
-use Rattle.sheet.specs.Sheet.{pointsEnd, blockFrom, playInput}
+use Rattle.lines.specs.PointLines.{pointsEnd}
+use Rattle.sheet.specs.Sheet.{blockFrom, playInput}
 use Rattle.sheet.proofs.Answers.{accepted-lines, refused-lines}
 use Rattle.sheet.proofs.Sheets.{sheet-read}
 use Rattle.sheet.proofs.Valid.{few}
@@ -9,52 +10,46 @@ use Rattle.sheet.proofs.play.read_play.Statement.{statement}
 use Rattle.sheet.proofs.play.read_play.Tie as tie
 use Rattle.sheet.proofs.play.read_play.Reads as reads
 use Rattle.sheet.proofs.play.read_play.Lts as lts
-use Rattle.sheet.proofs.digits.table.Reads as table-reads
 use Rattle.sheet.proofs.play.block_at.Reads as block-at-reads
 use Rattle.sheet.proofs.play.no_input.Reads as no-input-reads
 use Rattle.sheet.proofs.read.sheet_lines.Reads as sheet-lines-reads
 
--- src/play.rt:116:13
-table-requires : tie.Need-table-requires
-table-requires c κs = search needs
-
--- src/play.rt:117:9
+-- src/play.rt:65:9
 sheet-lines-requires : tie.Need-sheet-lines-requires
 sheet-lines-requires c κs = search needs
 
--- src/play.rt:120:30
+-- src/play.rt:68:25
 enum-known-answer : tie.Need-enum-known-answer
 enum-known-answer c = search needs
 
--- src/play.rt:120:48
+-- src/play.rt:68:37
 no-input-requires : tie.Need-no-input-requires
 no-input-requires c κs = search needs
 
--- src/play.rt:122:17
+-- src/play.rt:70:17
 enum-told : tie.Need-enum-told
 enum-told c = search needs
 
--- src/play.rt:123:13
+-- src/play.rt:71:13
 block-at-requires : tie.Need-block-at-requires
 unfolding pointsEnd
-block-at-requires c κs = let w = sheet-read true (c .before .before .before .before .before .before .before .before .args .s .now) _ _ (accepted-lines (c .before .before .before .before .before .before .before .before .args .s .now) (c .before .before .before .before .sheet-lines .result) (c .before .before .before .before .sheet-lines .ensures) (c .before .before .enum-told .given .1)) in
-    (c .before .before .before .before .before .before .table .ensures, (few (c .before .before .before .before .sheet-lines .result .envelope) (w .valid), w .end))
+block-at-requires c κs = let w = sheet-read true _ _ _ (accepted-lines _ _ (c .before .before .before .sheet-lines .ensures) (c .before .enum-told .given .1)) in
+    (few (c .before .before .before .sheet-lines .result .envelope) (w .valid), w .end)
 
--- src/play.rt:113:1
+-- src/play.rt:62:1
 returns : tie.Need-returns
 unfolding playInput
-returns c = c .no-input .ensures ∙ ap blockFrom (sym (refused-lines (c .before .before .before .before .before .before .before .before .args .s .now) (c .before .before .before .before .sheet-lines .result) (c .before .before .before .before .sheet-lines .ensures) (c .before .before .answer .given .1)))
+returns c = c .no-input .ensures ∙ ap blockFrom (sym (refused-lines _ _ (c .before .before .before .before .sheet-lines .ensures) (c .before .before .answer .given .1)))
 
--- src/play.rt:113:1
+-- src/play.rt:62:1
 returns-2 : tie.Need-returns-2
 unfolding playInput
-returns-2 c = c .block-at .ensures ∙ ap blockFrom (sym (accepted-lines (c .before .before .before .before .before .before .before .before .before .args .s .now) (c .before .before .before .before .before .sheet-lines .result) (c .before .before .before .before .before .sheet-lines .ensures) (c .before .before .before .enum-told .given .1)))
+returns-2 c = c .block-at .ensures ∙ ap blockFrom (sym (accepted-lines _ _ (c .before .before .before .before .sheet-lines .ensures) (c .before .before .enum-told .given .1)))
 
 pub read-play-spec : {M : Type 1} → statement M
 read-play-spec =
     tie.close
     (tie.spec
-    table-requires
     sheet-lines-requires
     enum-known-answer
     no-input-requires

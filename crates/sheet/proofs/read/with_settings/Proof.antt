@@ -1,14 +1,15 @@
-use Rattle.sheet.specs.Told.{toldPointLines, toldSheetLines}
+use Rattle.lines.specs.Told.{toldPointLines}
+use Rattle.sheet.specs.Told.{toldSheetLines}
 use Rattle.sheet.proofs.Answers.{with-settings}
 use Rattle.sheet.proofs.read.with_settings.Statement.{statement}
 use Rattle.sheet.proofs.read.with_settings.Tie as tie
 use Rattle.sheet.proofs.read.with_settings.Reads as reads
 use Rattle.sheet.proofs.read.with_settings.Lts as lts
 
--- src/read.rt:120:1
+-- src/read.rt:49:1
 returns : tie.Need-returns
 unfolding toldPointLines toldSheetLines
-returns c = λ s. with-settings (c .before .args .r .answer) _ _ _
+returns c = λ s. with-settings (c .before .args .r .answer) _ _ _ _
 
 pub with-settings-spec : {M : Type 1} → statement M
 with-settings-spec = tie.close (tie.spec returns)

@@ -1,5 +1,5 @@
 use mathlib.Core.Path.{sym}
-use Rattle.sheet.proofs.Stores.{five-length, other-length}
+use Rattle.sheet.proofs.Texts.{five-length, other-length}
 use Rattle.sheet.proofs.write.controls_length.Statement.{statement}
 use Rattle.sheet.proofs.write.controls_length.Tie as tie
 use Rattle.sheet.proofs.write.controls_length.Reads as reads

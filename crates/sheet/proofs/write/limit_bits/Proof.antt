@@ -1,7 +1,7 @@
 use native.Mathlib.Omega.{arith}
 use lib.Ieee.{binary32}
 use lib.Ieee.Bits.{toBits-lt}
-use Rattle.sheet.proofs.Floats.{number-no-nan}
+use Rattle.lines.proofs.Floats.{number-no-nan}
 use borrow.Author.Needs.{needs}
 use Rattle.sheet.proofs.write.limit_bits.Statement.{statement}
 use Rattle.sheet.proofs.write.limit_bits.Tie as tie

@@ -1,5 +1,5 @@
 use mathlib.Core.Path.{sym}
-use Rattle.sheet.proofs.Stores.{some-length, none-length}
+use Rattle.fields.proofs.Stores.{some-length, none-length}
 use borrow.Author.Needs.{needs}
 use Rattle.sheet.proofs.write.optional_length.Statement.{statement}
 use Rattle.sheet.proofs.write.optional_length.Tie as tie

@@ -1,5 +1,6 @@
 use native.Mathlib.Omega.{arith}
-use Rattle.sheet.proofs.Stores.{length-le, controls-le}
+use Rattle.fields.proofs.Stores.{length-le}
+use Rattle.sheet.proofs.Texts.{controls-le}
 use Rattle.sheet.proofs.Texts.{point-length}
 use borrow.Author.Needs.{needs}
 use Rattle.sheet.proofs.write.point_length.Statement.{statement}

@@ -4,7 +4,7 @@ use native.Mathlib.Omega.{arith}
 use lib.ListN.{length, take, getD, length-append}
 use mathlib.Core.List.{List}
 use Rattle.points.specs.declared.AutomationPoint.{AutomationPoint}
-use Rattle.sheet.specs.declared.point.RawPoint.{RawPoint}
+use Rattle.lines.specs.declared.point.RawPoint.{RawPoint}
 use Rattle.points.specs.Laws.{take-min}
 use Rattle.points.specs.Point.{finitePoint, anyPoint}
 use Rattle.points.proofs.Good.{places}

@@ -1,68 +1,59 @@
-use native.Mathlib.Omega.{arith}
-use mathlib.Core.List.{_++_}
-use Rattle.sheet.specs.Text.{numberText, optionalText, controlsText, pointText}
-use Rattle.sheet.proofs.Stores.{front, back, put-then}
+use Rattle.sheet.specs.Text.{controlsText, pointText}
+use Rattle.sheet.proofs.Texts.{fifth-room, five-put}
 use borrow.Author.Needs.{needs}
 use Rattle.sheet.proofs.write.put_point.Statement.{statement}
 use Rattle.sheet.proofs.write.put_point.Tie as tie
 use Rattle.sheet.proofs.write.put_point.Reads as reads
 use Rattle.sheet.proofs.write.put_point.Lts as lts
+use Rattle.fields.proofs.write.fit_bits.Reads as fit-bits-reads
+use Rattle.fields.proofs.write.fit_digits.Reads as fit-digits-reads
+use Rattle.fields.proofs.write.fit_hex.Reads as fit-hex-reads
+use Rattle.fields.proofs.write.fit_optional.Reads as fit-optional-reads
 use Rattle.sheet.proofs.write.put_controls.Reads as put-controls-reads
-use Rattle.sheet.proofs.write.put_number.Reads as put-number-reads
-use Rattle.sheet.proofs.write.put_optional.Reads as put-optional-reads
 
--- src/write.rt:100:9
-put-number-requires : tie.Need-put-number-requires
-unfolding pointText
-put-number-requires c κs = ((omega arith, omega arith), front (c .before .before .args .at) (c .before .before .args .out .now) (numberText 16 16 32 (c .before .before .args .r .time)) ((optionalText 16 32 (c .before .before .args .r .position)) ++ ((numberText 16 8 32 (c .before .before .args .r .value)) ++ ((numberText 10 2 32 (c .before .before .args .r .curve)) ++ (controlsText (c .before .before .args .r .curve) (c .before .before .args .r .cp1) (c .before .before .args .r .cp2))))) (c .before .before .pre))
+-- src/write.rt:48:9
+fit-hex-requires : tie.Need-fit-hex-requires
+fit-hex-requires c κs = search needs
 
--- src/write.rt:101:9
-put-optional-requires : tie.Need-put-optional-requires
-unfolding pointText
-put-optional-requires c κs = front (c .before .before .before .put-number .result) (c .before .before .before .put-number .last .0) (optionalText 16 32 (c .before .before .before .before .before .before .args .r .position)) ((numberText 16 8 32 (c .before .before .before .before .before .before .args .r .value)) ++ ((numberText 10 2 32 (c .before .before .before .before .before .before .args .r .curve)) ++ (controlsText (c .before .before .before .before .before .before .args .r .curve) (c .before .before .before .before .before .before .args .r .cp1) (c .before .before .before .before .before .before .args .r .cp2)))) (back (c .before .before .before .put-number .ensures) ((optionalText 16 32 (c .before .before .before .before .before .before .args .r .position)) ++ ((numberText 16 8 32 (c .before .before .before .before .before .before .args .r .value)) ++ ((numberText 10 2 32 (c .before .before .before .before .before .before .args .r .curve)) ++ (controlsText (c .before .before .before .before .before .before .args .r .curve) (c .before .before .before .before .before .before .args .r .cp1) (c .before .before .before .before .before .before .args .r .cp2))))) (c .before .before .before .before .before .before .pre))
+-- src/write.rt:49:9
+fit-optional-requires : tie.Need-fit-optional-requires
+fit-optional-requires c κs = search needs
 
--- src/write.rt:102:38
-cast-put-number : tie.Need-cast-put-number
-cast-put-number c = search needs
+-- src/write.rt:50:9
+fit-bits-requires : tie.Need-fit-bits-requires
+fit-bits-requires c κs = search needs
 
--- src/write.rt:102:9
-put-number-requires-2 : tie.Need-put-number-requires-2
-unfolding pointText
-put-number-requires-2 c κs = ((omega arith, omega arith), front (c .before .before .before .before .put-optional .result) (c .before .before .before .before .put-optional .last .0) (numberText 16 8 32 (c .before .before .before .before .before .before .before .before .before .before .before .args .r .value)) ((numberText 10 2 32 (c .before .before .before .before .before .before .before .before .before .before .before .args .r .curve)) ++ (controlsText (c .before .before .before .before .before .before .before .before .before .before .before .args .r .curve) (c .before .before .before .before .before .before .before .before .before .before .before .args .r .cp1) (c .before .before .before .before .before .before .before .before .before .before .before .args .r .cp2))) (back (c .before .before .before .before .put-optional .ensures) ((numberText 16 8 32 (c .before .before .before .before .before .before .before .before .before .before .before .args .r .value)) ++ ((numberText 10 2 32 (c .before .before .before .before .before .before .before .before .before .before .before .args .r .curve)) ++ (controlsText (c .before .before .before .before .before .before .before .before .before .before .before .args .r .curve) (c .before .before .before .before .before .before .before .before .before .before .before .args .r .cp1) (c .before .before .before .before .before .before .before .before .before .before .before .args .r .cp2)))) (back (c .before .before .before .before .before .before .before .before .put-number .ensures) ((optionalText 16 32 (c .before .before .before .before .before .before .before .before .before .before .before .args .r .position)) ++ ((numberText 16 8 32 (c .before .before .before .before .before .before .before .before .before .before .before .args .r .value)) ++ ((numberText 10 2 32 (c .before .before .before .before .before .before .before .before .before .before .before .args .r .curve)) ++ (controlsText (c .before .before .before .before .before .before .before .before .before .before .before .args .r .curve) (c .before .before .before .before .before .before .before .before .before .before .before .args .r .cp1) (c .before .before .before .before .before .before .before .before .before .before .before .args .r .cp2))))) (c .before .before .before .before .before .before .before .before .before .before .before .pre))))
+-- src/write.rt:51:53
+cast-fit-digits : tie.Need-cast-fit-digits
+cast-fit-digits c = search needs
 
--- src/write.rt:103:38
-cast-put-number-2 : tie.Need-cast-put-number-2
-cast-put-number-2 c = search needs
+-- src/write.rt:51:9
+fit-digits-requires : tie.Need-fit-digits-requires
+fit-digits-requires c κs = search needs
 
--- src/write.rt:103:9
-put-number-requires-3 : tie.Need-put-number-requires-3
-unfolding pointText
-put-number-requires-3 c κs = ((omega arith, omega arith), front (c .before .before .before .before .put-number2 .result) (c .before .before .before .before .put-number2 .last .0) (numberText 10 2 32 (c .before .before .before .before .before .before .before .before .before .before .before .before .before .before .before .before .args .r .curve)) (controlsText (c .before .before .before .before .before .before .before .before .before .before .before .before .before .before .before .before .args .r .curve) (c .before .before .before .before .before .before .before .before .before .before .before .before .before .before .before .before .args .r .cp1) (c .before .before .before .before .before .before .before .before .before .before .before .before .before .before .before .before .args .r .cp2)) (back (c .before .before .before .before .put-number2 .ensures) ((numberText 10 2 32 (c .before .before .before .before .before .before .before .before .before .before .before .before .before .before .before .before .args .r .curve)) ++ (controlsText (c .before .before .before .before .before .before .before .before .before .before .before .before .before .before .before .before .args .r .curve) (c .before .before .before .before .before .before .before .before .before .before .before .before .before .before .before .before .args .r .cp1) (c .before .before .before .before .before .before .before .before .before .before .before .before .before .before .before .before .args .r .cp2))) (back (c .before .before .before .before .before .before .before .before .before .put-optional .ensures) ((numberText 16 8 32 (c .before .before .before .before .before .before .before .before .before .before .before .before .before .before .before .before .args .r .value)) ++ ((numberText 10 2 32 (c .before .before .before .before .before .before .before .before .before .before .before .before .before .before .before .before .args .r .curve)) ++ (controlsText (c .before .before .before .before .before .before .before .before .before .before .before .before .before .before .before .before .args .r .curve) (c .before .before .before .before .before .before .before .before .before .before .before .before .before .before .before .before .args .r .cp1) (c .before .before .before .before .before .before .before .before .before .before .before .before .before .before .before .before .args .r .cp2)))) (back (c .before .before .before .before .before .before .before .before .before .before .before .before .before .put-number .ensures) ((optionalText 16 32 (c .before .before .before .before .before .before .before .before .before .before .before .before .before .before .before .before .args .r .position)) ++ ((numberText 16 8 32 (c .before .before .before .before .before .before .before .before .before .before .before .before .before .before .before .before .args .r .value)) ++ ((numberText 10 2 32 (c .before .before .before .before .before .before .before .before .before .before .before .before .before .before .before .before .args .r .curve)) ++ (controlsText (c .before .before .before .before .before .before .before .before .before .before .before .before .before .before .before .before .args .r .curve) (c .before .before .before .before .before .before .before .before .before .before .before .before .before .before .before .before .args .r .cp1) (c .before .before .before .before .before .before .before .before .before .before .before .before .before .before .before .before .args .r .cp2))))) (c .before .before .before .before .before .before .before .before .before .before .before .before .before .before .before .before .pre)))))
-
--- src/write.rt:104:5
+-- src/write.rt:52:5
 put-controls-requires : tie.Need-put-controls-requires
 unfolding pointText
-put-controls-requires c κs = (back (c .before .before .before .put-number3 .ensures) (controlsText (c .before .before .before .before .before .before .before .before .before .before .before .before .before .before .before .before .before .before .before .before .args .r .curve) (c .before .before .before .before .before .before .before .before .before .before .before .before .before .before .before .before .before .before .before .before .args .r .cp1) (c .before .before .before .before .before .before .before .before .before .before .before .before .before .before .before .before .before .before .before .before .args .r .cp2)) (back (c .before .before .before .before .before .before .before .before .put-number2 .ensures) ((numberText 10 2 32 (c .before .before .before .before .before .before .before .before .before .before .before .before .before .before .before .before .before .before .before .before .args .r .curve)) ++ (controlsText (c .before .before .before .before .before .before .before .before .before .before .before .before .before .before .before .before .before .before .before .before .args .r .curve) (c .before .before .before .before .before .before .before .before .before .before .before .before .before .before .before .before .before .before .before .before .args .r .cp1) (c .before .before .before .before .before .before .before .before .before .before .before .before .before .before .before .before .before .before .before .before .args .r .cp2))) (back (c .before .before .before .before .before .before .before .before .before .before .before .before .before .put-optional .ensures) ((numberText 16 8 32 (c .before .before .before .before .before .before .before .before .before .before .before .before .before .before .before .before .before .before .before .before .args .r .value)) ++ ((numberText 10 2 32 (c .before .before .before .before .before .before .before .before .before .before .before .before .before .before .before .before .before .before .before .before .args .r .curve)) ++ (controlsText (c .before .before .before .before .before .before .before .before .before .before .before .before .before .before .before .before .before .before .before .before .args .r .curve) (c .before .before .before .before .before .before .before .before .before .before .before .before .before .before .before .before .before .before .before .before .args .r .cp1) (c .before .before .before .before .before .before .before .before .before .before .before .before .before .before .before .before .before .before .before .before .args .r .cp2)))) (back (c .before .before .before .before .before .before .before .before .before .before .before .before .before .before .before .before .before .put-number .ensures) ((optionalText 16 32 (c .before .before .before .before .before .before .before .before .before .before .before .before .before .before .before .before .before .before .before .before .args .r .position)) ++ ((numberText 16 8 32 (c .before .before .before .before .before .before .before .before .before .before .before .before .before .before .before .before .before .before .before .before .args .r .value)) ++ ((numberText 10 2 32 (c .before .before .before .before .before .before .before .before .before .before .before .before .before .before .before .before .before .before .before .before .args .r .curve)) ++ (controlsText (c .before .before .before .before .before .before .before .before .before .before .before .before .before .before .before .before .before .before .before .before .args .r .curve) (c .before .before .before .before .before .before .before .before .before .before .before .before .before .before .before .before .before .before .before .before .args .r .cp1) (c .before .before .before .before .before .before .before .before .before .before .before .before .before .before .before .before .before .before .before .before .args .r .cp2))))) (c .before .before .before .before .before .before .before .before .before .before .before .before .before .before .before .before .before .before .before .before .pre)))))
+put-controls-requires c κs = fifth-room (controlsText (c .before .before .before .before .before .before .before .before .before .before .before .before .before .before .before .before .before .before .before .args .r .curve) (c .before .before .before .before .before .before .before .before .before .before .before .before .before .before .before .before .before .before .before .args .r .cp1) (c .before .before .before .before .before .before .before .before .before .before .before .before .before .before .before .before .before .before .before .args .r .cp2)) (c .before .before .before .before .before .before .before .before .before .before .before .before .before .before .before .before .before .before .before .pre) (c .before .before .before .before .before .before .before .before .before .before .before .before .before .before .before .before .fit-hex .ensures) (c .before .before .before .before .before .before .before .before .before .before .before .before .fit-optional .ensures) (c .before .before .before .before .before .before .before .before .fit-bits .ensures) (c .before .before .before .fit-digits .ensures)
 
--- src/write.rt:95:1
+-- src/write.rt:43:1
 same-length : tie.Need-same-length
 same-length c = search needs
 
--- src/write.rt:95:1
+-- src/write.rt:43:1
 returns : tie.Need-returns
 unfolding pointText
-returns c = put-then (c .before .before .before .before .before .before .before .before .before .before .before .before .before .before .before .before .before .before .before .before .put-number .ensures) (put-then (c .before .before .before .before .before .before .before .before .before .before .before .before .before .before .before .before .put-optional .ensures) (put-then (c .before .before .before .before .before .before .before .before .before .before .before .put-number2 .ensures) (put-then (c .before .before .before .before .before .before .put-number3 .ensures) (c .before .before .put-controls .ensures))))
+returns c = five-put (controlsText (c .before .before .before .before .before .before .before .before .before .before .before .before .before .before .before .before .before .before .before .before .before .before .args .r .curve) (c .before .before .before .before .before .before .before .before .before .before .before .before .before .before .before .before .before .before .before .before .before .before .args .r .cp1) (c .before .before .before .before .before .before .before .before .before .before .before .before .before .before .before .before .before .before .before .before .before .before .args .r .cp2)) (c .before .before .before .before .before .before .before .before .before .before .before .before .before .before .before .before .before .before .before .before .before .before .pre) (c .before .before .before .before .before .before .before .before .before .before .before .before .before .before .before .before .before .before .before .fit-hex .ensures) (c .before .before .before .before .before .before .before .before .before .before .before .before .before .before .before .fit-optional .ensures) (c .before .before .before .before .before .before .before .before .before .before .before .fit-bits .ensures) (c .before .before .before .before .before .before .fit-digits .ensures) (c .before .before .put-controls .ensures)
 
 pub put-point-spec : {M : Type 1} → statement M
 put-point-spec =
     tie.close
     (tie.spec
-    put-number-requires
-    put-optional-requires
-    cast-put-number
-    put-number-requires-2
-    cast-put-number-2
-    put-number-requires-3
+    fit-hex-requires
+    fit-optional-requires
+    fit-bits-requires
+    cast-fit-digits
+    fit-digits-requires
     put-controls-requires
     same-length
     returns)

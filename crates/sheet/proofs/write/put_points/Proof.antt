@@ -4,13 +4,13 @@ use mathlib.Core.List.{List}
 use native.Mathlib.Omega.{arith}
 use native.Mathlib.Nat.{add-zero}
 use lib.ListN.{length, take}
-use Rattle.sheet.proofs.Stores.{put-length}
+use Rattle.fields.proofs.Stores.{put-length}
 use Rattle.points.specs.Laws.{take-min}
 use Rattle.points.specs.Point.{finitePoint, anyPoint}
 use Rattle.points.specs.declared.AutomationPoint.{AutomationPoint}
 use Rattle.points.proofs.Good.{places}
 use Rattle.sheet.specs.Text.{pointTexts}
-use Rattle.sheet.specs.Told.{Put}
+use Rattle.fields.specs.Told.{Put}
 use Rattle.sheet.proofs.Texts.{every-at, text-fits, text-put}
 use Rattle.sheet.proofs.write.put_points.Statement.{statement}
 use Rattle.sheet.proofs.write.put_points.Tie as tie

@@ -1,5 +1,5 @@
 use Rattle.sheet.specs.Text.{rawPoint}
-use Rattle.sheet.proofs.Floats.{number-no-nan}
+use Rattle.lines.proofs.Floats.{number-no-nan}
 use Rattle.sheet.proofs.Valid.{finite-time, finite-value, finite-cp1, finite-cp2}
 use borrow.Author.Needs.{needs}
 use Rattle.sheet.proofs.write.raw_point.Statement.{statement}

@@ -1,13 +1,14 @@
 use native.Mathlib.Omega.{arith}
-use Rattle.sheet.proofs.Stores.{length-le}
-use Rattle.sheet.proofs.Texts.{places-le, settings-length}
+use Rattle.fields.proofs.Stores.{length-le}
+use Rattle.fields.proofs.Places.{places-le}
+use Rattle.sheet.proofs.Texts.{settings-length}
 use borrow.Author.Needs.{needs}
 use Rattle.sheet.proofs.write.settings_length.Statement.{statement}
 use Rattle.sheet.proofs.write.settings_length.Tie as tie
 use Rattle.sheet.proofs.write.settings_length.Reads as reads
 use Rattle.sheet.proofs.write.settings_length.Lts as lts
 use Rattle.sheet.proofs.write.optional_length.Reads as optional-length-reads
-use Rattle.sheet.proofs.write.places_of.Reads as places-of-reads
+use Rattle.fields.proofs.write.places_of.Reads as places-of-reads
 
 cast-places-of : tie.Need-cast-places-of
 cast-places-of c = search needs

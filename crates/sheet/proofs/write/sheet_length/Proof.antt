@@ -2,7 +2,7 @@ use mathlib.Core.Path.{ap, _∙_}
 use native.Mathlib.Omega.{arith}
 use lib.ListN.{length}
 use Rattle.sheet.specs.Text.{settingsText}
-use Rattle.sheet.specs.declared.settings.RawSettings.{RawSettings}
+use Rattle.lines.specs.declared.settings.RawSettings.{RawSettings}
 use Rattle.sheet.proofs.Texts.{settings-le, sheet-length, texts-few}
 use Rattle.sheet.proofs.Valid.{limits-finite, few, points-finite}
 use borrow.Author.Needs.{needs}

@@ -6,7 +6,7 @@ use native.Mathlib.Nat.{zero-add}
 use Rattle.points.specs.Refusal.{gives}
 use Rattle.sheet.specs.Text.{sheetText, writeSheet}
 use Rattle.sheet.specs.Told.{toldWritten}
-use Rattle.sheet.proofs.Texts.{put-all}
+use Rattle.fields.proofs.Stores.{put-all}
 use borrow.Author.Needs.{needs}
 use Rattle.sheet.proofs.write.write_sheet.Statement.{statement}
 use Rattle.sheet.proofs.write.write_sheet.Tie as tie

@@ -1,0 +1,10 @@
+pub mod Entries
+pub mod ReadDigits
+pub mod Fields
+pub mod Starts
+pub mod Forms
+pub mod Decimal
+pub mod Stores
+pub mod Places
+pub mod Back
+pub mod Target

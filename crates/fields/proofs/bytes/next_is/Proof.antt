@@ -1,0 +1,22 @@
+use mathlib.Core.Path.{sym}
+use Rattle.fields.proofs.Fields.{next-in, next-out}
+use borrow.Author.Needs.{needs}
+use Rattle.fields.proofs.bytes.next_is.Statement.{statement}
+use Rattle.fields.proofs.bytes.next_is.Tie as tie
+use Rattle.fields.proofs.bytes.next_is.Reads as reads
+use Rattle.fields.proofs.bytes.next_is.Lts as lts
+
+-- src/bytes.rt:33:23
+shared-slice-read-result : tie.Need-shared-slice-read-result
+shared-slice-read-result c = search needs
+
+-- src/bytes.rt:30:1
+returns : tie.Need-returns
+returns c = sym (next-in _ _ _ (c .before .if1 .taken))
+
+-- src/bytes.rt:30:1
+returns-2 : tie.Need-returns-2
+returns-2 c = sym (next-out _ _ _ (c .if1 .left))
+
+pub next-is-spec : {M : Type 1} → statement M
+next-is-spec = tie.close (tie.spec shared-slice-read-result returns returns-2)

@@ -1,0 +1,13 @@
+use mathlib.Core.Path.{refl}
+use Rattle.fields.proofs.ReadDigits.{rule}
+use Rattle.fields.proofs.digits.table.Statement.{statement}
+use Rattle.fields.proofs.digits.table.Tie as tie
+use Rattle.fields.proofs.digits.table.Reads as reads
+use Rattle.fields.proofs.digits.table.Lts as lts
+
+-- src/digits.rt:30:1
+returns : tie.Need-returns
+returns c = rule _ tt refl
+
+pub table-spec : {M : Type 1} → statement M
+table-spec = tie.close (tie.spec returns)

@@ -1,0 +1,4 @@
+pub mod Bounds
+pub mod Ends
+pub mod Floats
+pub mod Reading

@@ -1,0 +1,69 @@
+use Rattle.fields.proofs.Fields.{told}
+use Rattle.lines.specs.Lines.{blockLine}
+use Rattle.lines.specs.Told.{toldBlockForm, toldBlock, toldBlockLine}
+use borrow.Author.Needs.{needs}
+use Rattle.lines.proofs.block.block_line.Statement.{statement}
+use Rattle.lines.proofs.block.block_line.Tie as tie
+use Rattle.lines.proofs.block.block_line.Reads as reads
+use Rattle.lines.proofs.block.block_line.Lts as lts
+use Rattle.fields.proofs.digits.table.Reads as table-reads
+use Rattle.lines.proofs.block.block_form.Reads as block-form-reads
+use Rattle.lines.proofs.block.block_of.Reads as block-of-reads
+
+-- src/block.rt:68:13
+table-requires : tie.Need-table-requires
+table-requires c κs = search needs
+
+-- src/block.rt:69:36
+block-form-requires : tie.Need-block-form-requires
+block-form-requires c κs = search needs
+
+-- src/block.rt:69:23
+enum-known-raw : tie.Need-enum-known-raw
+enum-known-raw c = search needs
+
+-- src/block.rt:70:35
+enum-told : tie.Need-enum-told
+enum-told c = search needs
+
+-- src/block.rt:70:9
+returns : tie.Need-returns
+unfolding blockLine toldBlockForm toldBlockLine
+returns c = rw (told (toldBlockForm _) (c .before .before .block-form .ensures) (c .enum-told .given .1))
+
+-- src/block.rt:72:11
+block-of-requires : tie.Need-block-of-requires
+block-of-requires c κs = search needs
+
+-- src/block.rt:73:28
+enum-known-r : tie.Need-enum-known-r
+enum-known-r c = search needs
+
+-- src/block.rt:74:23
+enum-known-b : tie.Need-enum-known-b
+enum-known-b c = search needs
+
+-- src/block.rt:65:1
+returns-2 : tie.Need-returns-2
+unfolding blockLine toldBlockForm toldBlock toldBlockLine
+returns-2 c = rw (told (toldBlockForm _) (c .before .before .before .before .before .before .before .block-form .ensures) (c .before .before .before .before .before .raw .given .1), told toldBlock (c .before .before .before .block-of .ensures) (c .before .r .given .1))
+
+-- src/block.rt:65:1
+returns-3 : tie.Need-returns-3
+unfolding blockLine toldBlockForm toldBlock toldBlockLine
+returns-3 c = rw (told (toldBlockForm _) (c .before .before .before .before .before .before .before .block-form .ensures) (c .before .before .before .before .before .raw .given .1), told toldBlock (c .before .before .before .block-of .ensures) (c .before .b .given .1))
+
+pub block-line-spec : {M : Type 1} → statement M
+block-line-spec =
+    tie.close
+    (tie.spec
+    table-requires
+    block-form-requires
+    enum-known-raw
+    enum-told
+    returns
+    block-of-requires
+    enum-known-r
+    enum-known-b
+    returns-2
+    returns-3)

@@ -1,0 +1,20 @@
+use mathlib.Core.Path.{refl}
+use Rattle.lines.specs.Told.{toldPointLines}
+use borrow.Author.Needs.{needs}
+use Rattle.lines.proofs.point_lines.no_points.Statement.{statement}
+use Rattle.lines.proofs.point_lines.no_points.Tie as tie
+use Rattle.lines.proofs.point_lines.no_points.Reads as reads
+use Rattle.lines.proofs.point_lines.no_points.Lts as lts
+use Rattle.points.proofs.list.none.Reads as none-reads
+
+-- src/point_lines.rt:63:9
+none-requires : tie.Need-none-requires
+none-requires c κs = search needs
+
+-- src/point_lines.rt:60:1
+returns : tie.Need-returns
+unfolding toldPointLines
+returns c = λ s. refl
+
+pub no-points-spec : {M : Type 1} → statement M
+no-points-spec = tie.close (tie.spec none-requires returns)

@@ -1,0 +1,110 @@
+-- What the code's answers say, in the terms of the definitions. In the answers a place of the slice s stands for the bytes from there on.
+use Prim.Native.Nat.{ℕ}
+use mathlib.Core.List.{List}
+use lib.ListN.{drop}
+use Rattle.points.specs.Refusal.{number, Said, refuses, gives}
+use Rattle.points.specs.declared.AutomationPoint.{AutomationPoint}
+use Rattle.points.specs.declared.Points.{Points}
+use Rattle.points.specs.declared.refusal.Answer.{Answer}
+use Rattle.points.specs.declared.refusal.Answer.the-variants.{Accepted, Refused}
+use Rattle.fields.specs.Form.{Got, bad, got}
+use Rattle.fields.specs.declared.Optional.{Optional}
+use Rattle.lines.specs.Lines.{Line, refused, line}
+use Rattle.lines.specs.PointLines.{Lines, stop, lines}
+use Rattle.lines.specs.declared.field.Number.{Number}
+use Rattle.lines.specs.declared.field.Number.the-variants as number
+use Rattle.lines.specs.declared.field.Single.{Single}
+use Rattle.lines.specs.declared.field.Single.the-variants as single
+use Rattle.lines.specs.declared.field.OptionalAt.{OptionalAt}
+use Rattle.lines.specs.declared.field.OptionalAt.the-variants as optionalAt
+use Rattle.lines.specs.declared.point.ControlsAt.{ControlsAt}
+use Rattle.lines.specs.declared.point.ControlsAt.the-variants as controlsAt
+use Rattle.lines.specs.declared.point.RawPoint.{RawPoint}
+use Rattle.lines.specs.declared.point.PointForm.{PointForm}
+use Rattle.lines.specs.declared.point.PointForm.the-variants as pointForm
+use Rattle.lines.specs.declared.point.PointSaid.{PointSaid}
+use Rattle.lines.specs.declared.point.PointSaid.the-variants as pointSaid
+use Rattle.lines.specs.declared.point.PointLine.{PointLine}
+use Rattle.lines.specs.declared.point.PointLine.the-variants as pointLine
+use Rattle.lines.specs.declared.settings.RawSettings.{RawSettings}
+use Rattle.lines.specs.declared.settings.Settings.{Settings}
+use Rattle.lines.specs.declared.settings.SettingsForm.{SettingsForm}
+use Rattle.lines.specs.declared.settings.SettingsForm.the-variants as settingsForm
+use Rattle.lines.specs.declared.settings.SettingsSaid.{SettingsSaid}
+use Rattle.lines.specs.declared.settings.SettingsSaid.the-variants as settingsSaid
+use Rattle.lines.specs.declared.point_lines.PointLines.{PointLines}
+use Rattle.lines.specs.declared.block.RawBlock.{RawBlock}
+use Rattle.lines.specs.declared.block.Block.{Block}
+use Rattle.lines.specs.declared.block.BlockForm.{BlockForm}
+use Rattle.lines.specs.declared.block.BlockForm.the-variants as blockForm
+use Rattle.lines.specs.declared.block.BlockSaid.{BlockSaid}
+use Rattle.lines.specs.declared.block.BlockSaid.the-variants as blockSaid
+use Rattle.lines.specs.declared.settings.SettingsLine.{SettingsLine}
+use Rattle.lines.specs.declared.settings.SettingsLine.the-variants as settingsLine
+use Rattle.lines.specs.declared.block.BlockLine.{BlockLine}
+use Rattle.lines.specs.declared.block.BlockLine.the-variants as blockLine
+
+-- ---- forms
+
+unfoldable pub toldNumber : List ℕ → Number → Got ℕ
+toldNumber s number.Bad = bad
+toldNumber s (number.Is v next) = got v (drop next s)
+
+unfoldable pub toldSingle : List ℕ → Single → Got ℕ
+toldSingle s single.Bad = bad
+toldSingle s (single.Is v next) = got v (drop next s)
+
+unfoldable pub toldOptional : List ℕ → OptionalAt → Got Optional
+toldOptional s optionalAt.Bad = bad
+toldOptional s (optionalAt.Is v next) = got v (drop next s)
+
+unfoldable pub toldControls : List ℕ → ControlsAt → Got (ℕ × ℕ)
+toldControls s controlsAt.Bad = bad
+toldControls s (controlsAt.Is cp1 cp2 next) = got (cp1, cp2) (drop next s)
+
+unfoldable pub toldPointForm : List ℕ → PointForm → Got RawPoint
+toldPointForm s pointForm.Bad = bad
+toldPointForm s (pointForm.Is r next) = got r (drop next s)
+
+unfoldable pub toldSettingsForm : List ℕ → SettingsForm → Got RawSettings
+toldSettingsForm s settingsForm.Bad = bad
+toldSettingsForm s (settingsForm.Is r next) = got r (drop next s)
+
+unfoldable pub toldBlockForm : List ℕ → BlockForm → Got RawBlock
+toldBlockForm s blockForm.Bad = bad
+toldBlockForm s (blockForm.Is r next) = got r (drop next s)
+
+-- ---- meanings and lines
+
+unfoldable pub toldPoint : PointSaid → Said AutomationPoint
+toldPoint (pointSaid.Refused r) = refuses (number r)
+toldPoint (pointSaid.Is p) = gives p
+
+unfoldable pub toldPointLine : List ℕ → PointLine → Line AutomationPoint
+toldPointLine s (pointLine.Refused r) = refused (number r)
+toldPointLine s (pointLine.Is p next) = line p (drop next s)
+
+unfoldable pub toldSettings : SettingsSaid → Said Settings
+toldSettings (settingsSaid.Refused r) = refuses (number r)
+toldSettings (settingsSaid.Is e) = gives e
+
+unfoldable pub toldBlock : BlockSaid → Said Block
+toldBlock (blockSaid.Refused r) = refuses (number r)
+toldBlock (blockSaid.Is b) = gives b
+
+unfoldable pub toldSettingsLine : List ℕ → SettingsLine → Line Settings
+toldSettingsLine s (settingsLine.Refused r) = refused (number r)
+toldSettingsLine s (settingsLine.Is e next) = line e (drop next s)
+
+unfoldable pub toldBlockLine : List ℕ → BlockLine → Line Block
+toldBlockLine s (blockLine.Refused r) = refused (number r)
+toldBlockLine s (blockLine.Is b next) = line b (drop next s)
+
+-- ---- a refusal with its line, or what stands beside the answer
+
+abbrev pub linesBy : {A : Type 0} → Answer → ℕ → A → List ℕ → Lines A
+linesBy Accepted k a rest = lines a rest
+linesBy (Refused r) k a rest = stop (number r) k
+
+unfoldable pub toldPointLines : List ℕ → PointLines → Lines Points
+toldPointLines s r = linesBy (r .answer) (r .line) (r .points) (drop (r .next) s)

@@ -1,0 +1,103 @@
+// The point lines.
+ghost use mathlib.Core.Path.{_≡_};
+ghost use mathlib.Core.Bool.{cond};
+ghost use mathlib.Core.List.{List, []};
+ghost use Prim.Native.Nat.{ℕ};
+ghost use lib.ListN.{drop};
+ghost use Rattle.points.specs.Refusal.{number};
+ghost use Rattle.fields.specs.Told.{DigitTable};
+ghost use Rattle.lines.specs.PointLines.{stop, isEmpty, pointsEnd, pointLines};
+ghost use Rattle.lines.specs.Told.{toldPointLines};
+use crate::point::PointLine;
+use points::Points;
+use points::refusal::Answer;
+use points::refusal::Refusal;
+
+// The points of the lines, and the place after them. A refusal has its line.
+pub struct PointLines {
+    pub answer: Answer,
+    pub line: u64,
+    pub points: Points,
+    pub next: usize,
+}
+
+// Whether the points end at the place: with the bytes, or in the program at the names of its block.
+fn points_end(s: &[u8], at: usize, program: bool) -> bool
+    ensures { λ r. ⌜ r ≡ pointsEnd program (drop at (now (s .entry))) ⌝ }
+{
+    if program {
+        fields::bytes::starts_with(s, at, b"rate duration\n")
+    } else {
+        s.len() <= at
+    }
+}
+
+// What is wrong after 256 points: no line, or one more.
+fn after_last(s: &[u8], at: usize) -> Refusal
+    ensures { λ r. ⌜ number r ≡ cond (isEmpty (drop at (now (s .entry)))) 9 5 ⌝ }
+{
+    if at < s.len() {
+        Refusal::TooManyPoints
+    } else {
+        Refusal::SheetForm
+    }
+}
+
+fn no_points(refusal: Refusal, line: u64) -> PointLines
+    ensures { λ r. ⌜ ((s : List ℕ) → toldPointLines s r ≡ stop (number refusal) line) ⌝ }
+{
+    let points = points::list::none();
+    PointLines {
+        answer: Answer::Refused(refusal),
+        line,
+        points,
+        next: 0,
+    }
+}
+
+// The point lines from the place on, through the table.
+fn lines_from(t: &[u8; 256], s: &[u8], start: usize, program: bool) -> PointLines
+    requires { ⌜ DigitTable (now t) ⌝ }
+    ensures { λ r. ⌜ toldPointLines (now (s .entry)) r ≡ pointLines program 256 [] (drop start (now (s .entry))) ⌝ }
+{
+    let unused = points::point::unused();
+    let mut places = [unused; 256];
+    let mut count: usize = 0;
+    let mut at = start;
+    let mut last: u64 = 0;
+    while !points_end(s, at, program) {
+        let line = (count + 4) as u64;
+        if count == 256 {
+            return no_points(after_last(s, at), line);
+        }
+        match crate::point::point_line(t, s, at) {
+            PointLine::Refused(refusal) => {
+                return no_points(refusal, line);
+            }
+            PointLine::Is(p, next) => {
+                let key = numbers::order::order_key(p.time);
+                if (0 < count) & (key <= last) {
+                    return no_points(Refusal::TimesDontRise, line);
+                }
+                places[count] = p;
+                count += 1;
+                last = key;
+                at = next;
+            }
+        }
+    }
+    PointLines {
+        answer: Answer::Accepted,
+        line: 0,
+        points: Points { count, places },
+        next: at,
+    }
+}
+
+// The point lines from the place on.
+pub fn point_lines(s: &[u8], start: usize, program: bool) -> PointLines
+    ensures { λ r. ⌜ toldPointLines (now (s .entry)) r ≡ pointLines program 256 [] (drop start (now (s .entry))) ⌝ }
+{
+    let t = fields::digits::table();
+    lines_from(&t, s, start, program)
+}
