@@ -1,0 +1,2 @@
+-- What quantizing does to the order of times.
+pub mod Grid

@@ -1,0 +1,1 @@
+// Laws of quantized times: specs/ and proofs/ alone.
