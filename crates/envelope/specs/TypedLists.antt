@@ -23,7 +23,7 @@ use Rattle.pointwise.specs.Each.{zero64, zero32, one32, withTime, withValue, cl
 use Rattle.pointwise.specs.declared.Change.{Change}
 use Rattle.pointwise.specs.declared.Change.the-variants.{Shift, ScaleTime, Reflect, Quantize, Invert, Normalize, Scale, Offset, Clamp, FadeIn, FadeOut, Gate, Compress}
 use Rattle.insert.specs.Insert.{insertPoint, insertAll, merged, rampList, pulseList}
-use Rattle.shape.specs.Shape.{keepIf, removeFirst, reversed, firstsAfter, firsts, quantized, differs, innerKept, simplified}
+use Rattle.shape.specs.Shape.{keepIf, removeFirst, reversed, firsts, quantized, differs, innerKept, simplified}
 use Rattle.envelope.specs.Typed.{typedCurve, typedPosition, typedPoint, typedPoints}
 use Rattle.envelope.specs.EditLaws.{either, both, parts}
 
@@ -46,20 +46,23 @@ module _ {A : Type 0} where
   keepIf-sub t [] = none
   keepIf-sub t (x ∷ l) = either (λ (m : List A). Sub m (x ∷ l)) (t x) (λ h. keep (keepIf-sub t l)) (skip (keepIf-sub t l))
 
+  -- and so of a list without some
+  keepIf-within : (t : A → Bool) {m l : List A} → Sub m l → Sub (keepIf t m) l
+  unfolding keepIf
+  keepIf-within t none = none
+  keepIf-within t (whole {l = l}) = keepIf-sub t l
+  keepIf-within t (keep {x = x} {m = m} {l = l} s) = either (λ (k : List A). Sub k (x ∷ l)) (t x) (λ h. keep (keepIf-within t s)) (skip (keepIf-within t s))
+  keepIf-within t (skip s) = skip (keepIf-within t s)
+
   pub removeFirst-sub : (t : A → Bool) (l : List A) → Sub (removeFirst t l) l
   unfolding removeFirst
   removeFirst-sub t [] = none
   removeFirst-sub t (x ∷ l) = either (λ (m : List A). Sub m (x ∷ l)) (t x) (λ h. skip whole) (keep (removeFirst-sub t l))
 
-firstsAfter-sub : (p : AutomationPoint) (l : List AutomationPoint) → Sub (firstsAfter p l) l
-unfolding firstsAfter
-firstsAfter-sub p [] = none
-firstsAfter-sub p (q ∷ l) = either (λ (m : List AutomationPoint). Sub m (q ∷ l)) (eqb (timeKey p) (timeKey q)) (λ h. skip (firstsAfter-sub p l)) (keep (firstsAfter-sub q l))
-
 pub firsts-sub : (l : List AutomationPoint) → Sub (firsts l) l
 unfolding firsts
 firsts-sub [] = none
-firsts-sub (p ∷ l) = keep (firstsAfter-sub p l)
+firsts-sub (p ∷ l) = keep (keepIf-within _ (firsts-sub l))
 
 innerKept-sub : (tolerance : Float) (p : AutomationPoint) (l : List AutomationPoint) → Sub (innerKept tolerance (p ∷ l)) l
 unfolding innerKept

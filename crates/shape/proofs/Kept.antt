@@ -18,7 +18,8 @@ use Rattle.points.specs.Middles.{middles, keep-cons, keep-one, middles-yes, mid
 use Rattle.points.specs.declared.AutomationPoint.{AutomationPoint}
 use Rattle.points.specs.declared.Points.{Points}
 use Rattle.settle.proofs.Ends.{pushed}
-use Rattle.shape.specs.Shape.{keepIf, removeFirst, firstsAfter, firsts, differs, innerKept, simplified}
+use Rattle.shape.specs.Neighbours.{differingAfter, withoutRepeats}
+use Rattle.shape.specs.Shape.{keepIf, removeFirst, differs, innerKept, simplified}
 
 -- a search that goes on while none has passed: the first is found
 pub none-here : (a b : Bool) → (a && b) ≡ true → false ≡ (a && not b)
@@ -119,62 +120,48 @@ module _ {A : Type 0} where
 -- ---- neighbours at the same time: the first stays
 
 -- which point was kept last matters by its time alone
-after-same : (p q : AutomationPoint) (l : List AutomationPoint) → timeKey p ≡ timeKey q → firstsAfter p l ≡ firstsAfter q l
-unfolding firstsAfter
+pub after-same : (p q : AutomationPoint) (l : List AutomationPoint) → timeKey p ≡ timeKey q → differingAfter p l ≡ differingAfter q l
+unfolding differingAfter
 after-same p q [] e = refl
-after-same p q (r ∷ l) e = λ i. cond (eqb (e i) (timeKey r)) (after-same p q l e i) (r ∷ firstsAfter r l)
+after-same p q (r ∷ l) e = λ i. cond (eqb (e i) (timeKey r)) (after-same p q l e i) (r ∷ differingAfter r l)
 
-after-cons : (b : Bool) (x y : AutomationPoint) (t k c : List AutomationPoint) → eqb (timeKey x) (timeKey y) ≡ b → firstsAfter y t ≡ firstsAfter y k ++ c
-    → cond b (firstsAfter x t) (y ∷ firstsAfter y t) ≡ cond b (firstsAfter x k) (y ∷ firstsAfter y k) ++ c
+after-cons : (b : Bool) (x y : AutomationPoint) (t k c : List AutomationPoint) → eqb (timeKey x) (timeKey y) ≡ b → differingAfter y t ≡ differingAfter y k ++ c
+    → cond b (differingAfter x t) (y ∷ differingAfter y t) ≡ cond b (differingAfter x k) (y ∷ differingAfter y k) ++ c
 after-cons true x y t k c e h =
     let s = eqb-true (timeKey x) (timeKey y) e in
     after-same x y t s ∙ h ∙ ap (λ (l : List AutomationPoint). l ++ c) (sym (after-same x y k s))
 after-cons false x y t k c e h = ap (λ (l : List AutomationPoint). y ∷ l) h
 
 after-more : (x : AutomationPoint) (l : List AutomationPoint) (i : ℕ) (d : AutomationPoint) → i < length l
-    → firstsAfter x (take (suc i) l) ≡ firstsAfter x (take i l) ++ cond (eqb (timeKey (getD (x ∷ l) i d)) (timeKey (getD l i d))) [] (getD l i d ∷ [])
-unfolding firstsAfter
+    → differingAfter x (take (suc i) l) ≡ differingAfter x (take i l) ++ cond (eqb (timeKey (getD (x ∷ l) i d)) (timeKey (getD l i d))) [] (getD l i d ∷ [])
+unfolding differingAfter
 after-more x [] i d h = absurd (not-suc-le-zero h)
 after-more x (y ∷ l) zero d h = refl
 after-more x (y ∷ l) (suc i) d h = after-cons (eqb (timeKey x) (timeKey y)) x y (take (suc i) l) (take i l) _ refl (after-more y l i d (le-of-suc-le-suc h))
 
-firsts-suc : (l : List AutomationPoint) (i : ℕ) (d : AutomationPoint) → suc i < length l
-    → firsts (take (suc (suc i)) l) ≡ firsts (take (suc i) l) ++ cond (eqb (timeKey (getD l i d)) (timeKey (getD l (suc i) d))) [] (getD l (suc i) d ∷ [])
-unfolding firsts
-firsts-suc [] i d h = absurd (not-suc-le-zero h)
-firsts-suc (x ∷ l) i d h = ap (λ (k : List AutomationPoint). x ∷ k) (after-more x l i d (le-of-suc-le-suc h))
+repeats-suc : (l : List AutomationPoint) (i : ℕ) (d : AutomationPoint) → suc i < length l
+    → withoutRepeats (take (suc (suc i)) l) ≡ withoutRepeats (take (suc i) l) ++ cond (eqb (timeKey (getD l i d)) (timeKey (getD l (suc i) d))) [] (getD l (suc i) d ∷ [])
+unfolding withoutRepeats
+repeats-suc [] i d h = absurd (not-suc-le-zero h)
+repeats-suc (x ∷ l) i d h = ap (λ (k : List AutomationPoint). x ∷ k) (after-more x l i d (le-of-suc-le-suc h))
 
-firsts-next : (l : List AutomationPoint) (i : ℕ) (d : AutomationPoint) → 0 < i → i < length l
-    → firsts (take (i + 1) l) ≡ firsts (take i l) ++ cond (eqb (timeKey (getD l (i - 1) d)) (timeKey (getD l i d))) [] (getD l i d ∷ [])
-firsts-next l zero d p h = absurd (not-suc-le-zero p)
-firsts-next l (suc k) d p h = let e : suc k - 1 ≡ k = omega arith in rw (add-one, e) (firsts-suc l k d h)
+repeats-next : (l : List AutomationPoint) (i : ℕ) (d : AutomationPoint) → 0 < i → i < length l
+    → withoutRepeats (take (i + 1) l) ≡ withoutRepeats (take i l) ++ cond (eqb (timeKey (getD l (i - 1) d)) (timeKey (getD l i d))) [] (getD l i d ∷ [])
+repeats-next l zero d p h = absurd (not-suc-le-zero p)
+repeats-next l (suc k) d p h = let e : suc k - 1 ≡ k = omega arith in rw (add-one, e) (repeats-suc l k d h)
 
-pub firsts-yes : (l : List AutomationPoint) (i : ℕ) (d : AutomationPoint) → 0 < i → i < length l → eqb (timeKey (getD l (i - 1) d)) (timeKey (getD l i d)) ≡ false
-    → firsts (take (i + 1) l) ≡ firsts (take i l) ++ (getD l i d ∷ [])
-firsts-yes l i d p h y = firsts-next l i d p h ∙ ap (λ (b : Bool). firsts (take i l) ++ cond b [] (getD l i d ∷ [])) y
+pub repeats-yes : (l : List AutomationPoint) (i : ℕ) (d : AutomationPoint) → 0 < i → i < length l → eqb (timeKey (getD l (i - 1) d)) (timeKey (getD l i d)) ≡ false
+    → withoutRepeats (take (i + 1) l) ≡ withoutRepeats (take i l) ++ (getD l i d ∷ [])
+repeats-yes l i d p h y = repeats-next l i d p h ∙ ap (λ (b : Bool). withoutRepeats (take i l) ++ cond b [] (getD l i d ∷ [])) y
 
-pub firsts-no : (l : List AutomationPoint) (i : ℕ) (d : AutomationPoint) → 0 < i → i < length l → eqb (timeKey (getD l (i - 1) d)) (timeKey (getD l i d)) ≡ true
-    → firsts (take (i + 1) l) ≡ firsts (take i l)
-firsts-no l i d p h y = firsts-next l i d p h ∙ ap (λ (b : Bool). firsts (take i l) ++ cond b [] (getD l i d ∷ [])) y ∙ append-nil (firsts (take i l))
+pub repeats-no : (l : List AutomationPoint) (i : ℕ) (d : AutomationPoint) → 0 < i → i < length l → eqb (timeKey (getD l (i - 1) d)) (timeKey (getD l i d)) ≡ true
+    → withoutRepeats (take (i + 1) l) ≡ withoutRepeats (take i l)
+repeats-no l i d p h y = repeats-next l i d p h ∙ ap (λ (b : Bool). withoutRepeats (take i l) ++ cond b [] (getD l i d ∷ [])) y ∙ append-nil (withoutRepeats (take i l))
 
-pub firsts-one : (l : List AutomationPoint) → firsts (take 1 l) ≡ take 1 l
-unfolding firsts
-firsts-one [] = refl
-firsts-one (x ∷ l) = refl
-
-after-few : (x : AutomationPoint) (l : List AutomationPoint) → length (firstsAfter x l) ≤ length l
-unfolding firstsAfter
-after-few x [] = zero-le
-after-few x (y ∷ l) = few-cons (eqb (timeKey x) (timeKey y)) y (firstsAfter x l) (firstsAfter y l) (length l) (after-few x l) (after-few y l)
-  where
-    few-cons : (b : Bool) (y : AutomationPoint) (k m : List AutomationPoint) (n : ℕ) → length k ≤ n → length m ≤ n → length (cond b k (y ∷ m)) ≤ suc n
-    few-cons true y k m n g h = omega arith
-    few-cons false y k m n g h = suc-le-suc h
-
-pub firsts-few : (l : List AutomationPoint) → length (firsts l) ≤ length l
-unfolding firsts
-firsts-few [] = zero-le
-firsts-few (x ∷ l) = suc-le-suc (after-few x l)
+pub repeats-one : (l : List AutomationPoint) → withoutRepeats (take 1 l) ≡ take 1 l
+unfolding withoutRepeats
+repeats-one [] = refl
+repeats-one (x ∷ l) = refl
 
 -- ---- the points that differ from what their neighbours would give
 
@@ -226,17 +213,17 @@ module _ (ps : Points) (n i : ℕ) (len : length (ps .places) ≡ 256) (used : n
   read j h = sym (getD-take (ps .count) (ps .places) j anyPoint (omega arith))
 
   -- the times of the one before and of this one
-  module _ (p : 0 < i) (h : i < n) (out : Points) (e : out ≡ holding (firsts (take i l))) where
+  module _ (p : 0 < i) (h : i < n) (out : Points) (e : out ≡ holding (withoutRepeats (take i l))) where
     times : eqb (timeKey (at (i - 1))) (timeKey (at i)) ≡ eqb (timeKey (getD l (i - 1) anyPoint)) (timeKey (getD l i anyPoint))
     times = λ j. eqb (timeKey (read (i - 1) (omega arith) j)) (timeKey (read i h j))
 
-    pub firsts-push : out .count < 256 → (timeKey (at (i - 1)) ≡ timeKey (at i) → ⊥) → with out (at i) ≡ holding (firsts (take (i + 1) l))
-    firsts-push b ne =
-        pushed out (firsts (take i l)) (at i) (omega (arith, ap (λ (x : Points). x .count) e)) e
-        ∙ ap holding (ap (λ (x : AutomationPoint). firsts (take i l) ++ (x ∷ [])) (read i h) ∙ sym (firsts-yes l i anyPoint p (omega (arith, long)) (sym times ∙ ne-eqb _ _ ne)))
+    pub repeats-push : out .count < 256 → (timeKey (at (i - 1)) ≡ timeKey (at i) → ⊥) → with out (at i) ≡ holding (withoutRepeats (take (i + 1) l))
+    repeats-push b ne =
+        pushed out (withoutRepeats (take i l)) (at i) (omega (arith, ap (λ (x : Points). x .count) e)) e
+        ∙ ap holding (ap (λ (x : AutomationPoint). withoutRepeats (take i l) ++ (x ∷ [])) (read i h) ∙ sym (repeats-yes l i anyPoint p (omega (arith, long)) (sym times ∙ ne-eqb _ _ ne)))
 
-    pub firsts-pass : timeKey (at (i - 1)) ≡ timeKey (at i) → out ≡ holding (firsts (take (i + 1) l))
-    firsts-pass eq = e ∙ ap holding (sym (firsts-no l i anyPoint p (omega (arith, long)) (sym times ∙ eq-eqb _ _ eq)))
+    pub repeats-pass : timeKey (at (i - 1)) ≡ timeKey (at i) → out ≡ holding (withoutRepeats (take (i + 1) l))
+    repeats-pass eq = e ∙ ap holding (sym (repeats-no l i anyPoint p (omega (arith, long)) (sym times ∙ eq-eqb _ _ eq)))
 
   -- a test of the two before and of this one
   module _ (q : AutomationPoint → AutomationPoint → AutomationPoint → Bool) (p : 2 ≤ i) (h : i < n) (out : Points) (e : out ≡ holding (take 1 l ++ middles q (take i l))) where

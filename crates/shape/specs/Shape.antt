@@ -1,5 +1,5 @@
 -- The edits that change which points there are, as 000 has them.
-use mathlib.Core.Bool.{Bool, cond, _&&_}
+use mathlib.Core.Bool.{Bool, cond, not, _&&_}
 use mathlib.Core.List.{List, [], _∷_, map, reverse}
 use lib.Dec.{eqb}
 use lib.Ieee.{Float, binary32, binary64, sub, div, lt, le, ofBits}
@@ -33,16 +33,10 @@ near time p = lt (abs (sub binary64 (p .time) time)) (ofBits binary64 0x3F50_624
 abbrev pub reversed : List AutomationPoint → List AutomationPoint
 reversed l = reverse (map (changed (Reflect (lastTime l))) l)
 
--- the points after p, without those at the time of the one kept before them
-unfoldable pub firstsAfter : AutomationPoint → List AutomationPoint → List AutomationPoint
-firstsAfter p [] = []
-firstsAfter p (q ∷ l) = cond (eqb (timeKey p) (timeKey q)) (firstsAfter p l) (q ∷ firstsAfter q l)
-
--- "Quantizing keeps the first of bit-equal times": of neighbours at the same time the first stays. Rounding to a grid lets no time pass another, so that equal times stand beside each other.
+-- "Quantizing keeps the first of bit-equal times": each point, and after it no other at its time
 unfoldable pub firsts : List AutomationPoint → List AutomationPoint
-unfolding firstsAfter
 firsts [] = []
-firsts (p ∷ l) = p ∷ firstsAfter p l
+firsts (p ∷ l) = p ∷ keepIf (λ q. not (eqb (timeKey p) (timeKey q))) (firsts l)
 
 -- quantize_time
 abbrev pub quantized : Float → List AutomationPoint → List AutomationPoint

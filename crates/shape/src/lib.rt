@@ -6,7 +6,8 @@ ghost use lib.ListN.{take};
 ghost use Rattle.numbers.specs.Bounds.{finite};
 ghost use Rattle.points.specs.Points.{listOf, holding};
 ghost use Rattle.settle.specs.Settle.{editPoints};
-ghost use Rattle.shape.specs.Shape.{keepIf, inside, removeFirst, near, reversed, firsts, quantized, differs, simplified};
+ghost use Rattle.shape.specs.Neighbours.{withoutRepeats};
+ghost use Rattle.shape.specs.Shape.{keepIf, inside, removeFirst, near, reversed, quantized, differs, simplified};
 use points::AutomationPoint;
 use points::Points;
 use pointwise::Change;
@@ -122,9 +123,9 @@ fn first_only(points: Points) -> Points
     out
 }
 
-// A point goes where the one before it has its time: the first of equal times stays.
+// A point goes where the one before it has its time. Quantized times do not fall, so the first of equal ones stays.
 fn without_repeats(points: Points) -> Points
-    ensures { λ r. ⌜ r ≡ holding (firsts (listOf points)) ⌝ }
+    ensures { λ r. ⌜ r ≡ holding (withoutRepeats (listOf points)) ⌝ }
 {
     let n = points.used();
     let mut out = first_only(points);

@@ -1,19 +1,19 @@
 use mathlib.Core.Path.{sym, ap, _∙_}
 use mathlib.Core.Bool.{Bool, cond}
 use mathlib.Core.List.{List, map}
-use native.Mathlib.Omega.{arith}
-use lib.ListN.{length-map}
 use Rattle.numbers.specs.Bounds.{finite}
 use Rattle.points.specs.declared.AutomationPoint.{AutomationPoint}
 use Rattle.points.specs.Points.{listOf, holding}
 use Rattle.points.proofs.Good.{places}
 use Rattle.settle.specs.Settle.{editPoints}
-use Rattle.settle.proofs.Ends.{ends-valid, ends-same, listOf-few}
+use Rattle.settle.proofs.Ends.{ends-same}
 use Rattle.pointwise.specs.Each.{changed}
 use Rattle.pointwise.specs.declared.Change.the-variants.{Quantize}
 use Rattle.pointwise.proofs.Mapped.{mapped-list}
 use Rattle.shape.specs.Shape.{firsts}
-use Rattle.shape.proofs.Kept.{firsts-few}
+use Rattle.shape.specs.Neighbours.{withoutRepeats}
+use Rattle.shape.proofs.Fits.{times-fit}
+use Rattle.shape.proofs.Quantized.{ends-quantized}
 use borrow.Author.Needs.{needs}
 use Rattle.shape.proofs.quantize_time.Statement.{statement}
 use Rattle.shape.proofs.quantize_time.Tie as tie
@@ -42,13 +42,12 @@ returns c =
 
 returns-2 : tie.Need-returns-2
 returns-2 c =
-    let ps = c .before .before .before .before .before .args .points in
-    let l = listOf ps in
-    let f = changed (Quantize (c .before .before .before .before .before .args .grid)) in
-    let len = places ps _ (c .before .before .before .before .before .good .0) in
-    ends-valid ps (c .before .without-repeats .result) (firsts (map f l)) (c .finish2 .ensures) (c .before .before .before .before .is-finite .ensures)
-    (λ v. (omega (arith, firsts-few (map f l), length-map l f, listOf-few ps len), c .before .without-repeats .ensures ∙ ap (λ (k : List AutomationPoint). holding (firsts k)) (ap listOf (c .before .before .map-points .ensures) ∙ mapped-list f ps v len)))
-    ∙ ap (λ (b : Bool). editPoints ps (finite (c .before .before .before .before .before .args .grid)) (cond b l (firsts (map f l)))) (sym (c .before .before .before .if1 .left))
+    let start = c .before .before .before .before .before in
+    let ps = start .args .points in
+    let grid = start .args .grid in
+    let len = places ps _ (start .good .0) in
+    ends-quantized ps (c .before .without-repeats .result) grid (c .finish2 .ensures) (c .before .before .before .before .is-finite .ensures) (c .before .before .before .if1 .left) len (times-fit ps _ (start .good .0))
+    (λ v. c .before .without-repeats .ensures ∙ ap (λ (k : List AutomationPoint). holding (withoutRepeats k)) (ap listOf (c .before .before .map-points .ensures) ∙ mapped-list (changed (Quantize grid)) ps v len))
 
 pub quantize-time-spec : {M : Type 1} → statement M
 quantize-time-spec =

@@ -8,13 +8,13 @@ use Rattle.points.specs.declared.AutomationPoint.{AutomationPoint}
 use Rattle.points.specs.declared.Points.{Points}
 use Rattle.points.specs.Points.{listOf, holding}
 use Rattle.points.proofs.Good.{places}
-use Rattle.shape.specs.Shape.{firsts}
-use Rattle.shape.proofs.Kept.{firsts-one, firsts-push, firsts-pass}
+use Rattle.shape.specs.Neighbours.{withoutRepeats}
+use Rattle.shape.proofs.Kept.{repeats-one, repeats-push, repeats-pass}
 use Rattle.shape.proofs.without_repeats.Statement.{statement}
 use Rattle.shape.proofs.without_repeats.Tie as tie
 
 abbrev Inv-loop : tie.InvT-loop
-Inv-loop points n out₀ i₀ out i = (1 ≤ i) × (i ≤ max 1 n) × (out .count ≤ i) × (out ≡ holding (firsts (take i (listOf points))))
+Inv-loop points n out₀ i₀ out i = (1 ≤ i) × (i ≤ max 1 n) × (out .count ≤ i) × (out ≡ holding (withoutRepeats (take i (listOf points))))
 
 abbrev μ-loop : tie.MeasureT-loop
 μ-loop points n out₀ i₀ out i = n - i
@@ -28,7 +28,7 @@ first-only-requires c κs = tt
 loop-holds : tie.Need-loop-holds Inv-loop μ-loop
 loop-holds c =
     let l = listOf (c .before .before .args .t1) in
-    (omega arith, omega arith, omega (arith, ap (λ (x : Points). x .count) (c .first-only .ensures), length-take 1 l), c .first-only .ensures ∙ ap holding (sym (firsts-one l)))
+    (omega arith, omega arith, omega (arith, ap (λ (x : Points). x .count) (c .first-only .ensures), length-take 1 l), c .first-only .ensures ∙ ap holding (sym (repeats-one l)))
 
 sub-p : tie.Need-sub-p Inv-loop μ-loop
 sub-p c = omega arith
@@ -69,7 +69,7 @@ loop-less c = omega arith
 loop-again : tie.Need-loop-again Inv-loop μ-loop
 loop-again c =
     let h = c .before .before .before .before .before .before .loop in
-    (omega arith, omega arith, omega arith, firsts-push (c .before .before .before .before .before .before .before .before .before .args .t1) (c .before .before .before .before .before .before .before .before .used .result) (h .i) (places (c .before .before .before .before .before .before .before .before .before .args .t1) _ (c .before .before .before .before .before .before .before .before .before .good .0)) (c .before .before .before .before .before .before .before .before .used .ensures) (h .inv .0) (c .before .before .before .before .before .loop-test .taken) (h .out) (h .inv .3) (omega arith) (λ e. c .if1 .taken (c .before .before .order-key .ensures ∙ e ∙ sym (c .before .order-key2 .ensures))))
+    (omega arith, omega arith, omega arith, repeats-push (c .before .before .before .before .before .before .before .before .before .args .t1) (c .before .before .before .before .before .before .before .before .used .result) (h .i) (places (c .before .before .before .before .before .before .before .before .before .args .t1) _ (c .before .before .before .before .before .before .before .before .before .good .0)) (c .before .before .before .before .before .before .before .before .used .ensures) (h .inv .0) (c .before .before .before .before .before .loop-test .taken) (h .out) (h .inv .3) (omega arith) (λ e. c .if1 .taken (c .before .before .order-key .ensures ∙ e ∙ sym (c .before .order-key2 .ensures))))
 
 loop-less-2 : tie.Need-loop-less-2 Inv-loop μ-loop
 loop-less-2 c = omega arith
@@ -77,14 +77,14 @@ loop-less-2 c = omega arith
 loop-again-2 : tie.Need-loop-again-2 Inv-loop μ-loop
 loop-again-2 c =
     let h = c .before .before .before .before .before .before .loop in
-    (omega arith, omega arith, omega arith, firsts-pass (c .before .before .before .before .before .before .before .before .before .args .t1) (c .before .before .before .before .before .before .before .before .used .result) (h .i) (places (c .before .before .before .before .before .before .before .before .before .args .t1) _ (c .before .before .before .before .before .before .before .before .before .good .0)) (c .before .before .before .before .before .before .before .before .used .ensures) (h .inv .0) (c .before .before .before .before .before .loop-test .taken) (h .out) (h .inv .3) (sym (c .before .before .order-key .ensures) ∙ c .if1 .left ∙ c .before .order-key2 .ensures))
+    (omega arith, omega arith, omega arith, repeats-pass (c .before .before .before .before .before .before .before .before .before .args .t1) (c .before .before .before .before .before .before .before .before .used .result) (h .i) (places (c .before .before .before .before .before .before .before .before .before .args .t1) _ (c .before .before .before .before .before .before .before .before .before .good .0)) (c .before .before .before .before .before .before .before .before .used .ensures) (h .inv .0) (c .before .before .before .before .before .loop-test .taken) (h .out) (h .inv .3) (sym (c .before .before .order-key .ensures) ∙ c .if1 .left ∙ c .before .order-key2 .ensures))
 
 returns : tie.Need-returns Inv-loop μ-loop
 returns c =
     let ps = c .before .before .before .before .args .t1 in
     let len = places ps _ (c .before .before .before .before .good .0) in
     let n : length (listOf ps) ≡ c .before .before .before .used .result = omega (arith, length-take (ps .count) (ps .places), c .before .before .before .used .ensures) in
-    c .before .loop .inv .3 ∙ ap (λ (l : List AutomationPoint). holding (firsts l)) (take-all (c .before .loop .i) (listOf ps) (omega arith))
+    c .before .loop .inv .3 ∙ ap (λ (l : List AutomationPoint). holding (withoutRepeats l)) (take-all (c .before .loop .i) (listOf ps) (omega arith))
 
 pub without-repeats-spec : {M : Type 1} → statement M
 without-repeats-spec =
