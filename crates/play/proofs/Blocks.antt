@@ -1,8 +1,8 @@
 -- A block: what the rendering says of it, and its lines. Assumes nothing.
-use Prim.Native.Nat.{ℕ, _+_, _-_, _*_, _≤_, _<_, min}
+use Prim.Native.Nat.{ℕ, _+_, _-_, _*_, _≤_, _<_}
 use mathlib.Core.Path.{_≡_, refl, sym, ap, _∙_}
 use mathlib.Core.Bool.{Bool, true, false, cond}
-use mathlib.Core.List.{List, _++_}
+use mathlib.Core.List.{List}
 use native.Mathlib.Omega.{arith}
 use borrow.Author.Tests.{le-leb, leb-true}
 use lib.Dec.{leb}
@@ -84,8 +84,7 @@ module _ (p : Play) (room : List Float) (long : 1024 ≤ length room) where
         let r : Put out 0 (sampleLines (p .next) samples) m b = rw taken at q in
         let w = sampleLines (p .next) samples in
         let fits : length w ≤ length out = omega (arith, lines-length (p .next) samples, run-long (samplesOf (p .envelope) (p .rate)) (p .next) (blockCount p)) in
-        let n : b ≡ length w = omega (arith, r .next) in
-        (
+        let n : b ≡ length w = omega (arith, r .next) in (
           ap gives n ∙ sym (ap (λ (x : BlockTold). x .said) (g .told out)),
           (sym (ap (λ (x : BlockTold). x .play) (g .told out)), put-all out w m b r fits ∙ sym (ap (λ (x : BlockTold). x .bytes) (g .told out))),
         )

@@ -1,14 +1,13 @@
 -- The texts that are printed: how long they are, and one put after another. Assumes nothing.
 use Prim.Native.Nat.{ℕ, suc, _+_, _*_, _≤_, _<_}
-use mathlib.Core.Path.{_≡_, refl, sym, ap, _∙_}
+use mathlib.Core.Path.{_≡_, ap, _∙_}
 use mathlib.Core.List.{List, [], _∷_, _++_, append-nil}
 use native.Mathlib.Numerals.{add-one}
 use native.Mathlib.Nat.{zero-add}
 use native.Mathlib.Omega.{arith}
 use lib.Ieee.{Float, binary32, toBits}
-use lib.ListN.{length, take, getD, length-append, length-take}
+use lib.ListN.{length, take, getD, length-append}
 use lib.Seq.{take-suc, length-take-le}
-use Rattle.lookup.specs.Runs.{run}
 use Rattle.fields.specs.Text.{placesOf, numberText, decimalText}
 use Rattle.sheet.specs.Sheet.{Input, declined, input}
 use Rattle.fields.specs.Told.{Put, Fitted}

@@ -1,5 +1,5 @@
 -- The program's output is what its blocks have, one after the other, and its first bytes decide it.
-use Prim.Native.Nat.{ℕ, zero, suc, _+_, _-_, _*_, _≤_, _<_, min}
+use Prim.Native.Nat.{ℕ, zero, suc, _+_, _-_, _*_, _≤_, _<_}
 use mathlib.Core.Path.{_≡_, refl, sym, ap, ap₂, _∙_}
 use mathlib.Core.Bool.{Bool, true, false, cond}
 use mathlib.Core.List.{List, [], _∷_, _++_, append-assoc, append-nil}
@@ -9,7 +9,7 @@ use lib.Dec.{ltb, leb}
 use lib.ListN.{length, take, drop}
 use lib.Seq.{take-at}
 use lib.Ieee.{Float, binary64, ofBits}
-use borrow.Author.Tests.{leb-true, le-leb, ltb-true, ltb-false, lt-ltb, le-ltb}
+use borrow.Author.Tests.{leb-true, le-leb, ltb-true, ltb-false}
 use Rattle.numbers.specs.Bounds.{finite}
 use Rattle.curve.specs.Curve.{code}
 use Rattle.points.specs.Points.{every, risingBy, validPoints}
@@ -26,7 +26,7 @@ use Rattle.lines.specs.declared.block.RawBlock.{RawBlock}
 use Rattle.lines.specs.declared.block.Block.{Block}
 use Rattle.sheet.proofs.Sheets.{sheet-read}
 use Rattle.sheet.proofs.Prefix.{input-decided}
-use Rattle.play.specs.Play.{sampleNames, samplesOf, sampleLine, sampleLines, refusalText, counted, printed, output}
+use Rattle.play.specs.Play.{samplesOf, sampleLine, sampleLines, refusalText, counted, printed, output}
 use Rattle.play.specs.Blocks.{over, firstText, firstPlay, blockCount, blockText, after, nextBlock, taken, played}
 use Rattle.play.specs.declared.Play.{Play}
 

@@ -7,7 +7,7 @@ use native.Mathlib.Omega.{arith}
 use lib.ListN.{drop}
 use lib.Dec.{eqb}
 use borrow.Author.Tests.{eqb-true, eqb-false}
-use Rattle.fields.specs.Form.{got, startsWith, numberForm, optionalForm, targetForm}
+use Rattle.fields.specs.Form.{got, startsWith, numberForm, optionalForm}
 use Rattle.lines.specs.Lines.{settingsForm, dashes, controlsForm, pointForm}
 use Rattle.fields.specs.Text.{numberText, optionalText, decimalText}
 use Rattle.sheet.specs.Text.{settingsText, controlsText, pointText}
@@ -17,6 +17,7 @@ use Rattle.lines.specs.declared.point.RawPoint.{RawPoint}
 use Rattle.fields.proofs.ReadDigits.{number-lt}
 use Rattle.fields.proofs.Decimal.{target-lt}
 use Rattle.fields.proofs.Starts.{starts-back}
+use Rattle.lines.proofs.Bounds.{settings-parts}
 use Rattle.fields.proofs.Forms.{unthen, uncond, optional-lt}
 use Rattle.fields.proofs.Back.{read-number, write-number, read-optional, write-optional}
 use Rattle.fields.proofs.Target.{read-target, write-target}
@@ -58,33 +59,24 @@ pub record SettingsFound (l : List ℕ) (r : RawSettings) (rest : List ℕ) : Ty
   pub text : l ≡ settingsText r ++ rest
 
 pub settings-found : (l : List ℕ) (r : RawSettings) (rest : List ℕ) → settingsForm l ≡ got r rest → SettingsFound l r rest
-unfolding settingsForm settingsText
+unfolding settingsText
 settings-found l r rest q =
-    unthen (targetForm l) _ q (λ target l1 e1 q1.
-    unthen (numberForm 2 1 32 l1) _ q1 (λ enabled l2 e2 q2.
-    unthen (optionalForm 8 32 l2) _ q2 (λ min l3 e3 q3.
-    unthen (optionalForm 8 32 l3) _ q3 (λ max l4 e4 q4.
-    unthen (optionalForm 8 10 l4) _ q4 (λ step l5 e5 q5.
-    let made : RawSettings = record { target = target; enabled = enabled; min = min; max = max; step = step } in
-    let same : made ≡ r = cc in
-    let end : l5 ≡ rest = cc in
-    subst (λ (x : RawSettings). SettingsFound l x rest) same
-    (record {
+    let p = settings-parts l r rest q in
+    record {
       fine = record {
-        target = target-lt l target l1 e1;
-        enabled = number-lt 2 1 32 l1 enabled l2 e2;
-        min = optional-lt 8 32 l2 min l3 e3;
-        max = optional-lt 8 32 l3 max l4 e4;
-        step = optional-lt 8 10 l4 step l5 e5;
+        target = target-lt l (r .target) (p .l1) (p .target);
+        enabled = number-lt 2 1 32 (p .l1) (r .enabled) (p .l2) (p .enabled);
+        min = optional-lt 8 32 (p .l2) (r .min) (p .l3) (p .min);
+        max = optional-lt 8 32 (p .l3) (r .max) (p .l4) (p .max);
+        step = optional-lt 8 10 (p .l4) (r .step) rest (p .step);
       };
-      text = write-target l target l1 e1
-          ∙ ap (λ (z : List ℕ). decimalText 32 target ++ z) (write-number 2 1 32 l1 enabled l2 (omega arith) e2
-          ∙ ap (λ (z : List ℕ). numberText 2 1 32 enabled ++ z) (write-optional 8 32 l2 min l3 e3
-          ∙ ap (λ (z : List ℕ). optionalText 8 32 min ++ z) (write-optional 8 32 l3 max l4 e4
-          ∙ ap (λ (z : List ℕ). optionalText 8 32 max ++ z) (write-optional 8 10 l4 step l5 e5))))
-          ∙ sym (parts (decimalText 32 target) (numberText 2 1 32 enabled) (optionalText 8 32 min) (optionalText 8 32 max) (optionalText 8 10 step) l5)
-          ∙ ap (λ (z : List ℕ). settingsText made ++ z) end;
-    }))))))
+      text = write-target l (r .target) (p .l1) (p .target)
+          ∙ ap (λ (z : List ℕ). decimalText 32 (r .target) ++ z) (write-number 2 1 32 (p .l1) (r .enabled) (p .l2) (omega arith) (p .enabled)
+          ∙ ap (λ (z : List ℕ). numberText 2 1 32 (r .enabled) ++ z) (write-optional 8 32 (p .l2) (r .min) (p .l3) (p .min)
+          ∙ ap (λ (z : List ℕ). optionalText 8 32 (r .min) ++ z) (write-optional 8 32 (p .l3) (r .max) (p .l4) (p .max)
+          ∙ ap (λ (z : List ℕ). optionalText 8 32 (r .max) ++ z) (write-optional 8 10 (p .l4) (r .step) rest (p .step)))))
+          ∙ sym (parts (decimalText 32 (r .target)) (numberText 2 1 32 (r .enabled)) (optionalText 8 32 (r .min)) (optionalText 8 32 (r .max)) (optionalText 8 10 (r .step)) rest);
+    }
 
 -- ---- the controls
 

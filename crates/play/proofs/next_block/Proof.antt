@@ -1,7 +1,7 @@
 use mathlib.Core.Path.{sym, ap, _∙_}
 use native.Mathlib.Omega.{arith}
 use lib.Ieee.{binary32, ofBits}
-use lib.ListN.{length, replicate, length-replicate}
+use lib.ListN.{replicate, length-replicate}
 use Rattle.points.specs.Refusal.{number, said}
 use Rattle.sheet.specs.Told.{toldWritten}
 use Rattle.play.proofs.Blocks.{block-refused, block-room, block-made}

@@ -1,4 +1,3 @@
-use native.Mathlib.Omega.{arith}
 use Rattle.play.proofs.Opening.{refused-is, many-opens, few-opens}
 use borrow.Author.Needs.{needs}
 use Rattle.play.proofs.open.Statement.{statement}

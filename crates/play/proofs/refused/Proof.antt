@@ -1,4 +1,3 @@
-use native.Mathlib.Omega.{arith}
 use Rattle.points.specs.Refusal.{number}
 use Rattle.play.proofs.Opening.{refused-opens}
 use borrow.Author.Needs.{needs}

@@ -1,5 +1,4 @@
 use native.Mathlib.Omega.{arith}
-use borrow.Author.Tests.{not-true, not-false}
 use Rattle.fields.proofs.Places.{Counting, counting, again, counted, counts}
 use Rattle.fields.proofs.write.places_of.Statement.{statement}
 use Rattle.fields.proofs.write.places_of.Tie as tie

@@ -1,5 +1,3 @@
-use native.Mathlib.Omega.{arith}
-use lib.Ieee.{binary32, toBits}
 use Rattle.play.proofs.Texts.{line-made}
 use borrow.Author.Needs.{needs}
 use Rattle.play.proofs.text.put_line.Statement.{statement}

@@ -1,8 +1,8 @@
-use Prim.Native.Nat.{_≤_, _-_, _+_}
+use Prim.Native.Nat.{_≤_, _-_}
 use mathlib.Core.Path.{_≡_, refl}
 use native.Mathlib.Omega.{arith}
 use lib.Ieee.{nan}
-use lib.ListN.{length, take}
+use lib.ListN.{take}
 use Rattle.fields.specs.Told.{Put}
 use Rattle.fields.proofs.Stores.{put-length}
 use Rattle.play.specs.Play.{sampleLines}
