@@ -112,7 +112,7 @@ pub fn fit_hex(out: &mut [u8], at: usize, v: u64, width: usize, end: u8) -> usiz
     fit_number(out, at, v, 16, width, end)
 }
 
-// 0 or 1, and the byte `end`.
+// A number in one binary digit, and the byte `end`.
 pub fn fit_flag(out: &mut [u8], at: usize, v: u32, end: u8) -> usize
     ensures { λ r. ⌜ Fitted (now (out .entry)) at (numberText 2 1 end v) (now (out .exit)) r ⌝ }
 {
