@@ -23,7 +23,8 @@ const USAGE: &str = "oracle_driver [--raw]
 oracle_driver --gen SEED N [OPERATION,..]
 oracle_driver --vectors SEED N [OPERATION,..]
 oracle_driver --sessions SEED N [WORDS]
-oracle_driver --plays SEED N FOLDER";
+oracle_driver --plays SEED N FOLDER
+oracle_driver --play-list SEED POINTS";
 
 fn main() -> Result<()> {
     std::panic::set_hook(Box::new(|_| {}));
@@ -39,11 +40,12 @@ fn main() -> Result<()> {
             };
             plays::write(std::path::Path::new(folder), seed, count)?;
         }
-        [mode @ ("--gen" | "--vectors" | "--sessions"), seed, count, ref rest @ ..] => {
+        [mode @ ("--gen" | "--vectors" | "--sessions" | "--play-list"), seed, count, ref rest @ ..] => {
             let (Ok(seed), Ok(count)) = (seed.parse(), count.parse()) else {
                 panic_usage();
             };
             match mode {
+                "--play-list" => plays::list(&mut out, seed, count)?,
                 "--sessions" => random_sessions(&mut out, seed, count, rest.first())?,
                 _ => random_calls(&mut out, seed, count, rest.first(), mode == "--vectors")?,
             }

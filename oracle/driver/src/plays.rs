@@ -5,6 +5,7 @@ use crate::reader::read;
 use crate::records::{AutomationPoint, Envelope};
 use crate::rules::{bare, value_at};
 use crate::text::{double, sheet, single};
+use std::io::{Result, Write};
 use std::path::Path;
 
 const EXAMPLE: &str = "target enabled min max step
@@ -49,14 +50,18 @@ fn input(e: &Envelope, rate: f64, duration: f64) -> Vec<u8> {
     .into_bytes()
 }
 
-/// 01's example, what is left of it after each byte, each byte at each kind of place, and a line for
-/// each cause of a refusal.
-fn fixed() -> Vec<Vec<u8>> {
+/// Places in the example with a digit: the target, enabled, and digits of a time, a value, a curve and
+/// the rate.
+const DIGITS: [usize; 6] = [28, 30, 72, 91, 101, 156];
+/// Other places: a space, a line's end, a position's `-`, a control's.
+const OTHERS: [usize; 4] = [29, 37, 89, 103];
+
+/// 01's example, what is left of it after each byte, each byte at these places, and a line for each
+/// cause of a refusal.
+fn fixed(places: &[usize]) -> Vec<Vec<u8>> {
     let example = EXAMPLE.as_bytes();
     let mut all: Vec<Vec<u8>> = (0..=example.len()).map(|n| example[..n].to_vec()).collect();
-    // the target, a space, enabled, a line's end, digits of a time, a value, a curve and the rate, a
-    // position's `-`, a control's
-    for place in [28, 29, 30, 37, 72, 91, 101, 156, 89, 103] {
+    for &place in places {
         for b in 0..=255 {
             let mut changed = example.to_vec();
             changed[place] = b;
@@ -69,6 +74,21 @@ fn fixed() -> Vec<Vec<u8>> {
         changed[k - 1] = line;
         all.push((changed.join("\n") + "\n").into_bytes());
     };
+    for names in [
+        "",
+        "Target enabled min max step",
+        "target enabled min max step ",
+        "target enabled min max",
+    ] {
+        with(1, names);
+    }
+    for names in [
+        "time position value curve cp1",
+        "time  position value curve cp1 cp2",
+        "time position value curve cp1 cp3",
+    ] {
+        with(3, names);
+    }
     for settings in [
         "00 1 - - -",
         "4294967295 1 - - -",
@@ -76,6 +96,12 @@ fn fixed() -> Vec<Vec<u8>> {
         "99999999999999999999 1 - - -",
         " 1 - - -",
         "0 2 - - -",
+        "-1 1 - - -",
+        "0 - - - -",
+        "0 1 3f800000 - -",
+        "0 1 3F8000000 - -",
+        "0 1 3F800000 3F800000 3F80000",
+        "0 1 C0000000 3F800000 3E800000",
         "0 1 7F800000 - -",
         "0 1 - FF800000 -",
         "0 1 - - 7FC00000",
@@ -97,7 +123,16 @@ fn fixed() -> Vec<Vec<u8>> {
         "4010000000000000 - 3F800000 05 7FC00000 7F800000",
         "4010000000000000 - 3F800000 05 3F800000 3F800000",
         "4010000000000000 - 3F800000 06 3F800000 3F800000",
+        "4010000000000000 - 3F800000 07 3F800000 -",
+        "4010000000000000 - 3F800000 07 - 3F800000",
         "4010000000000000 - 3F800000 0 - -",
+        "4010000000000000 - 3F800000 0A - -",
+        "4010000000000000 - 3F800000 000 - -",
+        "4010000000000000 - - 00 - -",
+        "- - 3F800000 00 - -",
+        "40100000000000000 - 3F800000 00 - -",
+        "401000000000000 - 3F800000 00 - -",
+        "4010000000000000 - 3F80000 00 - -",
         "4010000000000000 FFFFFFFFFFFFFFFF 3F800000 00 - -",
         "4010000000000000 0 3F800000 00 - -",
         "4010000000000000  3F800000 00 - -",
@@ -122,7 +157,10 @@ fn fixed() -> Vec<Vec<u8>> {
         "40E7700000000000 4202A05F20000000",
         "3FF0000000000000 41F0000000000000",
         "3FF0000000000000",
+        "- 4008000000000000",
+        "3FF0000000000000  4008000000000000",
         "3FF0000000000000 4008000000000000 ",
+        "3FF0000000000000 400800000000000",
     ] {
         with(7, block);
     }
@@ -137,28 +175,17 @@ fn fixed() -> Vec<Vec<u8>> {
     for more in ["\n", "x", "3FF0000000000000 4008000000000000\n"] {
         all.push([example, more.as_bytes()].concat());
     }
-    // long lines, at the front and in the place of a point
-    all.push(vec![b'0'; 1 << 20]);
-    all.push([&example[..72], &vec![b'0'; 1 << 20]].concat());
     all
 }
 
-/// A random play of 1 to 256 points, of every curve, or of an envelope with edge cases.
-fn random(r: &mut Random) -> Vec<u8> {
-    if r.once_in(2) {
-        let (e, rate) = (r.envelope(), r.rate());
-        let mut duration = r.duration(rate);
-        let count = (duration * rate) as u64;
-        if (10_000..=u32::MAX as u64).contains(&count) {
-            duration = 100.0 / rate;
-        }
-        return input(&e, rate, duration);
-    }
-    let count = if r.once_in(3) {
-        1 + r.below(256)
-    } else {
-        1 + r.below(12)
-    };
+/// Long lines, at the front and in the place of a point.
+fn long() -> [Vec<u8>; 2] {
+    let line = vec![b'0'; 1 << 20];
+    [line.clone(), [&EXAMPLE.as_bytes()[..72], &line].concat()]
+}
+
+/// An envelope of so many points, of every curve.
+fn envelope(r: &mut Random, count: u64) -> Envelope {
     let mut e = Envelope::new(r.below(1 << 32) as u32);
     e.enabled = !r.once_in(16);
     let mut time = (r.unit() - 0.5) * 2.0;
@@ -182,13 +209,38 @@ fn random(r: &mut Random) -> Vec<u8> {
     if r.once_in(3) {
         e.step_size = Some(r.unit() as f32 * 5.0 - 0.5);
     }
+    e
+}
+
+/// An input of so many samples, from time 0 to after the last point.
+fn over_all(e: &Envelope, samples: u64) -> Vec<u8> {
+    let end = e.points.last().map_or(0.0, |p| p.time).abs() + 1.0;
+    input(e, samples as f64 / end, end)
+}
+
+/// A random play of 1 to 256 points, of every curve, or of an envelope with edge cases.
+fn random(r: &mut Random) -> Vec<u8> {
+    if r.once_in(2) {
+        let (e, rate) = (r.envelope(), r.rate());
+        let mut duration = r.duration(rate);
+        let count = (duration * rate) as u64;
+        if (10_000..=u32::MAX as u64).contains(&count) {
+            duration = 100.0 / rate;
+        }
+        return input(&e, rate, duration);
+    }
+    let count = if r.once_in(3) {
+        1 + r.below(256)
+    } else {
+        1 + r.below(12)
+    };
+    let e = envelope(r, count);
     let samples = if r.once_in(4) {
         1000 + r.below(5000)
     } else {
         r.below(200)
     };
-    let rate = samples as f64 / (time.abs() + 1.0);
-    input(&e, rate, time.abs() + 1.0)
+    over_all(&e, samples)
 }
 
 /// A byte changed, taken out or put in, or a line taken out, put twice or moved.
@@ -231,16 +283,24 @@ fn full(r: &mut Random, points: u64, rest: &str) -> Vec<u8> {
     (sheet(&e) + rest).into_bytes()
 }
 
-/// Writes n.in and n.out, from 1 on: the fixed inputs, those around 256 points, and so many random ones.
-pub fn write(folder: &Path, seed: u64, count: u64) -> std::io::Result<()> {
-    let mut r = Random(seed);
-    let mut all = fixed();
-    for points in 255..=258 {
-        let block = "rate duration\n4024000000000000 4059000000000000\n";
-        for rest in [block, "", "\n", "rate duration", &block[..30], "x\n"] {
-            all.push(full(&mut r, points, rest));
+/// Sheets of so many points, each with a block and with each other end.
+fn around(r: &mut Random, counts: std::ops::RangeInclusive<u64>) -> Vec<Vec<u8>> {
+    const BLOCK: &str = "rate duration\n4024000000000000 4059000000000000\n";
+    let mut all = Vec::new();
+    for points in counts {
+        for rest in [BLOCK, "", "\n", "rate duration", &BLOCK[..30], "x\n"] {
+            all.push(full(r, points, rest));
         }
     }
+    all
+}
+
+/// Writes n.in and n.out, from 1 on: the fixed inputs, those around 256 points, and so many random ones.
+pub fn write(folder: &Path, seed: u64, count: u64) -> Result<()> {
+    let mut r = Random(seed);
+    let mut all = fixed(&[DIGITS.as_slice(), &OTHERS].concat());
+    all.extend(long());
+    all.extend(around(&mut r, 255..=258));
     for _ in 0..count {
         let input = random(&mut r);
         if r.once_in(3) {
@@ -252,6 +312,54 @@ pub fn write(folder: &Path, seed: u64, count: u64) -> std::io::Result<()> {
     for (i, input) in all.iter().enumerate() {
         std::fs::write(folder.join(format!("{}.in", i + 1)), input)?;
         std::fs::write(folder.join(format!("{}.out", i + 1)), output(input))?;
+    }
+    Ok(())
+}
+
+// ---- a list of plays, a line each
+
+/// Bytes in a line: 0A as `|`, letters, digits, spaces and `-` as they are, any other as `\` and two
+/// digits.
+fn shown(bytes: &[u8]) -> String {
+    let show = |b: &u8| match b {
+        b'\n' => "|".to_string(),
+        b' ' | b'-' => char::from(*b).to_string(),
+        b if b.is_ascii_alphanumeric() => char::from(*b).to_string(),
+        b => format!("\\{b:02X}"),
+    };
+    bytes.iter().map(show).collect()
+}
+
+/// Bytes as the digits of a number of base 256, modulo the largest prime below 2^55.
+fn sum(bytes: &[u8]) -> u64 {
+    bytes
+        .iter()
+        .fold(0, |sum, b| (sum * 256 + u64::from(*b)) % ((1 << 55) - 55))
+}
+
+/// An output in a line; a long one by `#`, its length and its sum.
+fn expected(output: &str) -> String {
+    const LONG: usize = 400;
+    let bytes = output.as_bytes();
+    if bytes.len() <= LONG {
+        return shown(bytes);
+    }
+    format!("#{:016X} {:016X}", bytes.len(), sum(bytes))
+}
+
+/// Writes lines `input => output`: the fixed inputs with each byte at a digit's place, those around 256
+/// points, and an input for each number of points up to `points`, with some eight samples for each.
+pub fn list(out: &mut impl Write, seed: u64, points: u64) -> Result<()> {
+    let mut r = Random(seed);
+    let mut all = fixed(&DIGITS);
+    all.extend(around(&mut r, 256..=257));
+    for count in 1..=points {
+        let e = envelope(&mut r, count);
+        let samples = 8 * count + r.below(100);
+        all.push(over_all(&e, samples));
+    }
+    for input in all {
+        writeln!(out, "{} => {}", shown(&input), expected(&output(&input)))?;
     }
     Ok(())
 }
