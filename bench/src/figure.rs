@@ -76,28 +76,35 @@ impl Figure {
         (rattle, rust, rattle / rust)
     }
 
-    /// A row: name, both times, their ratio, and the most that it may be; `over` where it is more.
+    /// The most that the ratio may be; `over` where it is more.
+    fn most(&self, ratio: f64) -> String {
+        let over = |m| if ratio > m { " over" } else { "" };
+        self.most.map_or(String::new(), |m| format!("{m:.2}{}", over(m)))
+    }
+
+    /// A row: name, both times, their ratio, and the most that it may be.
     pub fn print_row(&self) {
         let (rattle, rust, ratio) = self.measured();
-        let most = self.most.map_or(String::new(), |m| format!("{m:.2}"));
-        let over = if self.most.is_some_and(|m| ratio > m) {
-            " over"
-        } else {
-            ""
-        };
+        let most = self.most(ratio);
         let digits = if rust < 100.0 { 2 } else { 0 };
         println!(
-            "| {} | {rattle:.digits$} | {rust:.digits$} | {ratio:.2} | {most}{over} |",
+            "| {} | {rattle:.digits$} | {rust:.digits$} | {ratio:.2} | {most} |",
             self.name
         );
     }
 
-    /// The symbols, how often a pass calls them, the name, both times, and their ratio.
+    /// The symbols, how many units a pass has, the name, both times, their ratio, and the most that it
+    /// may be.
     pub fn print_call(&self) {
         let (rattle, rust, ratio) = self.measured();
+        let digits = if rust < 100.0 { 2 } else { 0 };
         println!(
-            "{}\t{}\t{}\t{}\t{rattle:.2}\t{rust:.2}\t{ratio:.2}",
-            self.rattle.symbol, self.rust.symbol, self.units, self.name
+            "{}\t{}\t{}\t{}\t{rattle:.digits$}\t{rust:.digits$}\t{ratio:.2}\t{}",
+            self.rattle.symbol,
+            self.rust.symbol,
+            self.units,
+            self.name,
+            self.most(ratio)
         );
     }
 }

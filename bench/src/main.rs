@@ -2,12 +2,14 @@
 //! builds both sides and starts this program; bench/README.md says what the figures mean.
 //!
 //!     bench calls              a line for each figure of one call
+//!     bench sheets             the same for the figures on sheets
 //!     bench rows [PART]        a row for each figure on an envelope, or for those with PART in their name
 //!     bench pass NAME SIDE     one pass of one side of a figure, for callgrind to count
 #[macro_use]
 mod figure;
 mod inputs;
 mod records;
+mod sheets;
 
 use figure::{Figure, Side};
 use rust_side as _;
@@ -40,6 +42,7 @@ fn main() {
     let words: Vec<&str> = words.iter().map(String::as_str).collect();
     match words[..] {
         ["calls"] => calls().iter().for_each(Figure::print_call),
+        ["sheets"] => sheets::figures().iter().for_each(Figure::print_call),
         ["rows"] => records::figures().iter().for_each(Figure::print_row),
         ["rows", part] => records::figures()
             .iter()
@@ -48,8 +51,9 @@ fn main() {
         ["pass", name, side] => calls()
             .iter()
             .chain(&records::figures())
+            .chain(&sheets::figures())
             .filter(|f| f.name == name)
             .for_each(|f| f.side(side).pass()),
-        _ => panic!("bench calls | rows [PART] | pass NAME SIDE"),
+        _ => panic!("bench calls | sheets | rows [PART] | pass NAME SIDE"),
     }
 }

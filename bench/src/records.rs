@@ -56,10 +56,11 @@ fn input(points: usize, curve: u32) -> &'static Input {
 }
 
 /// The lists that a call may fill.
-struct Room {
-    times: Vec<f64>,
-    values: Vec<f32>,
+pub struct Room {
+    pub times: Vec<f64>,
+    pub values: Vec<f32>,
     memory: Vec<u64>,
+    pub bytes: Vec<u8>,
 }
 
 impl Room {
@@ -68,18 +69,19 @@ impl Room {
             times: vec![0.0; places],
             values: vec![0.0; places],
             memory: vec![0; places],
+            bytes: vec![0; places],
         }
     }
 
-    fn bits(self) -> (Vec<u64>, Vec<u32>, Vec<u64>) {
+    fn bits(self) -> (Vec<u64>, Vec<u32>, Vec<u64>, Vec<u8>) {
         let times = self.times.into_iter().map(f64::to_bits).collect();
         let values = self.values.into_iter().map(f32::to_bits).collect();
-        (times, values, self.memory)
+        (times, values, self.memory, self.bytes)
     }
 }
 
 /// A figure of one of the pairs. Both sides must say and leave the same bits.
-fn figure(
+pub fn figure(
     name: impl ToString,
     units: usize,
     most: Option<f64>,

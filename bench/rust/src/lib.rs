@@ -7,6 +7,8 @@ mod edits;
 mod fixed;
 pub mod records;
 mod session;
+mod sheet;
+pub mod sheets;
 
 #[no_mangle]
 #[inline(never)]

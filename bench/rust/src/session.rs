@@ -21,7 +21,7 @@ pub struct Answer {
     pub session: Session,
 }
 
-fn code(c: CurveType) -> u64 {
+pub fn code(c: CurveType) -> u64 {
     match c {
         CurveType::Linear => 0,
         CurveType::Exponential => 1,
@@ -48,7 +48,7 @@ fn code(c: CurveType) -> u64 {
     }
 }
 
-fn curve(code: u64, cp1: f32, cp2: f32) -> CurveType {
+pub fn curve(code: u64, cp1: f32, cp2: f32) -> CurveType {
     match code {
         1 => CurveType::Exponential,
         2 => CurveType::Logarithmic,

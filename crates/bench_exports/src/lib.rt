@@ -13,6 +13,7 @@ mod made;
 mod player;
 mod ranges;
 mod rehearsal;
+mod sheets;
 
 use curve::CurveType;
 

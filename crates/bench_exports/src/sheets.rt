@@ -1,0 +1,62 @@
+// The sheet, read and written so many times.
+ghost use mathlib.Core.Path.{_≡_};
+use crate::made::shown;
+use points::refusal::Answer;
+use points::refusal::Refusal;
+use sheet::read::SheetAnswer;
+use sheet::write::Written;
+
+// The refusals that a sheet can give, by 01's numbers.
+fn number(why: Refusal) -> u64 {
+    match why {
+        Refusal::SheetCurve => 2,
+        Refusal::NotFinite => 3,
+        Refusal::TooManyPoints => 5,
+        Refusal::TimesDontRise => 6,
+        Refusal::SheetForm => 9,
+        _ => 15,
+    }
+}
+
+fn bytes(written: Written) -> u64 {
+    match written {
+        Written::Bytes(n) => n as u64,
+        Written::Refused(_) => 0,
+    }
+}
+
+// A refusal's number and 16 times its line; else 16 times the count, and the lists are filled.
+#[no_mangle]
+pub extern "C" fn rattle_read_sheet(
+    text: &[u8],
+    turns: u32,
+    out_times: &mut [f64],
+    out_values: &mut [f32],
+) -> u64 {
+    let mut last = sheet::read::read_sheet(text);
+    let mut i: u32 = 1;
+    while i < turns {
+        last = sheet::read::read_sheet(text);
+        i += 1;
+    }
+    let answer = last.answer;
+    let envelope = last.envelope;
+    match answer {
+        SheetAnswer::Accepted => shown(Answer::Accepted, envelope, out_times, out_values),
+        SheetAnswer::Refused(why, line) => std::num::wrapping_add_u64(line % 1024 * 16, number(why)),
+    }
+}
+
+// Writes the envelope of a sheet; how many bytes it has.
+#[no_mangle]
+pub extern "C" fn rattle_write_sheet(text: &[u8], turns: u32, out: &mut [u8]) -> u64 {
+    let read = sheet::read::read_sheet(text);
+    let envelope = read.envelope;
+    let mut n: u64 = 0;
+    let mut i: u32 = 0;
+    while i < turns {
+        n = bytes(sheet::write::write_sheet(envelope, out));
+        i += 1;
+    }
+    n
+}

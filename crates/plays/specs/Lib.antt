@@ -1,0 +1,2 @@
+-- Where the answers of a line's functions lie.
+pub mod Places

@@ -1,0 +1,172 @@
+// What is played, held against a line's output: its text, or `#`, its length and its sum.
+ghost use mathlib.Core.Path.{_≡_};
+ghost use mathlib.Core.Bool.{true};
+ghost use Prim.Native.Nat.{_<_, _≤_, _+_};
+ghost use lib.ListN.{length};
+use play::Play;
+use sheet::write::Written;
+use std::num::wrapping_add_u64;
+use std::num::wrapping_add_usize;
+
+// The bytes so far: whether they are those of the line up to a place, how many there are, and their sum.
+struct Heard {
+    same: bool,
+    at: usize,
+    length: u64,
+    sum: u64,
+}
+
+// Whether to go on, what is left to play, and what was heard.
+struct Turn {
+    on: bool,
+    play: Play,
+    heard: Heard,
+}
+
+fn wide(x: u8) -> u64
+    ensures { λ r. ⌜ r ≡ x ⌝ }
+{
+    x as u64
+}
+
+// Modulo the largest prime below 2^55.
+fn reduced(x: u64) -> u64
+    ensures { λ r. ⌜ r < 36028797018963913 ⌝ }
+{
+    x % 36028797018963913
+}
+
+// The bytes are the digits of a number of base 256.
+fn sum_with(sum: u64, b: u8) -> u64 {
+    reduced(reduced(sum) * 256 + wide(b))
+}
+
+// Whether the byte b stands at the place.
+fn stands(s: &[u8], at: usize, b: u8) -> bool {
+    if at < s.len() { s[at] == b } else { false }
+}
+
+// A byte of the output as it stands in a line.
+fn shown(b: u8) -> u8 {
+    if b == b'\n' { b'|' } else { b }
+}
+
+fn with_byte(h: Heard, s: &[u8], b: u8) -> Heard {
+    Heard {
+        same: h.same & stands(s, h.at, shown(b)),
+        at: wrapping_add_usize(h.at, 1),
+        length: wrapping_add_u64(h.length, 1),
+        sum: sum_with(h.sum, b),
+    }
+}
+
+fn with_bytes(h: Heard, s: &[u8], out: &[u8]) -> Heard {
+    let mut all = h;
+    let mut i: usize = 0;
+    while i < out.len() {
+        all = with_byte(all, s, out[i]);
+        i += 1;
+    }
+    all
+}
+
+// The first n of the lent bytes.
+fn with_first(h: Heard, s: &[u8], out: &mut [u8], n: usize) -> Heard
+    requires { ⌜ n ≤ length (now out) ⌝ }
+{
+    with_bytes(h, s, &out[..n])
+}
+
+// The digit d, in capitals.
+fn digit_byte(d: u64) -> u8
+    requires { ⌜ d < 16 ⌝ }
+{
+    if d < 10 {
+        (d + 48) as u8
+    } else {
+        (d + 55) as u8
+    }
+}
+
+// Whether a number stands at the place, in 16 hexadecimal digits.
+fn number_stands(s: &[u8], at: usize, v: u64) -> bool
+    requires { ⌜ at + 16 ≤ length (now s) ⌝ }
+{
+    let mut left = v;
+    let mut k: usize = 16;
+    let mut same = true;
+    while 0 < k {
+        k -= 1;
+        same = same & (s[at + k] == digit_byte(left % 16));
+        left = left / 16;
+    }
+    same
+}
+
+// Whether `#`, the length and the sum are the line's output.
+fn sum_stands(h: Heard, s: &[u8]) -> bool {
+    if s.len() != 34 {
+        return false;
+    }
+    stands(s, 17, b' ') & number_stands(s, 1, h.length) & number_stands(s, 18, h.sum)
+}
+
+// Whether all that was heard is the line's output.
+fn whole(h: Heard, s: &[u8]) -> bool {
+    if stands(s, 0, b'#') {
+        return sum_stands(h, s);
+    }
+    h.same & (h.at == s.len())
+}
+
+// The next block of samples.
+fn with_block(h: Heard, s: &[u8], play: Play, out: &mut [u8; 20480]) -> Turn
+    ensures { λ r. ⌜ (r .on ≡ true → play .next < play .count → (r .play .count ≡ play .count) × (play .next < r .play .next)) ⌝ }
+{
+    let piece = play::next_block(play, &mut *out);
+    let left = piece.play;
+    let written = piece.written;
+    match written {
+        Written::Refused(_) => Turn {
+            on: false,
+            play: left,
+            heard: h,
+        },
+        Written::Bytes(n) => Turn {
+            on: true,
+            play: left,
+            heard: with_first(h, s, &mut *out, n),
+        },
+    }
+}
+
+// Block after block, until all is played.
+fn blocks_are(first: Heard, s: &[u8], play: Play, out: &mut [u8; 20480]) -> bool {
+    let mut heard = first;
+    let mut left = play;
+    while left.next < left.count {
+        let turn = with_block(heard, s, left, &mut *out);
+        if !turn.on {
+            return false;
+        }
+        let more = turn.heard;
+        let next = turn.play;
+        heard = more;
+        left = next;
+    }
+    whole(heard, s)
+}
+
+// Whether playing the input gives the line's output.
+pub fn gives(input: &[u8], s: &[u8], out: &mut [u8; 20480]) -> bool {
+    let opened = play::open(input, &mut *out);
+    let play = opened.play;
+    let nothing = Heard {
+        same: true,
+        at: 0,
+        length: 0,
+        sum: 0,
+    };
+    let first = with_first(nothing, s, &mut *out, opened.bytes);
+    blocks_are(first, s, play, &mut *out)
+}
