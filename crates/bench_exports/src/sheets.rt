@@ -43,7 +43,10 @@ pub extern "C" fn rattle_read_sheet(
     let envelope = last.envelope;
     match answer {
         SheetAnswer::Accepted => shown(Answer::Accepted, envelope, out_times, out_values),
-        SheetAnswer::Refused(why, line) => std::num::wrapping_add_u64(line % 1024 * 16, number(why)),
+        SheetAnswer::Refused(why, line) => std::num::wrapping_add_u64(
+            line % 1024 * 16,
+            number(why),
+        ),
     }
 }
 

@@ -140,13 +140,7 @@ fn read_after(text: &mut [u8], held: usize) -> Read
 }
 
 // The list's last line, if it has no newline. A read that failed counts as a line that differs.
-fn with_last(
-    t: Tally,
-    s: &[u8],
-    failed: bool,
-    input: &mut [u8],
-    out: &mut [u8; 20480],
-) -> Tally {
+fn with_last(t: Tally, s: &[u8], failed: bool, input: &mut [u8], out: &mut [u8; 20480]) -> Tally {
     let tally = with_line(t, s, input, out);
     if failed {
         return counted(tally, tally.lines, false);
