@@ -3,7 +3,7 @@ ghost use mathlib.Core.Path.{_≡_};
 ghost use Prim.Native.Nat.{_-_, _<_, _≤_};
 ghost use lib.ListN.{length};
 ghost use Rattle.io.specs.Counts.{Counts};
-use crate::heard;
+use crate::compare;
 use crate::line;
 use crate::line::Bytes;
 use libc::STDIN_FILENO;
@@ -40,7 +40,7 @@ struct Reader {
 fn first_give(input: &mut [u8], n: usize, s: &[u8], out: &mut [u8; 20480]) -> bool
     requires { ⌜ n ≤ length (now input) ⌝ }
 {
-    heard::gives(&input[..n], s, &mut *out)
+    compare::gives(&input[..n], s, &mut *out)
 }
 
 // Whether the line's input gives its output. A space and `=` stand after the input, `>` and a space before the output.

@@ -4,7 +4,7 @@ ghost use mathlib.Core.Path.{_≡_};
 ghost use lib.ListN.{length};
 use libc::STDOUT_FILENO;
 
-mod heard;
+mod compare;
 mod line;
 mod list;
 

@@ -6,9 +6,6 @@ use borrow.Author.Needs.{needs}
 use native.Mathlib.Omega.{arith}
 use Rattle.plays.proofs.line.bytes_of.Statement.{statement}
 use Rattle.plays.proofs.line.bytes_of.Tie as tie
-use Rattle.plays.proofs.line.bytes_of.Reads as reads
-use Rattle.plays.proofs.line.bytes_of.Lts as lts
-use Rattle.plays.proofs.line.byte_at.Reads as byte-at-reads
 
 abbrev Inv-loop : tie.InvT-loop
 Inv-loop s stop out₀ n₀ at₀ out n at = (n ≤ length out) × (length out ≡ length out₀)
@@ -16,59 +13,45 @@ Inv-loop s stop out₀ n₀ at₀ out n at = (n ≤ length out) × (length out �
 abbrev μ-loop : tie.MeasureT-loop
 μ-loop s stop out₀ n₀ at₀ out n at = stop - at
 
--- src/line.rt:101:5
 loop-holds : tie.Need-loop-holds Inv-loop μ-loop
 loop-holds c = search needs
 
--- src/line.rt:103:13
 same-length : tie.Need-same-length Inv-loop μ-loop
 same-length c = search needs
 
--- src/line.rt:103:13
 returns : tie.Need-returns Inv-loop μ-loop
 returns c = search needs
 
--- src/line.rt:105:33
 byte-at-requires : tie.Need-byte-at-requires Inv-loop μ-loop
 byte-at-requires c κs = search needs
 
--- src/line.rt:105:22
 enum-known-b : tie.Need-enum-known-b Inv-loop μ-loop
 enum-known-b c = search needs
 
--- src/line.rt:106:13
 enum-told : tie.Need-enum-told Inv-loop μ-loop
 enum-told c = search needs
 
--- src/line.rt:106:13
 same-length-2 : tie.Need-same-length-2 Inv-loop μ-loop
 same-length-2 c = search needs
 
--- src/line.rt:106:13
 returns-2 : tie.Need-returns-2 Inv-loop μ-loop
 returns-2 c = search needs
 
--- src/line.rt:108:9
 slice-write-out : tie.Need-slice-write-out Inv-loop μ-loop
 slice-write-out c = search needs
 
--- src/line.rt:109:9
 add-n : tie.Need-add-n Inv-loop μ-loop
 add-n c = search needs
 
--- src/line.rt:101:5
 loop-less : tie.Need-loop-less Inv-loop μ-loop
 loop-less c = omega (arith, rw (c .before .b .given .1) at (c .before .before .before .byte-at .ensures))
 
--- src/line.rt:101:5
 loop-again : tie.Need-loop-again Inv-loop μ-loop
 loop-again c = simp length-set (omega arith)
 
--- src/line.rt:96:1
 same-length-3 : tie.Need-same-length-3 Inv-loop μ-loop
 same-length-3 c = search needs
 
--- src/line.rt:96:1
 returns-3 : tie.Need-returns-3 Inv-loop μ-loop
 returns-3 c = search needs
 

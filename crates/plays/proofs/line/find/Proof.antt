@@ -4,8 +4,6 @@ use lib.ListN.{length}
 use borrow.Author.Needs.{needs}
 use Rattle.plays.proofs.line.find.Statement.{statement}
 use Rattle.plays.proofs.line.find.Tie as tie
-use Rattle.plays.proofs.line.find.Reads as reads
-use Rattle.plays.proofs.line.find.Lts as lts
 
 abbrev Inv-loop : tie.InvT-loop
 Inv-loop s start b at₀ at = (start ≤ at) × (at ≤ length s)
@@ -13,31 +11,24 @@ Inv-loop s start b at₀ at = (start ≤ at) × (at ≤ length s)
 abbrev μ-loop : tie.MeasureT-loop
 μ-loop s start b at₀ at = length s - at
 
--- src/line.rt:25:5
 loop-holds : tie.Need-loop-holds Inv-loop μ-loop
 loop-holds c = search needs
 
--- src/line.rt:26:12
 shared-slice-read-if1 : tie.Need-shared-slice-read-if1 Inv-loop μ-loop
 shared-slice-read-if1 c = search needs
 
--- src/line.rt:27:13
 returns : tie.Need-returns Inv-loop μ-loop
 returns c = search needs
 
--- src/line.rt:29:9
 add-at : tie.Need-add-at Inv-loop μ-loop
 add-at c = search needs
 
--- src/line.rt:25:5
 loop-less : tie.Need-loop-less Inv-loop μ-loop
 loop-less c = search needs
 
--- src/line.rt:25:5
 loop-again : tie.Need-loop-again Inv-loop μ-loop
 loop-again c = search needs
 
--- src/line.rt:20:1
 returns-2 : tie.Need-returns-2 Inv-loop μ-loop
 returns-2 c = search needs
 

@@ -3,77 +3,55 @@ use native.Mathlib.Omega.{arith}
 use borrow.Author.Needs.{needs}
 use Rattle.plays.proofs.list.agrees.Statement.{statement}
 use Rattle.plays.proofs.list.agrees.Tie as tie
-use Rattle.plays.proofs.list.agrees.Reads as reads
-use Rattle.plays.proofs.list.agrees.Lts as lts
-use Rattle.plays.proofs.line.bytes_of.Reads as bytes-of-reads
-use Rattle.plays.proofs.line.find.Reads as find-reads
-use Rattle.plays.proofs.list.first_give.Reads as first-give-reads
 
--- src/list.rt:41:9
 find-requires : tie.Need-find-requires
 find-requires c κs = search needs
 
--- src/list.rt:43:9
 returns : tie.Need-returns
 returns c = search needs
 
--- src/list.rt:45:8
 sub-if2 : tie.Need-sub-if2
 sub-if2 c = search needs
 
--- src/list.rt:46:9
 returns-2 : tie.Need-returns-2
 returns-2 c = search needs
 
--- src/list.rt:48:16
 add-from : tie.Need-add-from
 add-from c = search needs
 
--- src/list.rt:49:43
 sub-bytes-of : tie.Need-sub-bytes-of
 sub-bytes-of c = search needs
 
--- src/list.rt:49:25
 bytes-of-requires : tie.Need-bytes-of-requires
 bytes-of-requires c κs = search needs
 
--- src/list.rt:49:20
 enum-known-n : tie.Need-enum-known-n
 enum-known-n c = search needs
 
--- src/list.rt:50:9
 enum-told : tie.Need-enum-told
 enum-told c = search needs
 
--- src/list.rt:50:9
 same-length : tie.Need-same-length
 same-length c = search needs
 
--- src/list.rt:50:9
 returns-3 : tie.Need-returns-3
 returns-3 c = search needs
 
--- src/list.rt:52:32
 sub-first-give : tie.Need-sub-first-give
 sub-first-give c = search needs
 
--- src/list.rt:52:32
 part-first-give-start : tie.Need-part-first-give-start
 part-first-give-start c = search needs
 
--- src/list.rt:52:32
 part-first-give-end : tie.Need-part-first-give-end
 part-first-give-end c = search needs
 
--- src/list.rt:52:5
 first-give-requires : tie.Need-first-give-requires
 first-give-requires c κs = omega (arith, rw (c .before .before .before .before .n .given .1) at (c .before .before .before .before .before .before .before .before .bytes-of .ensures))
 
--- src/list.rt:40:1
 same-length-2 : tie.Need-same-length-2
 same-length-2 c = search needs
 
--- src/list.rt:40:1
 returns-4 : tie.Need-returns-4
 returns-4 c = search needs
 

@@ -4,9 +4,6 @@ use lib.Seq.{length-take-le}
 use borrow.Author.Needs.{needs}
 use Rattle.plays.proofs.list.first_give.Statement.{statement}
 use Rattle.plays.proofs.list.first_give.Tie as tie
-use Rattle.plays.proofs.list.first_give.Reads as reads
-use Rattle.plays.proofs.list.first_give.Lts as lts
-use Rattle.plays.proofs.heard.gives.Reads as gives-reads
 
 slice-reshare-prefix-gives : tie.Need-slice-reshare-prefix-gives
 slice-reshare-prefix-gives c = search needs

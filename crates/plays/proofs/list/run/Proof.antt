@@ -6,9 +6,6 @@ use borrow.Author.Needs.{needs}
 use native.Mathlib.Omega.{arith}
 use Rattle.plays.proofs.list.run.Statement.{statement}
 use Rattle.plays.proofs.list.run.Tie as tie
-use Rattle.plays.proofs.list.run.Reads as reads
-use Rattle.plays.proofs.list.run.Lts as lts
-use Rattle.plays.proofs.list.turn.Reads as turn-reads
 
 abbrev Inv-loop : tie.InvT-loop
 Inv-loop text₀ input₀ out₀ r₀ turns₀ text input out r turns = (r .held ≤ length text) × (length text ≡ length text₀) × (length input ≡ length input₀)
@@ -16,47 +13,36 @@ Inv-loop text₀ input₀ out₀ r₀ turns₀ text input out r turns = (r .held
 abbrev μ-loop : tie.MeasureT-loop
 μ-loop text₀ input₀ out₀ r₀ turns₀ text input out r turns = turns
 
--- src/list.rt:170:5
 loop-holds : tie.Need-loop-holds Inv-loop μ-loop
 loop-holds c = search needs
 
--- src/list.rt:171:9
 sub-turns : tie.Need-sub-turns Inv-loop μ-loop
 sub-turns c = omega arith
 
--- src/list.rt:172:9
 turn-requires : tie.Need-turn-requires Inv-loop μ-loop
 turn-requires c κs = search needs
 
--- src/list.rt:174:13
 same-length : tie.Need-same-length Inv-loop μ-loop
 same-length c = search needs
 
--- src/list.rt:174:13
 same-length-2 : tie.Need-same-length-2 Inv-loop μ-loop
 same-length-2 c = search needs
 
--- src/list.rt:174:13
 returns : tie.Need-returns Inv-loop μ-loop
 returns c = search needs
 
--- src/list.rt:170:5
 loop-less : tie.Need-loop-less Inv-loop μ-loop
 loop-less c = omega arith
 
--- src/list.rt:170:5
 loop-again : tie.Need-loop-again Inv-loop μ-loop
 loop-again c = search needs
 
--- src/list.rt:158:1
 same-length-3 : tie.Need-same-length-3 Inv-loop μ-loop
 same-length-3 c = search needs
 
--- src/list.rt:158:1
 same-length-4 : tie.Need-same-length-4 Inv-loop μ-loop
 same-length-4 c = search needs
 
--- src/list.rt:158:1
 returns-2 : tie.Need-returns-2 Inv-loop μ-loop
 returns-2 c = search needs
 

@@ -6,10 +6,6 @@ use borrow.Author.Needs.{needs}
 use native.Mathlib.Omega.{arith}
 use Rattle.plays.proofs.list.with_lines.Statement.{statement}
 use Rattle.plays.proofs.list.with_lines.Tie as tie
-use Rattle.plays.proofs.list.with_lines.Reads as reads
-use Rattle.plays.proofs.list.with_lines.Lts as lts
-use Rattle.plays.proofs.line.find.Reads as find-reads
-use Rattle.plays.proofs.list.with_line.Reads as with-line-reads
 
 abbrev Inv-loop : tie.InvT-loop
 Inv-loop s input₀ out₀ tally₀ at₀ input out tally at = (at ≤ length s) × (length input ≡ length input₀)
@@ -17,47 +13,36 @@ Inv-loop s input₀ out₀ tally₀ at₀ input out tally at = (at ≤ length s)
 abbrev μ-loop : tie.MeasureT-loop
 μ-loop s input₀ out₀ tally₀ at₀ input out tally at = length s - at
 
--- src/list.rt:92:5
 loop-holds : tie.Need-loop-holds Inv-loop μ-loop
 loop-holds c = search needs
 
--- src/list.rt:93:13
 find-requires : tie.Need-find-requires Inv-loop μ-loop
 find-requires c κs = search needs
 
--- src/list.rt:97:34
 sub-with-line : tie.Need-sub-with-line Inv-loop μ-loop
 sub-with-line c = search needs
 
--- src/list.rt:97:34
 part-with-line-start : tie.Need-part-with-line-start Inv-loop μ-loop
 part-with-line-start c = search needs
 
--- src/list.rt:97:34
 part-with-line-end : tie.Need-part-with-line-end Inv-loop μ-loop
 part-with-line-end c = search needs
 
--- src/list.rt:97:9
 with-line-requires : tie.Need-with-line-requires Inv-loop μ-loop
 with-line-requires c κs = search needs
 
--- src/list.rt:98:14
 add-at : tie.Need-add-at Inv-loop μ-loop
 add-at c = search needs
 
--- src/list.rt:92:5
 loop-less : tie.Need-loop-less Inv-loop μ-loop
 loop-less c = omega arith
 
--- src/list.rt:92:5
 loop-again : tie.Need-loop-again Inv-loop μ-loop
 loop-again c = search needs
 
--- src/list.rt:87:1
 same-length : tie.Need-same-length Inv-loop μ-loop
 same-length c = search needs
 
--- src/list.rt:87:1
 returns : tie.Need-returns Inv-loop μ-loop
 returns c = search needs
 

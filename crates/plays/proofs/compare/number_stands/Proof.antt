@@ -1,13 +1,10 @@
--- `plays::heard::number_stands`: a digit's place is one of the 16 from `at` on.
+-- `plays::compare::number_stands`: a digit's place is one of the 16 from `at` on.
 use Prim.Native.Nat.{_+_, _≤_}
 use lib.ListN.{length}
 use borrow.Author.Needs.{needs}
 use native.Mathlib.Omega.{arith}
-use Rattle.plays.proofs.heard.number_stands.Statement.{statement}
-use Rattle.plays.proofs.heard.number_stands.Tie as tie
-use Rattle.plays.proofs.heard.number_stands.Reads as reads
-use Rattle.plays.proofs.heard.number_stands.Lts as lts
-use Rattle.plays.proofs.heard.digit_byte.Reads as digit-byte-reads
+use Rattle.plays.proofs.compare.number_stands.Statement.{statement}
+use Rattle.plays.proofs.compare.number_stands.Tie as tie
 
 abbrev Inv-loop : tie.InvT-loop
 Inv-loop s at v left₀ k₀ same₀ left k same = (k ≤ 16) × (at + 16 ≤ length s)
@@ -15,35 +12,27 @@ Inv-loop s at v left₀ k₀ same₀ left k same = (k ≤ 16) × (at + 16 ≤ le
 abbrev μ-loop : tie.MeasureT-loop
 μ-loop s at v left₀ k₀ same₀ left k same = k
 
--- src/heard.rt:98:5
 loop-holds : tie.Need-loop-holds Inv-loop μ-loop
 loop-holds c = search needs
 
--- src/heard.rt:99:9
 sub-k : tie.Need-sub-k Inv-loop μ-loop
 sub-k c = search needs
 
--- src/heard.rt:100:26
 add-same : tie.Need-add-same Inv-loop μ-loop
 add-same c = search needs
 
--- src/heard.rt:100:24
 shared-slice-read-same : tie.Need-shared-slice-read-same Inv-loop μ-loop
 shared-slice-read-same c = search needs
 
--- src/heard.rt:100:37
 digit-byte-requires : tie.Need-digit-byte-requires Inv-loop μ-loop
 digit-byte-requires c κs = omega arith
 
--- src/heard.rt:98:5
 loop-less : tie.Need-loop-less Inv-loop μ-loop
 loop-less c = search needs
 
--- src/heard.rt:98:5
 loop-again : tie.Need-loop-again Inv-loop μ-loop
 loop-again c = search needs
 
--- src/heard.rt:92:1
 returns : tie.Need-returns Inv-loop μ-loop
 returns c = search needs
 

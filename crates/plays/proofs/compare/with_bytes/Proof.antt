@@ -1,12 +1,9 @@
--- `plays::heard::with_bytes`: byte after byte, up to the end.
+-- `plays::compare::with_bytes`: byte after byte, up to the end.
 use Prim.Native.Nat.{_-_, _≤_}
 use lib.ListN.{length}
 use borrow.Author.Needs.{needs}
-use Rattle.plays.proofs.heard.with_bytes.Statement.{statement}
-use Rattle.plays.proofs.heard.with_bytes.Tie as tie
-use Rattle.plays.proofs.heard.with_bytes.Reads as reads
-use Rattle.plays.proofs.heard.with_bytes.Lts as lts
-use Rattle.plays.proofs.heard.with_byte.Reads as with-byte-reads
+use Rattle.plays.proofs.compare.with_bytes.Statement.{statement}
+use Rattle.plays.proofs.compare.with_bytes.Tie as tie
 
 abbrev Inv-loop : tie.InvT-loop
 Inv-loop s out all₀ i₀ all i = i ≤ length out
@@ -14,31 +11,24 @@ Inv-loop s out all₀ i₀ all i = i ≤ length out
 abbrev μ-loop : tie.MeasureT-loop
 μ-loop s out all₀ i₀ all i = length out - i
 
--- src/heard.rt:66:5
 loop-holds : tie.Need-loop-holds Inv-loop μ-loop
 loop-holds c = search needs
 
--- src/heard.rt:67:33
 shared-slice-read-with-byte : tie.Need-shared-slice-read-with-byte Inv-loop μ-loop
 shared-slice-read-with-byte c = search needs
 
--- src/heard.rt:67:9
 with-byte-requires : tie.Need-with-byte-requires Inv-loop μ-loop
 with-byte-requires c κs = search needs
 
--- src/heard.rt:68:9
 add-i : tie.Need-add-i Inv-loop μ-loop
 add-i c = search needs
 
--- src/heard.rt:66:5
 loop-less : tie.Need-loop-less Inv-loop μ-loop
 loop-less c = search needs
 
--- src/heard.rt:66:5
 loop-again : tie.Need-loop-again Inv-loop μ-loop
 loop-again c = search needs
 
--- src/heard.rt:63:1
 returns : tie.Need-returns Inv-loop μ-loop
 returns c = search needs
 

@@ -9,18 +9,18 @@ use std::num::wrapping_add_u64;
 use std::num::wrapping_add_usize;
 
 // The bytes so far: whether they are those of the line up to a place, how many there are, and their sum.
-struct Heard {
+struct Compared {
     same: bool,
     at: usize,
     length: u64,
     sum: u64,
 }
 
-// Whether to go on, what is left to play, and what was heard.
+// Whether to go on, what is left to play, and what was compared.
 struct Turn {
     on: bool,
     play: Play,
-    heard: Heard,
+    compared: Compared,
 }
 
 fn wide(x: u8) -> u64
@@ -51,8 +51,8 @@ fn shown(b: u8) -> u8 {
     if b == b'\n' { b'|' } else { b }
 }
 
-fn with_byte(h: Heard, s: &[u8], b: u8) -> Heard {
-    Heard {
+fn with_byte(h: Compared, s: &[u8], b: u8) -> Compared {
+    Compared {
         same: h.same & stands(s, h.at, shown(b)),
         at: wrapping_add_usize(h.at, 1),
         length: wrapping_add_u64(h.length, 1),
@@ -60,7 +60,7 @@ fn with_byte(h: Heard, s: &[u8], b: u8) -> Heard {
     }
 }
 
-fn with_bytes(h: Heard, s: &[u8], out: &[u8]) -> Heard {
+fn with_bytes(h: Compared, s: &[u8], out: &[u8]) -> Compared {
     let mut all = h;
     let mut i: usize = 0;
     while i < out.len() {
@@ -71,7 +71,7 @@ fn with_bytes(h: Heard, s: &[u8], out: &[u8]) -> Heard {
 }
 
 // The first n of the lent bytes.
-fn with_first(h: Heard, s: &[u8], out: &mut [u8], n: usize) -> Heard
+fn with_first(h: Compared, s: &[u8], out: &mut [u8], n: usize) -> Compared
     requires { ⌜ n ≤ length (now out) ⌝ }
 {
     with_bytes(h, s, &out[..n])
@@ -104,15 +104,15 @@ fn number_stands(s: &[u8], at: usize, v: u64) -> bool
 }
 
 // Whether `#`, the length and the sum are the line's output.
-fn sum_stands(h: Heard, s: &[u8]) -> bool {
+fn sum_stands(h: Compared, s: &[u8]) -> bool {
     if s.len() != 34 {
         return false;
     }
     stands(s, 17, b' ') & number_stands(s, 1, h.length) & number_stands(s, 18, h.sum)
 }
 
-// Whether all that was heard is the line's output.
-fn whole(h: Heard, s: &[u8]) -> bool {
+// Whether all that was compared is the line's output.
+fn whole(h: Compared, s: &[u8]) -> bool {
     if stands(s, 0, b'#') {
         return sum_stands(h, s);
     }
@@ -120,7 +120,7 @@ fn whole(h: Heard, s: &[u8]) -> bool {
 }
 
 // The next block of samples.
-fn with_block(h: Heard, s: &[u8], play: Play, out: &mut [u8; 20480]) -> Turn
+fn with_block(h: Compared, s: &[u8], play: Play, out: &mut [u8; 20480]) -> Turn
     ensures { λ r. ⌜ (r .on ≡ true → play .next < play .count → (r .play .count ≡ play .count) × (play .next < r .play .next)) ⌝ }
 {
     let piece = play::next_block(play, &mut *out);
@@ -130,38 +130,38 @@ fn with_block(h: Heard, s: &[u8], play: Play, out: &mut [u8; 20480]) -> Turn
         Written::Refused(_) => Turn {
             on: false,
             play: left,
-            heard: h,
+            compared: h,
         },
         Written::Bytes(n) => Turn {
             on: true,
             play: left,
-            heard: with_first(h, s, &mut *out, n),
+            compared: with_first(h, s, &mut *out, n),
         },
     }
 }
 
 // Block after block, until all is played.
-fn blocks_are(first: Heard, s: &[u8], play: Play, out: &mut [u8; 20480]) -> bool {
-    let mut heard = first;
+fn blocks_are(first: Compared, s: &[u8], play: Play, out: &mut [u8; 20480]) -> bool {
+    let mut compared = first;
     let mut left = play;
     while left.next < left.count {
-        let turn = with_block(heard, s, left, &mut *out);
+        let turn = with_block(compared, s, left, &mut *out);
         if !turn.on {
             return false;
         }
-        let more = turn.heard;
+        let more = turn.compared;
         let next = turn.play;
-        heard = more;
+        compared = more;
         left = next;
     }
-    whole(heard, s)
+    whole(compared, s)
 }
 
 // Whether playing the input gives the line's output.
 pub fn gives(input: &[u8], s: &[u8], out: &mut [u8; 20480]) -> bool {
     let opened = play::open(input, &mut *out);
     let play = opened.play;
-    let nothing = Heard {
+    let nothing = Compared {
         same: true,
         at: 0,
         length: 0,

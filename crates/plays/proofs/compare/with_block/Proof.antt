@@ -1,39 +1,29 @@
--- `plays::heard::with_block`: a block that was written lies within the lent bytes, and moves the play on.
+-- `plays::compare::with_block`: a block that was written lies within the lent bytes, and moves the play on.
 use Prim.Native.Nat.{ℕ}
 use mathlib.Core.Path.{_≡_, sym, ap, _∙_}
 use Rattle.sheet.specs.Told.{toldWritten}
 use Rattle.play.proofs.Blocks.{moved, moves-on}
 use native.Mathlib.Omega.{arith}
 use borrow.Author.Needs.{needs}
-use Rattle.plays.proofs.heard.with_block.Statement.{statement}
-use Rattle.plays.proofs.heard.with_block.Tie as tie
-use Rattle.plays.proofs.heard.with_block.Reads as reads
-use Rattle.plays.proofs.heard.with_block.Lts as lts
-use Rattle.play.proofs.next_block.Reads as next-block-reads
-use Rattle.plays.proofs.heard.with_first.Reads as with-first-reads
+use Rattle.plays.proofs.compare.with_block.Statement.{statement}
+use Rattle.plays.proofs.compare.with_block.Tie as tie
 
--- src/heard.rt:126:9
 next-block-requires : tie.Need-next-block-requires
 next-block-requires c κs = search needs
 
--- src/heard.rt:130:32
 enum-told : tie.Need-enum-told
 enum-told c = search needs
 
--- src/heard.rt:135:24
 enum-known-written : tie.Need-enum-known-written
 enum-known-written c = search needs
 
--- src/heard.rt:138:20
 with-first-requires : tie.Need-with-first-requires
 unfolding toldWritten
 with-first-requires c κs = omega (arith, moved (c .before .before .before .before .before .before .before .before .args .play) (c .before .before .before .before .before .before .before .before .args .out .now) (c .before .before .written .given .0 .0) (sym (ap toldWritten (c .before .before .written .given .1)) ∙ c .before .before .before .before .before .next-block .ensures .0) .0)
 
--- src/heard.rt:123:1
 returns : tie.Need-returns
 returns c = λ q h. let z : _≡_ {A = ℕ} 0 1 = cc in absurd (omega arith)
 
--- src/heard.rt:123:1
 returns-2 : tie.Need-returns-2
 unfolding toldWritten
 returns-2 c = λ q h. moves-on (c .before .before .before .before .before .before .before .before .before .args .play) (c .before .before .before .before .before .before .before .before .before .args .out .now) (c .before .before .before .written .given .0 .0) (c .before .before .before .before .before .before .next-block .result .play) (sym (ap toldWritten (c .before .before .before .written .given .1)) ∙ c .before .before .before .before .before .before .next-block .ensures .0) (c .before .before .before .before .before .before .next-block .ensures .1 .0) h
