@@ -158,7 +158,7 @@ fn blocks_are(first: Compared, s: &[u8], play: Play, out: &mut [u8; 20480]) -> b
 }
 
 // Whether playing the input gives the line's output.
-pub fn gives(input: &[u8], s: &[u8], out: &mut [u8; 20480]) -> bool {
+pub(crate) fn gives(input: &[u8], s: &[u8], out: &mut [u8; 20480]) -> bool {
     let opened = play::open(input, &mut *out);
     let play = opened.play;
     let nothing = Compared {

@@ -17,7 +17,7 @@ pub enum Bytes {
 }
 
 // The first place that has the byte b, or the end.
-pub fn find(s: &[u8], start: usize, b: u8) -> usize
+pub(crate) fn find(s: &[u8], start: usize, b: u8) -> usize
     requires { ⌜ start ≤ length (now s) ⌝ }
     ensures { λ r. ⌜ (start ≤ r) × (r ≤ length (now (s .entry))) ⌝ }
 {
@@ -93,7 +93,7 @@ fn byte_at(s: &[u8], at: usize) -> Byte
 }
 
 // Puts the bytes that stand in s before a place.
-pub fn bytes_of(s: &[u8], end: usize, out: &mut [u8]) -> Bytes
+pub(crate) fn bytes_of(s: &[u8], end: usize, out: &mut [u8]) -> Bytes
     requires { ⌜ end ≤ length (now s) ⌝ }
     ensures { λ r. ⌜ Within (length (now (out .entry))) r ⌝ }
 {

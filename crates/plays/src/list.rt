@@ -176,7 +176,7 @@ fn turn(r: Reader, text: &mut [u8], input: &mut [u8], out: &mut [u8; 20480]) -> 
 
 // Runs the lines of standard input. A proved loop has to end, and nothing says that a list does: so the turns are counted down from a
 // number that no run uses up.
-pub fn run(text: &mut [u8], input: &mut [u8], out: &mut [u8; 20480]) -> Tally {
+pub(crate) fn run(text: &mut [u8], input: &mut [u8], out: &mut [u8; 20480]) -> Tally {
     let mut r = Reader {
         held: 0,
         ended: false,
