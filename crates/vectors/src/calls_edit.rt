@@ -1,17 +1,17 @@
 // The calls of the edits: `NAME E ARGUMENTS => ok E`, and with a second envelope
 // `NAME E E ARGUMENTS => ok E`. `at` is the place after the name.
-use crate::answers::answers_edited;
-use crate::edit_fields::EditField;
-use crate::edit_fields::JoinField;
-use crate::edit_fields::edit_at;
-use crate::edit_fields::join_at;
-use crate::records::envelope_at;
-use crate::text::Name;
-use crate::text::Outcome;
-use crate::text::Place;
+use listing_edits::EditField;
+use listing_edits::JoinField;
+use listing_edits::edit_at;
+use listing_edits::join_at;
 use envelope::AutomationEnvelope;
+use listing_envelopes::answers::answers_edited;
+use listing_envelopes::records::envelope_at;
+use listing::text::Name;
+use listing::text::Outcome;
+use listing::text::Place;
 
-pub fn run(s: &[u8], at: usize) -> Outcome {
+pub(crate) fn run(s: &[u8], at: usize) -> Outcome {
     let given = envelope_at(s, at);
     let envelope = given.envelope;
     let end = given.end;

@@ -1,28 +1,28 @@
 // The lines of a session: `session s CALL => ok kept KEPT ahead AHEAD E`, where a call is
 // `open TARGET WORDS`, `edit NAME ARGUMENTS`, `back`, `forward`, `show`, `damage SLOT WORD`, or
 // `len WORDS` and one of those, with a step memory of another length. One session is open at a time.
-use crate::answers::answers_refusal;
-use crate::edit_fields::EditField;
-use crate::edit_fields::JoinField;
-use crate::edit_fields::edit_at;
-use crate::edit_fields::join_at;
-use crate::records::envelope_at;
-use crate::records::says_envelope;
-use crate::text::Name;
-use crate::text::Outcome;
-use crate::text::Place;
-use crate::text::Word;
-use crate::text::after;
-use crate::text::decimal_after;
-use crate::text::decimal_at;
-use crate::text::ended;
-use crate::text::find;
+use listing_edits::EditField;
+use listing_edits::JoinField;
+use listing_edits::edit_at;
+use listing_edits::join_at;
+use listing_envelopes::records::envelope_at;
+use listing_envelopes::records::says_envelope;
+use listing::text::Name;
+use listing::text::Outcome;
+use listing::text::Place;
+use listing::text::Word;
+use listing::text::after;
+use listing::text::decimal_after;
+use listing::text::decimal_at;
+use listing::text::ended;
+use listing::text::find;
+use listing_points::answers::answers_refusal;
 use points::refusal::Answer;
 use session::Session;
 use session::SessionAnswer;
 
 // What a line comes to, and the session after it.
-pub struct Played {
+pub(crate) struct Played {
     pub outcome: Outcome,
     pub session: Session,
 }
@@ -94,9 +94,6 @@ fn join(s: &[u8], name: Name, at: usize, session: Session, memory: &mut [u64]) -
 
 // `start` is where the edit's name begins.
 fn edit(s: &[u8], start: usize, session: Session, memory: &mut [u64]) -> Played {
-    if s.len() < start {
-        return stays(session, Outcome::Differs);
-    }
     let end = find(s, start, b' ');
     let name = Name {
         from: start,
@@ -152,7 +149,7 @@ fn damage(s: &[u8], at: usize, session: Session, memory: &mut [u64]) -> Played {
 }
 
 // The line of the open session.
-pub fn run(s: &[u8], session: Session, memory: &mut [u64]) -> Played {
+pub(crate) fn run(s: &[u8], session: Session, memory: &mut [u64]) -> Played {
     let Place::At(at) = after(s, 0, b"session s") else {
         return stays(session, Outcome::Unknown);
     };

@@ -4,21 +4,9 @@ ghost use mathlib.Core.Path.{_≡_};
 ghost use lib.ListN.{length};
 use libc::STDOUT_FILENO;
 
-mod answers;
-mod buffers;
-mod calls_analysis;
-mod calls_curve;
 mod calls_edit;
-mod calls_numbers;
-mod calls_player;
-mod calls_render;
 mod calls_session;
-mod calls_walk;
-mod edit_fields;
-mod lists;
-mod records;
 mod replay;
-mod text;
 
 // Room for a line: two envelopes of 256 points and their answer take some 40,000 bytes.
 fn buffer() -> [u8; 131072]

@@ -4,25 +4,27 @@ ghost use mathlib.Core.Path.{_≡_};
 ghost use Prim.Native.Nat.{_-_, _≤_, _<_};
 ghost use lib.ListN.{length};
 ghost use Rattle.io.specs.Counts.{Counts};
-use crate::calls_analysis;
-use crate::calls_curve;
 use crate::calls_edit;
-use crate::calls_numbers;
-use crate::calls_player;
-use crate::calls_render;
 use crate::calls_session;
 use crate::calls_session::Played;
-use crate::calls_walk;
-use crate::text::Outcome;
-use crate::text::find;
-use crate::text::is;
+use listing_envelopes::calls_analysis;
+use listing_envelopes::calls_player;
+use listing_envelopes::calls_render;
+use listing_envelopes::calls_walk;
+use listing_lent::merge;
+use listing_lent::sheets;
 use libc::STDIN_FILENO;
 use libc::STDOUT_FILENO;
+use listing::text::Outcome;
+use listing::text::call_among;
+use listing::text::find;
+use listing_numbers::calls;
+use listing_numbers::curves;
 use session::Session;
 use std::num::wrapping_add_u64;
 
 // How many lines were run, and how many of them differ; and the session that is open.
-pub struct Tally {
+pub(crate) struct Tally {
     pub run: u64,
     pub differ: u64,
     pub session: Session,
@@ -71,6 +73,19 @@ fn counted(t: Tally, differs: bool) -> Tally {
     }
 }
 
+// The same among the calls on lent bytes and points, and the edits.
+fn outcome_of_rest(s: &[u8], name: usize) -> Outcome {
+    let sheet = sheets::run(s, name);
+    let Outcome::Unknown = sheet else {
+        return sheet;
+    };
+    let merge = merge::run(s, name);
+    let Outcome::Unknown = merge else {
+        return merge;
+    };
+    calls_edit::run(s, name)
+}
+
 // The same among the calls on envelopes but the Player's.
 fn outcome_on_envelopes(s: &[u8], name: usize) -> Outcome {
     let render = calls_render::run(s, name);
@@ -85,16 +100,16 @@ fn outcome_on_envelopes(s: &[u8], name: usize) -> Outcome {
     let Outcome::Unknown = analysis else {
         return analysis;
     };
-    calls_edit::run(s, name)
+    outcome_of_rest(s, name)
 }
 
 // What the first module gives that knows the call. `name` is the place after its name.
 fn outcome(s: &[u8], name: usize) -> Outcome {
-    let numbers = calls_numbers::run(s, name);
+    let numbers = calls::run(s, name);
     let Outcome::Unknown = numbers else {
         return numbers;
     };
-    let curve = calls_curve::run(s, name);
+    let curve = curves::run(s, name);
     let Outcome::Unknown = curve else {
         return curve;
     };
@@ -108,12 +123,12 @@ fn outcome(s: &[u8], name: usize) -> Outcome {
 // A call of the open session, or any other, which leaves that as it is.
 fn played(s: &[u8], session: Session, memory: &mut [u64]) -> Played {
     let name = find(s, 0, b' ');
-    if is(s, name, b"session") {
-        return calls_session::run(s, session, memory);
-    }
-    Played {
-        outcome: outcome(s, name),
-        session,
+    match call_among(s, name, b"session ") {
+        0 => calls_session::run(s, session, memory),
+        _ => Played {
+            outcome: outcome(s, name),
+            session,
+        },
     }
 }
 
@@ -156,7 +171,7 @@ fn line(s: &[u8], t: Tally, memory: &mut [u64]) -> Tally {
 }
 
 // The lines from `start` on that end in a newline.
-fn lines(s: &[u8], start: usize, t: Tally, memory: &mut [u64]) -> Done
+fn whole_lines(s: &[u8], start: usize, t: Tally, memory: &mut [u64]) -> Done
     requires { ⌜ start ≤ length (now s) ⌝ }
     ensures { λ r. ⌜ (start ≤ r .at) × (r .at ≤ length (now (s .entry))) ⌝ }
 {
@@ -267,7 +282,7 @@ fn turn(buf: &mut [u8], r: Reader, memory: &mut [u64]) -> Reader
         };
     }
     let start = next_line(&buf[..full], long);
-    let done = lines(&buf[..full], start.at, tally, memory);
+    let done = whole_lines(&buf[..full], start.at, tally, memory);
     let rest = to_front(buf, done.at, full);
     let so_far = done.tally;
     held_over(buf, rest, start.long, so_far)
@@ -275,7 +290,7 @@ fn turn(buf: &mut [u8], r: Reader, memory: &mut [u64]) -> Reader
 
 // Replays standard input. A proved loop has to end, and nothing says that a list does: so the turns
 // are counted down from a number that no run uses up.
-pub fn replay(buf: &mut [u8], memory: &mut [u64]) -> Tally
+pub(crate) fn replay(buf: &mut [u8], memory: &mut [u64]) -> Tally
     requires { ⌜ 0 < length (now buf) ⌝ }
 {
     let mut r = Reader {

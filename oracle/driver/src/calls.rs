@@ -1,6 +1,6 @@
 //! The Rust's answer to a call, as text.
 use crate::domain::{refused_after, refused_before, stride, valid};
-use crate::records::Envelope;
+use crate::records::{of_points, Envelope};
 use crate::rules::{self, bare, hold, same, Marked};
 use crate::text::{self, double, marked, signature, single, word, Arg};
 use std::panic::{catch_unwind, AssertUnwindSafe};
@@ -34,7 +34,7 @@ pub fn call(op: &str, a: &[Arg], raw: bool) -> Answer {
 }
 
 fn answer(op: &str, a: &[Arg], raw: bool) -> Answer {
-    if !matches!(signature(op), Some((_, 'e' | 'c'))) {
+    if !matches!(signature(op), Some((_, 'e' | 'c' | 'm'))) {
         return Answer::text(format!("ok {}", lookup(op, a)));
     }
     let (e, open) = settled(op, a, edit(op, a));
@@ -95,6 +95,7 @@ fn edit(op: &str, a: &[Arg]) -> Envelope {
                 ("apply_gate", [F(x)]) => r.apply_gate(*x),
                 ("apply_compression", [F(x), F(y)]) => r.apply_compression(*x, *y),
                 ("merge", [E(o), D(t)]) => r.merge(o, *t),
+                ("merge_points", [L(l), D(t)]) => r.merge(&of_points(l), *t),
                 _ => panic!("driver: {op}"),
             };
         }

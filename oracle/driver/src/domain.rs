@@ -1,5 +1,5 @@
 //! Document 01's domain and its refusals, in its order.
-use crate::records::{controls, AutomationPoint, CurveType, Envelope};
+use crate::records::{controls, of_points, AutomationPoint, CurveType, Envelope};
 use crate::text::{sheet, signature, Arg};
 
 /// The most samples of a run.
@@ -60,7 +60,12 @@ pub fn refused_before(op: &str, a: &[Arg]) -> Option<u32> {
     if group == 'n' || op == "valid" {
         return None;
     }
-    if a.iter().any(|x| matches!(x, E(e) if !valid(e))) {
+    let not_valid = |x: &Arg| match x {
+        E(e) => !valid(e),
+        L(l) => !valid(&of_points(l)),
+        _ => false,
+    };
+    if a.iter().any(not_valid) {
         return Some(1);
     }
     if !kinds.chars().zip(a).all(|(k, x)| finite_argument(k, x)) {

@@ -4,7 +4,7 @@
 use crate::edges::{near, near_double, sign};
 use crate::envelopes::{sort, NOT_FINITE};
 use crate::random::Random;
-use crate::records::Envelope;
+use crate::records::{of_points, AutomationPoint, Envelope};
 use crate::text::{signature, Arg};
 
 pub fn arguments(r: &mut Random, op: &str) -> Vec<Arg> {
@@ -14,6 +14,7 @@ pub fn arguments(r: &mut Random, op: &str) -> Vec<Arg> {
     for kind in kinds.chars().skip(1) {
         let x = match kind {
             'E' => Arg::E(other(r, op, &first)),
+            'L' => Arg::L(list(r, op, &first)),
             'D' => Arg::D(double(r, op, &a)),
             'F' => Arg::F(single(r, op, &a)),
             'O' => Arg::O(limit(r)),
@@ -99,6 +100,19 @@ fn other_of_many(r: &mut Random, first: &Envelope) -> Envelope {
     e
 }
 
+/// A lent list of points: those of a second envelope; or one that is not valid, by a point or by
+/// its length, 256 among them.
+fn list(r: &mut Random, op: &str, first: &Envelope) -> Vec<AutomationPoint> {
+    let e = other(r, op, first);
+    match r.below(24) {
+        0 => (0..256 + r.one_of(&[0, 1, 2, 44]))
+            .map(|k| AutomationPoint::new(k as f64, r.single()))
+            .collect(),
+        1..=3 => r.spoiled(e).points,
+        _ => e.points,
+    }
+}
+
 // ---- numbers
 
 fn limit(r: &mut Random) -> Option<f32> {
@@ -129,13 +143,8 @@ fn double(r: &mut Random, op: &str, a: &[Arg]) -> f64 {
         ("scale_time", _) => factor(r),
         ("trim", _) => bound(r, at),
         ("quantize_time", _) => grid(r, at),
-        ("merge", [_, Arg::E(o)]) => {
-            let from = point_of(r, o).map(|i| o.points[i].time);
-            match (at, from) {
-                (Some(t), Some(f)) if r.once_in(2) => t - f,
-                _ => offset(r, at),
-            }
-        }
+        ("merge", [_, Arg::E(o)]) => offset_of(r, at, o),
+        ("merge_points", [_, Arg::L(l)]) => offset_of(r, at, &of_points(l)),
         ("pulse", [_, .., Arg::D(before)]) if r.once_in(4) => -before,
         _ => duration(r, e),
     };
@@ -170,6 +179,15 @@ fn offset(r: &mut Random, at: Option<f64>) -> f64 {
         (4, _) => sign(r) * r.one_of(&[f64::from_bits(1), 1e-300, 1e-17]),
         (5 | 6, Some(t)) => -t,
         _ => r.double(),
+    }
+}
+
+/// From a point of the other to one of the first, or any offset.
+fn offset_of(r: &mut Random, at: Option<f64>, other: &Envelope) -> f64 {
+    let from = point_of(r, other).map(|i| other.points[i].time);
+    match (at, from) {
+        (Some(t), Some(f)) if r.once_in(2) => t - f,
+        _ => offset(r, at),
     }
 }
 

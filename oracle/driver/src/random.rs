@@ -3,7 +3,7 @@ use crate::domain::MOST;
 use crate::edges;
 use crate::edits;
 use crate::records::{curve_of, AutomationPoint, CurveType};
-use crate::text::{signature, Arg, OPERATIONS};
+use crate::text::{sheet, signature, Arg, OPERATIONS};
 
 /// SplitMix64.
 pub struct Random(pub u64);
@@ -126,7 +126,7 @@ impl Random {
         match (op, before) {
             ("peaks", [E(e), ..]) => self.length(e.find_peaks().len() as u64),
             ("valleys", [E(e), ..]) => self.length(e.find_valleys().len() as u64),
-            ("sheet", _) => self.one_of(&[100, 150, 20000, 20000]),
+            ("sheet", [E(e)]) => self.length(sheet(e).len() as u64),
             ("render", [E(e), D(rate)]) => self.first_sample(e, *rate, MOST),
             ("render", [_, _, _, N(count), N(place)]) => self.length(place + count),
             ("to_buffer", [_, D(rate), D(duration), N(place)]) => {
@@ -203,7 +203,7 @@ impl Random {
         let (kinds, group) = signature(op).unwrap_or_else(|| panic!("no operation {op}"));
         match group {
             'n' => return edges::arguments(self, op),
-            'e' | 'c' => return edits::arguments(self, op),
+            'e' | 'c' | 'm' => return edits::arguments(self, op),
             _ => {}
         }
         let mut a = vec![];

@@ -4,6 +4,13 @@ pub use source::envelope::{AutomationEnvelope, AutomationPoint};
 
 pub type Envelope = AutomationEnvelope<u32>;
 
+/// An envelope that has these points, and nothing else set.
+pub fn of_points(points: &[AutomationPoint]) -> Envelope {
+    let mut e = Envelope::new(0);
+    e.points = points.to_vec();
+    e
+}
+
 /// The curve of a code, in 001's order from 0. `c1` and `c2` are the controls of a Bezier curve.
 pub fn curve_of(code: u64, c1: f32, c2: f32) -> Option<CurveType> {
     use CurveType::*;

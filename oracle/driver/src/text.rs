@@ -13,6 +13,7 @@ pub enum Arg {
     O(Option<f32>),
     C(CurveType),
     P(AutomationPoint),
+    L(Vec<AutomationPoint>),
     E(Envelope),
 }
 
@@ -21,9 +22,10 @@ pub type Read<T> = Result<T, String>;
 /// Envelopes that lines have named.
 pub type Registers = HashMap<String, Envelope>;
 
-/// An operation's name, the kinds of its arguments, and its group: e edit, c combination,
-/// l lookup or analysis, n number. Kinds: D f64, T f64 that may be anything, F f32, G f32 that may
-/// be anything, U u64 (16 digits), N decimal, B 0 or 1, O f32 or none, C curve, P point, E envelope.
+/// An operation's name, the kinds of its arguments, and its group: e edit, c combination, m edit
+/// that no session has, l lookup or analysis, n number. Kinds: D f64, T f64 that may be anything,
+/// F f32, G f32 that may be anything, U u64 (16 digits), N decimal, B 0 or 1, O f32 or none,
+/// C curve, P point, L list of points, E envelope.
 pub const OPERATIONS: &[(&str, &str, char)] = &[
     ("value_at", "ET", 'l'),
     ("value_at_sample", "EU", 'l'),
@@ -60,6 +62,7 @@ pub const OPERATIONS: &[(&str, &str, char)] = &[
     ("apply_gate", "EF", 'e'),
     ("apply_compression", "EFF", 'e'),
     ("merge", "EED", 'e'),
+    ("merge_points", "ELD", 'm'),
     ("set_enabled", "EB", 'e'),
     ("set_min", "EO", 'e'),
     ("set_max", "EO", 'e'),
@@ -181,6 +184,10 @@ impl<'a> Words<'a> {
         })
     }
 
+    fn points(&mut self) -> Read<Vec<AutomationPoint>> {
+        (0..self.decimal()?).map(|_| self.point()).collect()
+    }
+
     pub fn envelope(&mut self) -> Read<Envelope> {
         let s = self.word()?;
         if let Some(n) = s.strip_prefix('@') {
@@ -194,9 +201,7 @@ impl<'a> Words<'a> {
         e.min_value = self.optional()?;
         e.max_value = self.optional()?;
         e.step_size = self.optional()?;
-        for _ in 0..self.decimal()? {
-            e.points.push(self.point()?);
-        }
+        e.points = self.points()?;
         if self.word()? != "}" {
             return Err("no }".into());
         }
@@ -213,6 +218,7 @@ impl<'a> Words<'a> {
             'O' => Arg::O(self.optional()?),
             'C' => Arg::C(self.curve()?),
             'P' => Arg::P(self.point()?),
+            'L' => Arg::L(self.points()?),
             _ => Arg::E(self.envelope()?),
         })
     }
@@ -280,14 +286,19 @@ fn settings(e: &Envelope) -> String {
     format!("{} {} {}", e.target, e.enabled as u8, limits)
 }
 
-/// An envelope, with the values marked that `open` says.
-pub fn envelope(e: &Envelope, open: &[bool]) -> String {
-    let mut s = format!("{{ {} {}", settings(e), e.points.len());
-    for (i, p) in e.points.iter().enumerate() {
+/// Points and their number, with the values marked that `open` says.
+fn points(list: &[AutomationPoint], open: &[bool]) -> String {
+    let mut s = list.len().to_string();
+    for (i, p) in list.iter().enumerate() {
         s += " ";
         s += &point(p, open.get(i).copied().unwrap_or(false));
     }
-    s + " }"
+    s
+}
+
+/// An envelope, with the values marked that `open` says.
+pub fn envelope(e: &Envelope, open: &[bool]) -> String {
+    format!("{{ {} {} }}", settings(e), points(&e.points, open))
 }
 
 /// The envelope's sheet, as document 01 has it.
@@ -313,6 +324,7 @@ fn argument(a: &Arg) -> String {
         Arg::O(x) => optional(*x),
         Arg::C(c) => curve(c),
         Arg::P(p) => point(p, false),
+        Arg::L(l) => points(l, &[]),
         Arg::E(e) => envelope(e, &[]),
     }
 }

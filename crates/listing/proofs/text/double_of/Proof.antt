@@ -1,0 +1,20 @@
+-- `listing::text::double_of` meets its contract: a pattern above the infinities' is a NaN's.
+-- Assumes nothing.
+use mathlib.Core.Path.{sym, _∙_}
+use lib.Ieee.{binary64}
+use Rattle.listing.proofs.Patterns.{above, not-above, zero-by-zero}
+use borrow.Author.Needs.{needs}
+use Rattle.listing.proofs.text.double_of.Statement.{statement}
+use Rattle.listing.proofs.text.double_of.Tie as tie
+
+returns : tie.Need-returns
+returns c = zero-by-zero binary64 ∙ sym (above binary64 (c .before .args .b) (c .if1 .taken))
+
+float-from-bits-result : tie.Need-float-from-bits-result
+float-from-bits-result c = not-above binary64 (c .before .args .b) (c .if1 .left)
+
+returns-2 : tie.Need-returns-2
+returns-2 c = search needs
+
+pub double-of-spec : {M : Type 1} → statement M
+double-of-spec = tie.close (tie.spec returns float-from-bits-result returns-2)

@@ -1,0 +1,29 @@
+// An edit's answer held against the line's. `at` is the place after the call.
+use crate::records::says_envelope;
+use envelope::Edited;
+use listing::text::Outcome;
+use listing::text::Place;
+use listing::text::after;
+use listing::text::ended;
+use listing_points::answers::answers_refusal;
+use points::refusal::Answer;
+
+// An edit's answer. A refused one leaves the envelope as it was given, at the place `given`.
+pub fn answers_edited(s: &[u8], given: usize, at: usize, edited: Edited) -> Outcome {
+    let answer = edited.answer;
+    let envelope = edited.envelope;
+    match answer {
+        Answer::Accepted => {
+            let Place::At(start) = after(s, at, b" => ok") else {
+                return Outcome::Differs;
+            };
+            ended(s, says_envelope(s, start, envelope))
+        }
+        Answer::Refused(why) => {
+            let Place::At(_) = says_envelope(s, given, envelope) else {
+                return Outcome::Differs;
+            };
+            answers_refusal(s, at, why)
+        }
+    }
+}
