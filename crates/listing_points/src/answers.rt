@@ -1,7 +1,6 @@
 // Our answer held against the line's, which stands after ` => `: `ok ..` or `refuse N`. `at` is the
 // place after the call.
 ghost use mathlib.Core.Path.{_≡_};
-ghost use Rattle.points.specs.Refusal.{number};
 use listing::text::Outcome;
 use listing::text::Place;
 use listing::text::Word;
@@ -13,32 +12,12 @@ use lookup::Lookup;
 use points::refusal::Compared;
 use points::refusal::Refusal;
 
-// Document 01's number of a refusal.
-fn number(why: Refusal) -> u32
-    ensures { λ r. ⌜ r ≡ number why ⌝ }
-{
-    match why {
-        Refusal::NotValid => 1,
-        Refusal::SheetCurve => 2,
-        Refusal::NotFinite => 3,
-        Refusal::BoundsCross => 4,
-        Refusal::TooManyPoints => 5,
-        Refusal::TimesDontRise => 6,
-        Refusal::KeysDontRise => 7,
-        Refusal::NoRoom => 8,
-        Refusal::SheetForm => 9,
-        Refusal::NoStep => 10,
-        Refusal::MemoryLength => 11,
-        Refusal::StoredState => 12,
-        Refusal::TooManySamples => 13,
-    }
-}
 
 fn says_refusal(s: &[u8], at: usize, why: Refusal) -> Place {
     let Word::Is(n, next) = decimal_after(s, at, b" => refuse ") else {
         return Place::Nowhere;
     };
-    if n == number(why) as u64 {
+    if n == why.number() as u64 {
         return Place::At(next);
     }
     Place::Nowhere

@@ -8,25 +8,10 @@ ghost use Rattle.fields.specs.Told.{Put};
 ghost use Rattle.play.specs.Play.{sampleLine, sampleLines, refusalText};
 use points::refusal::Refusal;
 
-// 01's number of a refusal.
 fn number_of(why: Refusal) -> u64
     ensures { λ r. ⌜ r ≡ number why ⌝ }
 {
-    match why {
-        Refusal::NotValid => 1,
-        Refusal::SheetCurve => 2,
-        Refusal::NotFinite => 3,
-        Refusal::BoundsCross => 4,
-        Refusal::TooManyPoints => 5,
-        Refusal::TimesDontRise => 6,
-        Refusal::KeysDontRise => 7,
-        Refusal::NoRoom => 8,
-        Refusal::SheetForm => 9,
-        Refusal::NoStep => 10,
-        Refusal::MemoryLength => 11,
-        Refusal::StoredState => 12,
-        Refusal::TooManySamples => 13,
-    }
+    why.number() as u64
 }
 
 // The names above a refusal, and the line of both numbers.
