@@ -11,7 +11,7 @@ use lib.Ieee.{ofBits, toBits}
 use borrow.Author.Tests.{eqb-true}
 use Rattle.curve.specs.Curve.{code, controls, curveOf}
 use lib.ListN.{length, getD, take, drop, set, length-drop, take-append-drop}
-use lib.Seq.{sets, sets-eq, length-sets, take-suc-set, take-all, take-add, drop-cons, drop-drop, getD-drop, length-take-le}
+use lib.Seq.{sets, sets-eq, length-sets, take-suc, take-suc-set, take-all, take-add, drop-cons, drop-drop, getD-drop, length-take-le}
 use Rattle.points.specs.Points.{everyPair}
 use Rattle.points.specs.Laws.{and-true, and-assoc, and-both, and-left, and-right}
 use Rattle.points.specs.Point.{unused}
@@ -69,7 +69,7 @@ same-four w at a b c d h =
 
 -- words that are all 0 are an unused place's
 module _ (w : List ℕ) (at : ℕ)
-    (zeros : (eqb (getD w at 0) 0 && (eqb (getD w (at + 1) 0) 0 && (eqb (getD w (at + 2) 0) 0 && eqb (getD w (at + 3) 0) 0))) ≡ true) (p : AutomationPoint) (is : p ≡ unused) where
+    (zeros : (eqb (getD w at 0) 0 && (eqb (getD w (at + 1) 0) 0 && (eqb (getD w (at + 2) 0) 0 && eqb (getD w (at + 3) 0) 0))) ≡ true) where
   first : getD w at 0 ≡ 0
   first = eqb-true _ _ (and-left (eqb (getD w at 0) 0) _ zeros)
 
@@ -90,14 +90,14 @@ module _ (w : List ℕ) (at : ℕ)
   unfolding packPoint code controls ofBits toBits
   unused-words = refl
 
-  pub unused-read : p ≡ pointOf (drop at w)
-  unused-read = is ∙ unused-point ∙ (λ i. pointOf (sym first i ∷ sym second i ∷ sym third i ∷ sym fourth i ∷ [])) ∙ point-at w at
+  pub unused-read : unused ≡ pointOf (drop at w)
+  unused-read = unused-point ∙ (λ i. pointOf (sym first i ∷ sym second i ∷ sym third i ∷ sym fourth i ∷ [])) ∙ point-at w at
 
-  pub unused-same : at + 4 ≤ length w → true ≡ everyPair eqb (packPoint p) (take 4 (drop at w))
+  pub unused-same : at + 4 ≤ length w → true ≡ everyPair eqb (packPoint unused) (take 4 (drop at w))
   unused-same h =
       (λ i. eqb 0 (sym first i) && (eqb 0 (sym second i) && (eqb 0 (sym third i) && eqb 0 (sym fourth i))))
       ∙ same-four w at 0 0 0 0 h
-      ∙ ap (λ (l : List ℕ). everyPair eqb l (take 4 (drop at w))) (unused-words ∙ ap packPoint (sym is))
+      ∙ ap (λ (l : List ℕ). everyPair eqb l (take 4 (drop at w))) unused-words
 
 -- ---- the loop that writes the places
 
@@ -189,6 +189,14 @@ module _ (w : List ℕ) (i : ℕ) (p : AutomationPoint) (is : p ≡ pointOf (dro
       ap (λ (k : ℕ). take k (set places i p)) (add-one i)
       ∙ take-suc-set places i p h
       ∙ ap (λ (l : List AutomationPoint). l ++ (p ∷ [])) inv
+      ∙ sym more
+
+  -- where it stands already
+  pub stands-turn : (places : List AutomationPoint) (d : AutomationPoint) → i < length places → getD places i d ≡ p → take i places ≡ pointsOf i (drop 4 w) → take (i + 1) places ≡ pointsOf (i + 1) (drop 4 w)
+  stands-turn places d h e inv =
+      ap (λ (k : ℕ). take k places) (add-one i)
+      ∙ take-suc places i d h
+      ∙ (λ j. inv j ++ (e j ∷ []))
       ∙ sym more
 
   pub same-turn : (same more-same : Bool) → 4 + 4 * i + 4 ≤ length w

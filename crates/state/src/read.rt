@@ -117,32 +117,6 @@ fn same_point(p: AutomationPoint, words: &[u64], at: usize) -> bool
                 & (crate::write::value_word(p) == words[at + 3])))
 }
 
-// A place of a state, and whether it packs to the same words.
-struct Place {
-    point: AutomationPoint,
-    same: bool,
-}
-
-// Words that are all 0 are an unused place's: it need not be put together and taken apart again.
-fn read_place(words: &[u64], at: usize) -> Place
-    requires { ⌜ at + 4 ≤ length (now words) ⌝ }
-    ensures { λ r. ⌜ r .point ≡ pointOf (drop at (now (words .entry))) ⌝ }
-    ensures { λ r. ⌜ r .same ≡ everyPair eqb (packPoint (r .point)) (take 4 (drop at (now (words .entry)))) ⌝ }
-{
-    if (words[at] == 0) & ((words[at + 1] == 0) & ((words[at + 2] == 0) & (words[at + 3] == 0))) {
-        Place {
-            point: points::point::unused(),
-            same: true,
-        }
-    } else {
-        let point = read_point(words, at);
-        Place {
-            point,
-            same: same_point(point, words, at),
-        }
-    }
-}
-
 // The places of a state, and whether they pack to the same words.
 struct Places {
     same: bool,
@@ -160,11 +134,17 @@ fn read_places(words: &[u64]) -> Places
     let mut i: usize = 0;
     while i < 256 {
         let at = 4 + 4 * i;
-        let read = read_place(words, at);
-        let p = read.point;
-        same = same & read.same;
-        places[i] = p;
-        i += 1;
+        // words that are all 0 are an unused place's, which stands there already
+        if (words[at] == 0)
+            & ((words[at + 1] == 0) & ((words[at + 2] == 0) & (words[at + 3] == 0)))
+        {
+            i += 1;
+        } else {
+            let p = read_point(words, at);
+            same = same & same_point(p, words, at);
+            places[i] = p;
+            i += 1;
+        }
     }
     Places { same, places }
 }

@@ -1,17 +1,21 @@
-use Prim.Native.Nat.{_≤_, _-_, _*_}
-use mathlib.Core.Path.{_≡_, refl}
+-- `state::read::read_places` meets its contract. Assumes nothing.
+use Prim.Native.Nat.{ℕ, _≤_, _<_, _-_, _*_, _+_}
+use mathlib.Core.Path.{_≡_, refl, sym, _∙_}
+use mathlib.Core.Bool.{true}
 use native.Mathlib.Omega.{arith}
-use borrow.Author.Needs.{needs}
 use lib.Dec.{eqb}
-use lib.ListN.{length, take, drop, length-set}
+use lib.ListN.{length, take, drop, getD, length-set, getD-replicate}
+use lib.Seq.{getD-set-other}
+use Rattle.points.specs.Point.{unused, anyPoint}
 use Rattle.points.specs.Points.{everyPair}
+use Rattle.points.specs.Laws.{and-true}
 use Rattle.state.specs.State.{packPoints, pointsOf}
-use Rattle.state.proofs.Words.{read-none, same-none, read-turn, same-turn, read-all, same-all}
+use Rattle.state.proofs.Words.{unused-read, unused-same, read-none, same-none, read-turn, stands-turn, same-turn, read-all, same-all}
 use Rattle.state.proofs.read.read_places.Statement.{statement}
 use Rattle.state.proofs.read.read_places.Tie as tie
 
 abbrev Inv-loop : tie.InvT-loop
-Inv-loop words places₀ same₀ i₀ places same i = (i ≤ 256) × (length places ≡ 256) × (take i places ≡ pointsOf i (drop 4 words)) × (same ≡ everyPair eqb (packPoints (pointsOf i (drop 4 words))) (take (4 * i) (drop 4 words)))
+Inv-loop words places₀ same₀ i₀ places same i = (i ≤ 256) × (length places ≡ 256) × (take i places ≡ pointsOf i (drop 4 words)) × (same ≡ everyPair eqb (packPoints (pointsOf i (drop 4 words))) (take (4 * i) (drop 4 words))) × ((k : ℕ) → i ≤ k → k < 256 → getD places k anyPoint ≡ unused)
 
 abbrev μ-loop : tie.MeasureT-loop
 μ-loop words places₀ same₀ i₀ places same i = 256 - i
@@ -20,42 +24,90 @@ unused-requires : tie.Need-unused-requires Inv-loop μ-loop
 unused-requires c κs = tt
 
 loop-holds : tie.Need-loop-holds Inv-loop μ-loop
-loop-holds c = (omega arith, refl, read-none (c .before .before .args .words .now), same-none (c .before .before .args .words .now))
+loop-holds c = (omega arith, refl, read-none (c .before .before .args .words .now), same-none (c .before .before .args .words .now), λ k a b. getD-replicate 256 k (c .unused .result) anyPoint b ∙ c .unused .ensures)
 
 mul-at : tie.Need-mul-at Inv-loop μ-loop
-mul-at c = search needs
+mul-at c = omega arith
 
 add-at : tie.Need-add-at Inv-loop μ-loop
-add-at c = search needs
+add-at c = omega arith
 
-read-place-requires : tie.Need-read-place-requires Inv-loop μ-loop
-read-place-requires c κs = omega (arith, c .before .before .before .before .pre)
+mul-if1 : tie.Need-mul-if1 Inv-loop μ-loop
+mul-if1 c = omega (arith, c .before .before .before .before .pre)
 
-mul-places : tie.Need-mul-places Inv-loop μ-loop
-mul-places c = search needs
+shared-slice-read-if1 : tie.Need-shared-slice-read-if1 Inv-loop μ-loop
+shared-slice-read-if1 c = omega (arith, c .before .before .before .before .before .pre)
 
-array-set-from-places : tie.Need-array-set-from-places Inv-loop μ-loop
-array-set-from-places c = search needs
+add-if1 : tie.Need-add-if1 Inv-loop μ-loop
+add-if1 c = omega (arith, c .before .before .before .before .before .pre)
+
+mul-if1-2 : tie.Need-mul-if1-2 Inv-loop μ-loop
+mul-if1-2 c = omega (arith, c .before .before .before .before .before .pre)
+
+shared-slice-read-if1-2 : tie.Need-shared-slice-read-if1-2 Inv-loop μ-loop
+shared-slice-read-if1-2 c = omega (arith, c .before .before .before .before .before .before .pre)
+
+add-if1-2 : tie.Need-add-if1-2 Inv-loop μ-loop
+add-if1-2 c = omega (arith, c .before .before .before .before .before .before .pre)
+
+mul-if1-3 : tie.Need-mul-if1-3 Inv-loop μ-loop
+mul-if1-3 c = omega (arith, c .before .before .before .before .before .before .pre)
+
+shared-slice-read-if1-3 : tie.Need-shared-slice-read-if1-3 Inv-loop μ-loop
+shared-slice-read-if1-3 c = omega (arith, c .before .before .before .before .before .before .before .pre)
+
+add-if1-3 : tie.Need-add-if1-3 Inv-loop μ-loop
+add-if1-3 c = omega (arith, c .before .before .before .before .before .before .before .pre)
+
+mul-if1-4 : tie.Need-mul-if1-4 Inv-loop μ-loop
+mul-if1-4 c = omega (arith, c .before .before .before .before .before .before .before .pre)
+
+shared-slice-read-if1-4 : tie.Need-shared-slice-read-if1-4 Inv-loop μ-loop
+shared-slice-read-if1-4 c = omega (arith, c .before .before .before .before .before .before .before .before .pre)
 
 add-i : tie.Need-add-i Inv-loop μ-loop
-add-i c = search needs
+add-i c = omega arith
 
 loop-less : tie.Need-loop-less Inv-loop μ-loop
-loop-less c = search needs
+loop-less c = omega arith
 
 loop-again : tie.Need-loop-again Inv-loop μ-loop
-loop-again c =
-    let w = c .before .before .before .before .before .before .before .args .words .now in
-    let h = c .before .before .before .before .loop in
-    let r = c .before .before .read-place .result in
-    let is = c .before .before .read-place .ensures in
-    (omega arith, simp length-set (h .inv .1), read-turn w (h .i) (r .point) (is .0) (h .places) (omega (arith, h .inv .1)) (h .inv .2), same-turn w (h .i) (r .point) (is .0) (h .same) (r .same) (omega (arith, c .before .before .before .before .before .before .before .pre)) (h .inv .3) (is .1))
+loop-again c = let w = c .before .before .before .before .before .before .before .before .before .args .words .now in
+    let h = c .before .before .before .before .before .before .loop in
+    let z = c .if1 .taken in
+    let u = unused-read w (4 + 4 * h .i) z in
+    (omega arith, h .inv .1, stands-turn w (h .i) unused u (h .places) anyPoint (omega (arith, h .inv .1)) (h .inv .4 (h .i) (omega arith) (omega arith)) (h .inv .2), sym (and-true (h .same)) ∙ same-turn w (h .i) unused u (h .same) true (omega (arith, c .before .before .before .before .before .before .before .before .before .pre)) (h .inv .3) (unused-same w (4 + 4 * h .i) z (omega (arith, c .before .before .before .before .before .before .before .before .before .pre))), λ k a b. h .inv .4 k (omega arith) b)
+
+read-point-requires : tie.Need-read-point-requires Inv-loop μ-loop
+read-point-requires c κs = omega (arith, c .before .before .before .before .before .before .before .before .before .pre)
+
+same-point-requires : tie.Need-same-point-requires Inv-loop μ-loop
+same-point-requires c κs = omega (arith, c .before .before .before .before .before .before .before .before .before .before .pre)
+
+mul-places : tie.Need-mul-places Inv-loop μ-loop
+mul-places c = omega arith
+
+array-set-from-places : tie.Need-array-set-from-places Inv-loop μ-loop
+array-set-from-places c = omega (arith, c .before .before .before .before .before .before .before .before .loop .inv .1)
+
+add-i-2 : tie.Need-add-i-2 Inv-loop μ-loop
+add-i-2 c = omega arith
+
+loop-less-2 : tie.Need-loop-less-2 Inv-loop μ-loop
+loop-less-2 c = omega arith
+
+loop-again-2 : tie.Need-loop-again-2 Inv-loop μ-loop
+loop-again-2 c = let w = c .before .before .before .before .before .before .before .before .before .before .before .args .words .now in
+    let h = c .before .before .before .before .before .before .before .before .loop in
+    let p = c .before .read-point .result in
+    let is = c .before .read-point .ensures in
+    (omega arith, simp length-set (h .inv .1), read-turn w (h .i) p is (h .places) (omega (arith, h .inv .1)) (h .inv .2), same-turn w (h .i) p is (h .same) (c .same-point .result) (omega (arith, c .before .before .before .before .before .before .before .before .before .before .before .pre)) (h .inv .3) (c .same-point .ensures), λ k a b. getD-set-other (h .places) (h .i) k p anyPoint (λ e. omega (arith, e)) ∙ h .inv .4 k (omega arith) b)
 
 returns : tie.Need-returns Inv-loop μ-loop
-returns c =
-    let w = c .before .before .before .before .args .words .now in
-    let i : c .before .loop .i ≡ 256 = omega (arith, c .before .loop .inv .0) in
-    (read-all w (c .before .loop .places) (c .before .loop .i) i (c .before .loop .inv .1) (c .before .loop .inv .2), same-all w (c .before .loop .same) (c .before .loop .i) i (c .before .before .before .before .pre) (c .before .loop .inv .3))
+returns c = let w = c .before .before .before .before .args .words .now in
+    let h = c .before .loop in
+    let i : h .i ≡ 256 = omega (arith, h .inv .0) in
+    (read-all w (h .places) (h .i) i (h .inv .1) (h .inv .2), same-all w (h .same) (h .i) i (c .before .before .before .before .pre) (h .inv .3))
 
 pub read-places-spec : {M : Type 1} → statement M
 read-places-spec =
@@ -67,10 +119,25 @@ read-places-spec =
     loop-holds
     mul-at
     add-at
-    read-place-requires
-    mul-places
-    array-set-from-places
+    mul-if1
+    shared-slice-read-if1
+    add-if1
+    mul-if1-2
+    shared-slice-read-if1-2
+    add-if1-2
+    mul-if1-3
+    shared-slice-read-if1-3
+    add-if1-3
+    mul-if1-4
+    shared-slice-read-if1-4
     add-i
     loop-less
     loop-again
+    read-point-requires
+    same-point-requires
+    mul-places
+    array-set-from-places
+    add-i-2
+    loop-less-2
+    loop-again-2
     returns)
