@@ -3,6 +3,8 @@ use Prim.Native.Nat.{ℕ}
 use mathlib.Core.List.{List}
 use lib.ListN.{drop}
 use Rattle.points.specs.Refusal.{number, Said, refuses, gives}
+use Rattle.points.specs.Point.{zeroFloat}
+use Rattle.envelope.specs.Envelope.{new}
 use Rattle.envelope.specs.declared.AutomationEnvelope.{AutomationEnvelope}
 use Rattle.lines.specs.PointLines.{Lines}
 use Rattle.lines.specs.Told.{linesBy}
@@ -28,12 +30,22 @@ readBy (Refused r k) e = refusal (number r) k
 unfoldable pub toldRead : ReadSheet → Read
 toldRead r = readBy (r .answer) (r .envelope)
 
+-- the reader's result with this answer: the envelope on the sheet, or an empty one beside a refusal
+abbrev pub readHeld : SheetAnswer → Read → ReadSheet
+readHeld a (refusal n k) = record { answer = a; envelope = new 0 }
+readHeld a (sheet e) = record { answer = a; envelope = e }
+
 abbrev pub inputBy : SheetAnswer → AutomationEnvelope → Block → Input
 inputBy Accepted e b = input e b
 inputBy (Refused r k) e b = declined (number r) k
 
 unfoldable pub toldInput : PlayInput → Input
 toldInput r = inputBy (r .answer) (r .envelope) (record { rate = r .rate; duration = r .duration })
+
+-- the result with this answer: what is to be played, or an empty envelope and zeros beside a refusal
+abbrev pub inputHeld : SheetAnswer → Input → PlayInput
+inputHeld a (declined n k) = record { answer = a; envelope = new 0; rate = zeroFloat; duration = zeroFloat }
+inputHeld a (input e b) = record { answer = a; envelope = e; rate = b .rate; duration = b .duration }
 
 -- ---- the writer
 

@@ -8,14 +8,14 @@ ghost use Rattle.fields.specs.Form.{startsWith};
 ghost use Rattle.lines.specs.Lines.{blockLine};
 ghost use Rattle.lines.specs.PointLines.{blockNames};
 ghost use Rattle.sheet.specs.Sheet.{declined, lastLine, playInput};
-ghost use Rattle.sheet.specs.Told.{toldInput};
+ghost use Rattle.sheet.specs.Told.{toldInput, inputHeld};
 use crate::read::SheetAnswer;
 use envelope::AutomationEnvelope;
 use lines::block::BlockLine;
 use points::refusal::Answer;
 use points::refusal::Refusal;
 
-// What the program is to play. Beside a refusal it holds nothing of the input.
+// What the program is to play; beside a refusal an empty envelope and zeros.
 pub struct PlayInput {
     pub answer: SheetAnswer,
     pub envelope: AutomationEnvelope,
@@ -25,6 +25,7 @@ pub struct PlayInput {
 
 fn no_input(refusal: Refusal, line: u64) -> PlayInput
     ensures { λ r. ⌜ toldInput r ≡ declined (number refusal) line ⌝ }
+    ensures { λ r. ⌜ r ≡ inputHeld (r .answer) (declined (number refusal) line) ⌝ }
 {
     let envelope = AutomationEnvelope::new(0);
     PlayInput {
@@ -39,6 +40,7 @@ fn no_input(refusal: Refusal, line: u64) -> PlayInput
 fn block_at(s: &[u8], at: usize, envelope: AutomationEnvelope) -> PlayInput
     requires { ⌜ (envelope .points .count ≤ 256) × (startsWith blockNames (drop at (now s)) ≡ true) ⌝ }
     ensures { λ r. ⌜ toldInput r ≡ lastLine envelope (envelope .points .count + 5) (blockLine (drop (length blockNames) (drop at (now (s .entry))))) ⌝ }
+    ensures { λ r. ⌜ r ≡ inputHeld (r .answer) (lastLine envelope (envelope .points .count + 5) (blockLine (drop (length blockNames) (drop at (now (s .entry)))))) ⌝ }
 {
     let points = envelope.points;
     let line = (points.count + 5) as u64;
@@ -61,6 +63,7 @@ fn block_at(s: &[u8], at: usize, envelope: AutomationEnvelope) -> PlayInput
 // What the program is to play, or the first refusal with its line.
 pub fn read_play(s: &[u8]) -> PlayInput
     ensures { λ r. ⌜ toldInput r ≡ playInput (now (s .entry)) ⌝ }
+    ensures { λ r. ⌜ r ≡ inputHeld (r .answer) (playInput (now (s .entry))) ⌝ }
 {
     let r = crate::read::sheet_lines(s, true);
     let answer = r.answer;

@@ -3,11 +3,10 @@ ghost use mathlib.Core.Path.{_≡_};
 ghost use mathlib.Core.List.{List};
 ghost use Prim.Native.Nat.{ℕ};
 ghost use Rattle.points.specs.Refusal.{number};
-ghost use Rattle.envelope.specs.declared.AutomationEnvelope.{AutomationEnvelope};
 ghost use Rattle.lines.specs.PointLines.{stop};
-ghost use Rattle.lines.specs.Told.{linesBy, toldPointLines};
-ghost use Rattle.sheet.specs.Sheet.{withSettings, sheetLines, readFrom, readSheet};
-ghost use Rattle.sheet.specs.Told.{toldSheetLines, readBy, toldRead};
+ghost use Rattle.lines.specs.Told.{toldPointLines};
+ghost use Rattle.sheet.specs.Sheet.{withSettings, sheetLines, readSheet};
+ghost use Rattle.sheet.specs.Told.{toldSheetLines, toldRead, readHeld};
 use envelope::AutomationEnvelope;
 use lines::point_lines::PointLines;
 use lines::settings::Settings;
@@ -28,7 +27,7 @@ pub struct SheetLines {
     pub next: usize,
 }
 
-// The envelope of an accepted sheet. Beside a refusal it holds nothing of the sheet.
+// The envelope of an accepted sheet; beside a refusal an empty one.
 pub struct ReadSheet {
     pub answer: SheetAnswer,
     pub envelope: AutomationEnvelope,
@@ -90,25 +89,27 @@ pub(crate) fn sheet_lines(s: &[u8], program: bool) -> SheetLines
     }
 }
 
-// A refusal with its line.
-fn sheet_answer(answer: Answer, line: u64) -> SheetAnswer
-    ensures { λ r. ⌜ ((e : AutomationEnvelope) (rest : List ℕ) → readBy r e ≡ readFrom (linesBy answer line e rest)) ⌝ }
-{
-    match answer {
-        Answer::Accepted => SheetAnswer::Accepted,
-        Answer::Refused(refusal) => SheetAnswer::Refused(refusal, line),
-    }
-}
-
 // The envelope on the sheet, or the first refusal with its line.
 pub fn read_sheet(s: &[u8]) -> ReadSheet
     ensures { λ r. ⌜ toldRead r ≡ readSheet (now (s .entry)) ⌝ }
+    ensures { λ r. ⌜ r ≡ readHeld (r .answer) (readSheet (now (s .entry))) ⌝ }
 {
     let r = sheet_lines(s, false);
     let answer = r.answer;
-    let envelope = r.envelope;
-    ReadSheet {
-        answer: sheet_answer(answer, r.line),
-        envelope,
+    match answer {
+        Answer::Refused(refusal) => {
+            let envelope = AutomationEnvelope::new(0);
+            ReadSheet {
+                answer: SheetAnswer::Refused(refusal, r.line),
+                envelope,
+            }
+        }
+        Answer::Accepted => {
+            let envelope = r.envelope;
+            ReadSheet {
+                answer: SheetAnswer::Accepted,
+                envelope,
+            }
+        }
     }
 }

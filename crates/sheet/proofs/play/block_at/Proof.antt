@@ -1,3 +1,4 @@
+use mathlib.Core.Path.{refl}
 use native.Mathlib.Omega.{arith}
 use lib.Seq.{drop-drop}
 use Rattle.fields.proofs.Fields.{told}
@@ -59,7 +60,7 @@ returns-2 c = rw (drop-drop 14 (c .before .before .before .before .before .befor
 -- src/play.rt:39:1
 returns-3 : tie.Need-returns-3
 unfolding toldBlockLine toldInput
-returns-3 c = rw (drop-drop 14 (c .before .before .before .before .before .before .before .before .args .at) (c .before .before .before .before .before .before .before .before .args .s .now), told (toldBlockLine _) (c .before .before .before .before .block-line .ensures) (c .before .before .block .given .1), empty-out (c .before .before .before .before .before .before .before .before .args .s .now) (c .before .before .block .given .0 .1 .0) (c .if1 .left))
+returns-3 c = rw (drop-drop 14 (c .before .before .before .before .before .before .before .before .args .at) (c .before .before .before .before .before .before .before .before .args .s .now), told (toldBlockLine _) (c .before .before .before .before .block-line .ensures) (c .before .before .block .given .1), empty-out (c .before .before .before .before .before .before .before .before .args .s .now) (c .before .before .block .given .0 .1 .0) (c .if1 .left)) (refl, refl)
 
 pub block-at-spec : {M : Type 1} → statement M
 block-at-spec =

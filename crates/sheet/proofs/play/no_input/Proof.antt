@@ -1,4 +1,5 @@
 use mathlib.Core.Path.{refl}
+use lib.Ieee.{ofBits}
 use Rattle.sheet.specs.Told.{toldInput}
 use borrow.Author.Needs.{needs}
 use Rattle.sheet.proofs.play.no_input.Statement.{statement}
@@ -13,8 +14,8 @@ new-requires c κs = search needs
 
 -- src/play.rt:73:1
 returns : tie.Need-returns
-unfolding toldInput
-returns c = refl
+unfolding toldInput ofBits
+returns c = (refl, rw (c .new .ensures))
 
 pub no-input-spec : {M : Type 1} → statement M
 no-input-spec = tie.close (tie.spec new-requires returns)

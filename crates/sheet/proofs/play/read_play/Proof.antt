@@ -1,7 +1,6 @@
 use mathlib.Core.Bool.{true}
-use mathlib.Core.Path.{sym, ap, _∙_}
 use Rattle.lines.specs.PointLines.{pointsEnd}
-use Rattle.sheet.specs.Sheet.{blockFrom, playInput}
+use Rattle.sheet.specs.Sheet.{playInput}
 use Rattle.sheet.proofs.Answers.{accepted-lines, refused-lines}
 use Rattle.sheet.proofs.Sheets.{sheet-read}
 use Rattle.sheet.proofs.Valid.{few}
@@ -39,12 +38,12 @@ block-at-requires c κs = let w = sheet-read true _ _ _ (accepted-lines _ _ (c .
 -- src/play.rt:62:1
 returns : tie.Need-returns
 unfolding playInput
-returns c = c .no-input .ensures ∙ ap blockFrom (sym (refused-lines _ _ (c .before .before .before .before .sheet-lines .ensures) (c .before .before .answer .given .1)))
+returns c = rw (refused-lines _ _ (c .before .before .before .before .sheet-lines .ensures) (c .before .before .answer .given .1)) (c .no-input .ensures)
 
 -- src/play.rt:62:1
 returns-2 : tie.Need-returns-2
 unfolding playInput
-returns-2 c = c .block-at .ensures ∙ ap blockFrom (sym (accepted-lines _ _ (c .before .before .before .before .sheet-lines .ensures) (c .before .before .enum-told .given .1)))
+returns-2 c = rw (accepted-lines _ _ (c .before .before .before .before .sheet-lines .ensures) (c .before .before .enum-told .given .1)) (c .block-at .ensures)
 
 pub read-play-spec : {M : Type 1} → statement M
 read-play-spec =

@@ -1,26 +1,42 @@
-use mathlib.Core.Path.{ap, _∙_}
-use Rattle.sheet.specs.Sheet.{readFrom, readSheet}
-use Rattle.sheet.specs.Told.{toldSheetLines, toldRead}
+use mathlib.Core.Path.{refl}
+use Rattle.sheet.specs.Sheet.{readSheet}
+use Rattle.sheet.specs.Told.{toldRead}
+use Rattle.sheet.proofs.Answers.{accepted-lines, refused-lines}
 use borrow.Author.Needs.{needs}
 use Rattle.sheet.proofs.read.read_sheet.Statement.{statement}
 use Rattle.sheet.proofs.read.read_sheet.Tie as tie
 use Rattle.sheet.proofs.read.read_sheet.Reads as reads
 use Rattle.sheet.proofs.read.read_sheet.Lts as lts
-use Rattle.sheet.proofs.read.sheet_answer.Reads as sheet-answer-reads
+use Rattle.envelope.proofs.AutomationEnvelope.new.Reads as new-reads
 use Rattle.sheet.proofs.read.sheet_lines.Reads as sheet-lines-reads
 
--- src/read.rt:107:9
+-- src/read.rt:97:9
 sheet-lines-requires : tie.Need-sheet-lines-requires
 sheet-lines-requires c κs = search needs
 
--- src/read.rt:111:17
-sheet-answer-requires : tie.Need-sheet-answer-requires
-sheet-answer-requires c κs = search needs
+-- src/read.rt:100:25
+enum-known-answer : tie.Need-enum-known-answer
+enum-known-answer c = search needs
 
--- src/read.rt:104:1
+-- src/read.rt:101:17
+new-requires : tie.Need-new-requires
+new-requires c κs = search needs
+
+-- src/read.rt:108:17
+enum-told : tie.Need-enum-told
+enum-told c = search needs
+
+-- src/read.rt:93:1
 returns : tie.Need-returns
-unfolding readSheet toldRead toldSheetLines
-returns c = c .sheet-answer .ensures _ _ ∙ ap readFrom (c .before .before .sheet-lines .ensures)
+unfolding readSheet toldRead
+returns c = rw (refused-lines _ _ (c .before .before .before .before .sheet-lines .ensures) (c .before .before .answer .given .1), c .new .ensures) (refl, refl)
+
+-- src/read.rt:93:1
+returns-2 : tie.Need-returns-2
+unfolding readSheet toldRead
+returns-2 c = rw (accepted-lines _ _ (c .before .before .before .sheet-lines .ensures) (c .before .enum-told .given .1)) (refl, refl)
 
 pub read-sheet-spec : {M : Type 1} → statement M
-read-sheet-spec = tie.close (tie.spec sheet-lines-requires sheet-answer-requires returns)
+read-sheet-spec =
+    tie.close
+    (tie.spec sheet-lines-requires enum-known-answer new-requires enum-told returns returns-2)
