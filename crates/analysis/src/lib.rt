@@ -14,7 +14,6 @@ use lookup::Limits;
 use lookup::Lookup;
 use lookup::place::previous;
 use lookup::place::within;
-use lookup::time::get_two_values_at;
 use points::AutomationPoint;
 use points::Points;
 use points::refusal::Refusal;
@@ -314,9 +313,8 @@ pub fn get_slope_at(points: Points, enabled: bool, limits: Limits, time: f64) ->
             Lookup::Refused(Refusal::NotValid)
         }
     } else {
-        let two = get_two_values_at(points, enabled, limits, time - 0.001, time + 0.001);
-        let before = two.first;
-        let after = two.second;
+        let before = lookup::time::get_value_at(points, enabled, limits, time - 0.001);
+        let after = lookup::time::get_value_at(points, enabled, limits, time + 0.001);
         slope(before, after)
     }
 }

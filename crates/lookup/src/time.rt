@@ -111,36 +111,6 @@ fn value_at(points: Points, enabled: bool, limits: Limits, time: f64) -> Lookup
     }
 }
 
-// The answers of two lookups.
-pub struct TwoLookups {
-    pub first: Lookup,
-    pub second: Lookup,
-}
-
-// get_value_at at two times, with one test of the points and the limits.
-pub fn get_two_values_at(
-    points: Points,
-    enabled: bool,
-    limits: Limits,
-    first: f64,
-    second: f64,
-) -> TwoLookups
-    ensures { λ r. ⌜ told (r .first) ≡ getValueAt points enabled limits first ⌝ }
-    ensures { λ r. ⌜ told (r .second) ≡ getValueAt points enabled limits second ⌝ }
-{
-    if crate::is_valid(points, limits) {
-        TwoLookups {
-            first: value_at(points, enabled, limits, first),
-            second: value_at(points, enabled, limits, second),
-        }
-    } else {
-        TwoLookups {
-            first: Lookup::Refused(Refusal::NotValid),
-            second: Lookup::Refused(Refusal::NotValid),
-        }
-    }
-}
-
 // 000's get_value_at.
 pub fn get_value_at(points: Points, enabled: bool, limits: Limits, time: f64) -> Lookup
     ensures { λ r. ⌜ told r ≡ getValueAt points enabled limits time ⌝ }

@@ -18,8 +18,11 @@ use Rattle.analysis.proofs.get_slope_at.Tie as tie
 is-valid-requires : tie.Need-is-valid-requires
 is-valid-requires c κs = search needs
 
-get-two-values-at-requires : tie.Need-get-two-values-at-requires
-get-two-values-at-requires c κs = search needs
+get-value-at-requires : tie.Need-get-value-at-requires
+get-value-at-requires c κs = search needs
+
+get-value-at-requires-2 : tie.Need-get-value-at-requires-2
+get-value-at-requires-2 c κs = search needs
 
 slope-requires : tie.Need-slope-requires
 slope-requires c κs = search needs
@@ -38,17 +41,18 @@ returns-2 c = rw (sym (c .before .is-valid .ensures) ∙ c .if2 .left)
 returns-3 : tie.Need-returns-3
 unfolding getSlopeAt getValueAt
 returns-3 c =
-    let a = c .before .before .before .before .args in
+    let a = c .before .before .before .before .before .args in
     let ps = a .points in
-    let n : 2 ≤ length (listOf ps) = omega (arith, length-take (ps .count) (ps .places), places ps _ (c .before .before .before .before .good .0), c .before .before .if1 .left) in
-    c .slope .ensures ∙ ap₂ slopeSaid (c .before .get-two-values-at .ensures .0) (c .before .get-two-values-at .ensures .1) ∙ slope-either (valid ps (a .limits)) _ _ ∙ rw (le-ltb (length (listOf ps)) 2 n)
+    let n : 2 ≤ length (listOf ps) = omega (arith, length-take (ps .count) (ps .places), places ps _ (c .before .before .before .before .before .good .0), c .before .before .before .if1 .left) in
+    c .slope .ensures ∙ ap₂ slopeSaid (c .before .before .get-value-at .ensures) (c .before .get-value-at2 .ensures) ∙ slope-either (valid ps (a .limits)) _ _ ∙ rw (le-ltb (length (listOf ps)) 2 n)
 
 pub get-slope-at-spec : {M : Type 1} → statement M
 get-slope-at-spec =
     tie.close
     (tie.spec
     is-valid-requires
-    get-two-values-at-requires
+    get-value-at-requires
+    get-value-at-requires-2
     slope-requires
     returns
     returns-2
