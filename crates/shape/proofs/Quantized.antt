@@ -118,20 +118,17 @@ module _ (grid : Float) (g : finite grid ≡ true) (a : le grid zero64 ≡ false
   repeats-firsts [] f t r = refl
   repeats-firsts (p ∷ l) f t r = ap (λ (m : List AutomationPoint). to p ∷ m) (sym (after-firsts (to p) (map to l) (onward p l f t r)))
 
-  firsts-rise : (l : List AutomationPoint) → every finitePoint l ≡ true → every timeFits l ≡ true → rising l ≡ true → rising (firsts (map to l)) ≡ true
+  -- so 6 can't occur
+  pub firsts-rise : (l : List AutomationPoint) → every finitePoint l ≡ true → every timeFits l ≡ true → rising l ≡ true → rising (firsts (map to l)) ≡ true
   unfolding risingBy firsts
   firsts-rise [] f t r = refl
   firsts-rise (p ∷ l) f t r = ap (λ (m : List AutomationPoint). rising (to p ∷ m)) (after-firsts (to p) (map to l) (onward p l f t r)) ∙ after-rises (to p) (map to l) (onward p l f t r)
 
--- so quantizing never gives 6
-pub quantized-rises : (grid : Float) (l : List AutomationPoint) → finite grid ≡ true → every finitePoint l ≡ true → every timeFits l ≡ true → rising l ≡ true → rising (quantized grid l) ≡ true
-quantized-rises grid l g f t r = go (le grid zero64) refl
-  where
-    go : (b : Bool) → le grid zero64 ≡ b → rising (cond b l (firsts (map (changed (Quantize grid)) l))) ≡ true
-    go true e = r
-    go false e = firsts-rise grid g e l f t r
+-- ---- the edit's end
 
--- ---- the edit's end, on a grid above 0
+-- on a grid at most 0 the points stay
+pub quantized-stays : (grid : Float) (l : List AutomationPoint) → le grid zero64 ≡ true → quantized grid l ≡ l
+quantized-stays grid l h = rw h
 
 firsts-few : (l : List AutomationPoint) → length (firsts l) ≤ length l
 unfolding firsts
@@ -143,16 +140,17 @@ not-finite : (ps new : Points) (l : List AutomationPoint) → finished ps false 
 unfolding finished editPoints
 not-finite ps new l = refl
 
+-- on one above it
 pub ends-quantized : {r : EditedPoints} (ps new : Points) (grid : Float) {ok : Bool} → r ≡ finished ps ok new → ok ≡ finite grid → le grid zero64 ≡ false → length (ps .places) ≡ 256 → every timeFits (listOf ps) ≡ true
-    → (validPoints ps ≡ true → new ≡ holding (withoutRepeats (map (changed (Quantize grid)) (listOf ps)))) → r ≡ editPoints ps (finite grid) (quantized grid (listOf ps))
-ends-quantized {r} ps new grid {ok} f o a len t made = f ∙ go (finite grid) refl o ∙ ap (λ (b : Bool). editPoints ps (finite grid) (cond b (listOf ps) kept)) (sym a)
+    → (validPoints ps ≡ true → new ≡ holding (withoutRepeats (map (changed (Quantize grid)) (listOf ps)))) → r ≡ editPoints ps (finite grid) (firsts (map (changed (Quantize grid)) (listOf ps)))
+ends-quantized {r} ps new grid {ok} f o a len t made = f ∙ go (finite grid) refl o
   where
-    kept : List AutomationPoint
-    kept = firsts (map (changed (Quantize grid)) (listOf ps))
+    l : List AutomationPoint
+    l = map (changed (Quantize grid)) (listOf ps)
 
-    go : (b : Bool) → finite grid ≡ b → ok ≡ b → finished ps ok new ≡ editPoints ps b kept
-    go false g o = ap (λ (b : Bool). finished ps b new) o ∙ not-finite ps new kept
-    go true g o = ends-valid ps new kept refl o (λ v. (
-      omega (arith, firsts-few (map (changed (Quantize grid)) (listOf ps)), length-map (listOf ps) (changed (Quantize grid)), listOf-few ps len),
+    go : (b : Bool) → finite grid ≡ b → ok ≡ b → finished ps ok new ≡ editPoints ps b (firsts l)
+    go false g o = ap (λ (b : Bool). finished ps b new) o ∙ not-finite ps new (firsts l)
+    go true g o = ends-valid ps new (firsts l) refl o (λ v. (
+      omega (arith, firsts-few l, length-map (listOf ps) (changed (Quantize grid)), listOf-few ps len),
       made v ∙ ap holding (repeats-firsts grid g a (listOf ps) (valid-finite ps v) t (valid-rising ps v)),
     ))

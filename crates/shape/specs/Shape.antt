@@ -33,7 +33,7 @@ near time p = lt (abs (sub binary64 (p .time) time)) (ofBits binary64 0x3F50_624
 abbrev pub reversed : List AutomationPoint → List AutomationPoint
 reversed l = reverse (map (changed (Reflect (lastTime l))) l)
 
--- "Quantizing keeps the first of bit-equal times": each point, and after it no other at its time
+-- "Quantizing keeps the first of bit-equal times": a point, and of those after it the ones at another time
 unfoldable pub firsts : List AutomationPoint → List AutomationPoint
 firsts [] = []
 firsts (p ∷ l) = p ∷ keepIf (λ q. not (eqb (timeKey p) (timeKey q))) (firsts l)

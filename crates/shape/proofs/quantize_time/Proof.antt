@@ -13,7 +13,7 @@ use Rattle.pointwise.proofs.Mapped.{mapped-list}
 use Rattle.shape.specs.Shape.{firsts}
 use Rattle.shape.specs.Neighbours.{withoutRepeats}
 use Rattle.shape.proofs.Fits.{times-fit}
-use Rattle.shape.proofs.Quantized.{ends-quantized}
+use Rattle.shape.proofs.Quantized.{quantized-stays, ends-quantized}
 use borrow.Author.Needs.{needs}
 use Rattle.shape.proofs.quantize_time.Statement.{statement}
 use Rattle.shape.proofs.quantize_time.Tie as tie
@@ -35,10 +35,9 @@ finish-requires-2 c κs = search needs
 
 returns : tie.Need-returns
 returns c =
-    let ps = c .before .before .before .args .points in
-    let l = listOf ps in
-    let q = firsts (map (changed (Quantize (c .before .before .before .args .grid))) l) in
-    ends-same ps (c .finish .ensures) (c .before .before .is-finite .ensures) (places ps _ (c .before .before .before .good .0)) ∙ ap (λ (b : Bool). editPoints ps (finite (c .before .before .before .args .grid)) (cond b l q)) (sym (c .before .if1 .taken))
+    let start = c .before .before .before in
+    let ps = start .args .points in
+    ends-same ps (c .finish .ensures) (c .before .before .is-finite .ensures) (places ps _ (start .good .0)) ∙ ap (editPoints ps (finite (start .args .grid))) (sym (quantized-stays (start .args .grid) (listOf ps) (c .before .if1 .taken)))
 
 returns-2 : tie.Need-returns-2
 returns-2 c =
@@ -48,6 +47,7 @@ returns-2 c =
     let len = places ps _ (start .good .0) in
     ends-quantized ps (c .before .without-repeats .result) grid (c .finish2 .ensures) (c .before .before .before .before .is-finite .ensures) (c .before .before .before .if1 .left) len (times-fit ps _ (start .good .0))
     (λ v. c .before .without-repeats .ensures ∙ ap (λ (k : List AutomationPoint). holding (withoutRepeats k)) (ap listOf (c .before .before .map-points .ensures) ∙ mapped-list (changed (Quantize grid)) ps v len))
+    ∙ ap (λ (b : Bool). editPoints ps (finite grid) (cond b (listOf ps) (firsts (map (changed (Quantize grid)) (listOf ps))))) (sym (c .before .before .before .if1 .left))
 
 pub quantize-time-spec : {M : Type 1} → statement M
 quantize-time-spec =
