@@ -46,7 +46,7 @@ module _ {A : Type 0} where
   keepIf-sub t [] = none
   keepIf-sub t (x ∷ l) = either (λ (m : List A). Sub m (x ∷ l)) (t x) (λ h. keep (keepIf-sub t l)) (skip (keepIf-sub t l))
 
-  -- and so of a list without some
+  -- the same of a list that lacks some already
   keepIf-within : (t : A → Bool) {m l : List A} → Sub m l → Sub (keepIf t m) l
   unfolding keepIf
   keepIf-within t none = none
