@@ -13,7 +13,7 @@ use Rattle.points.specs.Point.{unused, anyPoint}
 use Rattle.points.specs.Points.{every, rising, risingBy, timeKey, listOf, holding}
 use Rattle.points.specs.Laws.{and-left, and-right}
 use Rattle.points.specs.ValidLaws.{listOf-holding}
-use Rattle.points.specs.Search.{placeBy, place-bound, Searching, search-start, search-up, search-down, search-end}
+use Rattle.points.specs.Search.{placeBy, place-bound, Searching, search-end}
 use Rattle.points.specs.declared.AutomationPoint.{AutomationPoint}
 use Rattle.points.specs.declared.Points.{Points}
 use Rattle.settle.proofs.Lists.{fold-more}
@@ -309,36 +309,26 @@ module _ (ps : Points) (p : AutomationPoint) (i : ℕ) (s : Sorted ps) (len : le
       ∙ (λ j. record { count = n j; places = (w ∙ ap (λ (m : ℕ). openedAt i p l ++ replicate (256 - m) unused) n) j })
       ∙ ap holding (sym (new-list h))
 
--- ---- the search for a point's time among those of points that rise
+-- ---- where the search for a point's time ends
 
 abbrev keyOf : Points → ℕ → ℕ
 keyOf ps j = timeKey (getD (ps .places) j anyPoint)
 
--- where it has come to, and whether the point at high, if there is one, has another time
-pub record Seeking (ps : Points) (key low high : ℕ) (fresh : Bool) : Type 0 where
-  pub search : Searching timeKey anyPoint key (ps .places) (ps .count) low high
-  pub apart : fresh ≡ true → high < ps .count → keyOf ps high ≡ key → ⊥
-  pub same : fresh ≡ false → (high < ps .count) × (keyOf ps high ≡ key)
+-- whether the point there, if there is one, has another time
+pub record Standing (ps : Points) (key at : ℕ) (fresh : Bool) : Type 0 where
+  pub apart : fresh ≡ true → at < ps .count → keyOf ps at ≡ key → ⊥
+  pub same : fresh ≡ false → (at < ps .count) × (keyOf ps at ≡ key)
 
-pub seek-start : (ps : Points) (key : ℕ) → Seeking ps key 0 (ps .count) true
-seek-start ps key = record { search = search-start timeKey anyPoint key (ps .places) (ps .count); apart = λ _ b. absurd (omega arith); same = λ e. absurd (false≢true (sym e)) }
-
-module _ (ps : Points) (key low high mid : ℕ) (fresh : Bool) (s : Seeking ps key low high fresh) where
-  pub seek-up : Sorted ps → mid < high → keyOf ps mid < key → Seeking ps key (mid + 1) high fresh
-  seek-up o h b =
+module _ (ps : Points) (key at : ℕ) (fresh : Bool) where
+  pub stand-here : (k : ℕ) → k ≡ keyOf ps at → at < ps .count → fresh ≡ not (eqb k key) → Standing ps key at fresh
+  stand-here k e h f =
       record {
-        search = search-up timeKey anyPoint key (ps .places) (ps .count) low high mid (s .search) (o .rises) (omega (arith, sorted-places ps o, o .few)) h b;
-        apart = s .apart;
-        same = s .same;
+        apart = λ b _ g. eqb-false k key (not-true (eqb k key) (sym f ∙ b)) (e ∙ g);
+        same = λ b. (h, sym e ∙ eqb-true k key (not-false (eqb k key) (sym f ∙ b)));
       }
 
-  pub seek-down : (k : ℕ) → k ≡ keyOf ps mid → low ≤ mid → mid < high → key ≤ k → Seeking ps key low mid (not (eqb k key))
-  seek-down k e h t a =
-      record {
-        search = search-down timeKey anyPoint key (ps .places) (ps .count) low high mid (s .search) h t (omega (arith, e));
-        apart = λ f b g. eqb-false k key (not-true (eqb k key) f) (e ∙ g);
-        same = λ f. (omega (arith, s .search .bounded), sym e ∙ eqb-true k key (not-false (eqb k key) f));
-      }
+  pub stand-past : ps .count ≤ at → fresh ≡ true → Standing ps key at fresh
+  stand-past h f = record { apart = λ _ b _. omega (arith, h, b); same = λ b. absurd (false≢true (sym b ∙ f)) }
 
 -- ---- the loop that inserts each
 
@@ -365,7 +355,7 @@ module _ (ps₀ new ps : Points) (m i : ℕ) (f : Filling ps₀ new m ps i) wher
       }
 
   -- a turn: the search for the time of the next point has ended at lo
-  module _ (more : i < m) (key lo hi : ℕ) (fresh : Bool) (k : key ≡ keyOf new i) (s : Seeking ps key lo hi fresh) (end : hi ≤ lo) where
+  module _ (more : i < m) (key lo hi : ℕ) (fresh : Bool) (k : key ≡ keyOf new i) (s : Searching timeKey anyPoint key (ps .places) (ps .count) lo hi) (end : hi ≤ lo) (there : Standing ps key lo fresh) where
     abbrev p : AutomationPoint
     p = getD (new .places) i anyPoint
 
@@ -376,10 +366,7 @@ module _ (ps₀ new ps : Points) (m i : ℕ) (f : Filling ps₀ new m ps i) wher
     len = sorted-places ps (f .sorted)
 
     at : lo ≡ placeBy timeKey (timeKey p) (listOf ps)
-    at = sym (search-end timeKey anyPoint key (ps .places) (ps .count) lo hi (s .search) (omega (arith, len, f .sorted .few)) end) ∙ ap (λ (x : ℕ). placeBy timeKey x (listOf ps)) k
-
-    here : hi ≡ lo
-    here = omega (arith, s .search .ordered)
+    at = sym (search-end timeKey anyPoint key (ps .places) (ps .count) lo hi s (omega (arith, len, f .sorted .few)) end) ∙ ap (λ (x : ℕ). placeBy timeKey x (listOf ps)) k
 
     next : p ≡ getD (listOf new) i anyPoint
     next = sym (getD-take (new .count) (new .places) i anyPoint (omega (arith, f .whole, length-take (new .count) (new .places))))
@@ -398,21 +385,21 @@ module _ (ps₀ new ps : Points) (m i : ℕ) (f : Filling ps₀ new m ps i) wher
         }
 
     apart : fresh ≡ true → lo < ps .count → keyOf ps lo ≡ timeKey p → ⊥
-    apart b h e = (rw here at (s .apart b)) h (e ∙ sym k)
+    apart b h e = there .apart b h (e ∙ sym k)
 
     -- the point at the very time is replaced
     pub turn-same : (ps′ : Points) → ps′ ≡ ps → fresh ≡ false → Filling ps₀ new m (record { count = ps′ .count; places = set (ps′ .places) lo p }) (i + 1)
     turn-same ps′ w b =
-        let h : lo < ps .count = omega (arith, here, s .same b .0) in
-        let e : keyOf ps lo ≡ timeKey p = (rw here at (s .same b .1)) ∙ k in
+        let h = there .same b .0 in
+        let e = there .same b .1 ∙ k in
         filled _ (ap (λ (x : Points). record { count = x .count; places = set (x .places) lo p }) w ∙ add-same ps p lo (f .sorted) len at h e) (same-few ps p lo (f .sorted) len at h e)
 
     -- there is none, and the later ones have gone a place up
     pub turn-new : (ps′ up : Points) (j : ℕ) → ps′ ≡ record { count = ps .count + 1; places = up .places } → fresh ≡ true → (ps .count ≡ 256 → ⊥) → lo ≤ j → j ≤ lo
         → up ≡ record { count = ps .count; places = shifted j (ps .count) (ps .places) } → Filling ps₀ new m (record { count = ps′ .count; places = set (ps′ .places) lo p }) (i + 1)
     turn-new ps′ up j w b room g h e =
-        let there : j ≡ lo = omega arith in
-        let shifts = e ∙ ap (λ (x : ℕ). record { count = ps .count; places = shifted x (ps .count) (ps .places) }) there in
+        let low : j ≡ lo = omega arith in
+        let shifts = e ∙ ap (λ (x : ℕ). record { count = ps .count; places = shifted x (ps .count) (ps .places) }) low in
         filled _ (ap (λ (x : Points). record { count = x .count; places = set (x .places) lo p }) w ∙ add-between ps p lo (f .sorted) len at up (apart b) (omega (arith, f .sorted .few)) shifts)
         (omega (arith, f .sorted .few, new-long ps p lo (f .sorted) len at (apart b)))
 

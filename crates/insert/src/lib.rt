@@ -40,18 +40,19 @@ fn insert_all(mut points: Points, new: Points) -> Inserted
         let n = points.count;
         let mut lo: usize = 0;
         let mut hi: usize = n;
-        // no point stands at the very time
-        let mut fresh = true;
         while lo < hi {
             let mid = lo + (hi - lo) / 2;
             let q = points.places[mid];
-            let k = numbers::order::order_key(q.time);
-            if k < key {
+            if numbers::order::order_key(q.time) < key {
                 lo = mid + 1;
             } else {
                 hi = mid;
-                fresh = k != key;
             }
+        }
+        let mut fresh = true;
+        if lo < n {
+            let q = points.places[lo];
+            fresh = numbers::order::order_key(q.time) != key;
         }
         if fresh {
             if n == 256 {

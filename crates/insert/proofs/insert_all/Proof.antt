@@ -2,16 +2,19 @@ use Prim.Native.Nat.{_+_, _≤_, _-_, _/_}
 use mathlib.Core.Path.{_≡_, sym, ap}
 use mathlib.Core.Logic.{⊎-elim}
 use native.Mathlib.Omega.{arith}
+use Rattle.points.specs.Point.{anyPoint}
+use Rattle.points.specs.Points.{timeKey}
+use Rattle.points.specs.Search.{Searching, search-start, search-up, search-down}
 use Rattle.points.proofs.Good.{places}
-use Rattle.insert.proofs.Inserting.{shifted, shift-start, shift-turn, sorted-places, Seeking, seek-start, seek-up, seek-down, Filling, fill-start, fill-end, turn-same, turn-new, turn-full}
+use Rattle.insert.proofs.Inserting.{shifted, shift-start, shift-turn, sorted-places, stand-here, stand-past, Filling, fill-start, fill-end, turn-same, turn-new, turn-full}
 use Rattle.insert.proofs.insert_all.Statement.{statement}
 use Rattle.insert.proofs.insert_all.Tie as tie
 
 abbrev Inv-loop2 : tie.InvT-loop2
-Inv-loop2 points new m i p key n lo₀ hi₀ fresh₀ lo hi fresh = Seeking points key lo hi fresh
+Inv-loop2 points new m i p key n lo₀ hi₀ lo hi = Searching timeKey anyPoint key (points .places) n lo hi
 
 abbrev μ-loop2 : tie.MeasureT-loop2
-μ-loop2 points new m i p key n lo₀ hi₀ fresh₀ lo hi fresh = hi - lo
+μ-loop2 points new m i p key n lo₀ hi₀ lo hi = hi - lo
 
 abbrev Inv-loop3 : tie.InvT-loop3
 Inv-loop3 points₀ new m i p key n lo hi fresh j₀ points j = (lo ≤ j) × (j ≤ n) × (points ≡ record { count = points₀ .count; places = shifted j n (points₀ .places) })
@@ -46,68 +49,82 @@ order-key-requires :
 order-key-requires c κs = tt
 
 loop2-holds : tie.Need-loop2-holds Inv-loop2 μ-loop2 Inv-loop3 μ-loop3 Inv-loop μ-loop
-loop2-holds c = seek-start (c .before .before .before .loop .points) (c .order-key .result)
+loop2-holds c = search-start timeKey anyPoint (c .order-key .result) (c .before .before .before .loop .points .places) (c .before .before .before .loop .points .count)
 
 sub-mid : tie.Need-sub-mid Inv-loop2 μ-loop2 Inv-loop3 μ-loop3 Inv-loop μ-loop
 sub-mid c = omega arith
 
 add-mid : tie.Need-add-mid Inv-loop2 μ-loop2 Inv-loop3 μ-loop3 Inv-loop μ-loop
-add-mid c = omega (arith, c .before .loop2 .inv .search .bounded, c .before .before .before .before .before .loop .inv .sorted .few)
+add-mid c = omega (arith, c .before .loop2 .inv .bounded, c .before .before .before .before .before .loop .inv .sorted .few)
 
 mul-q : tie.Need-mul-q Inv-loop2 μ-loop2 Inv-loop3 μ-loop3 Inv-loop μ-loop
-mul-q c = omega (arith, c .before .loop2 .inv .search .bounded, c .before .before .before .before .before .loop .inv .sorted .few)
+mul-q c = omega (arith, c .before .loop2 .inv .bounded, c .before .before .before .before .before .loop .inv .sorted .few)
 
 element-copy-out-q :
     tie.Need-element-copy-out-q Inv-loop2 μ-loop2 Inv-loop3 μ-loop3 Inv-loop μ-loop
-element-copy-out-q c = omega (arith, c .before .loop2 .inv .search .bounded, c .before .before .before .before .before .loop .inv .sorted .few)
+element-copy-out-q c = omega (arith, c .before .loop2 .inv .bounded, c .before .before .before .before .before .loop .inv .sorted .few)
 
 order-key-requires-2 :
     tie.Need-order-key-requires-2 Inv-loop2 μ-loop2 Inv-loop3 μ-loop3 Inv-loop μ-loop
 order-key-requires-2 c κs = tt
 
 add-lo : tie.Need-add-lo Inv-loop2 μ-loop2 Inv-loop3 μ-loop3 Inv-loop μ-loop
-add-lo c = omega (arith, c .before .before .before .before .loop2 .inv .search .bounded, c .before .before .before .before .before .before .before .before .loop .inv .sorted .few)
+add-lo c = omega (arith, c .before .before .before .before .loop2 .inv .bounded, c .before .before .before .before .before .before .before .before .loop .inv .sorted .few)
 
 loop2-less : tie.Need-loop2-less Inv-loop2 μ-loop2 Inv-loop3 μ-loop3 Inv-loop μ-loop
 loop2-less c = omega arith
 
 loop2-again : tie.Need-loop2-again Inv-loop2 μ-loop2 Inv-loop3 μ-loop3 Inv-loop μ-loop
 loop2-again c =
+    let ps = c .before .before .before .before .before .before .before .before .loop .points in
+    let s = c .before .before .before .before .before .before .before .before .loop .inv .sorted in
     let h = c .before .before .before .before .loop2 in
     let mid = h .lo + (h .hi - h .lo) / 2 in
-    seek-up (c .before .before .before .before .before .before .before .before .loop .points) (c .before .before .before .before .before .order-key .result) (h .lo) (h .hi) mid (h .fresh) (h .inv) (c .before .before .before .before .before .before .before .before .loop .inv .sorted) (omega arith) (omega (arith, c .before .order-key2 .ensures, c .if1 .taken))
+    search-up timeKey anyPoint (c .before .before .before .before .before .order-key .result) (ps .places) (ps .count) (h .lo) (h .hi) mid (h .inv) (s .rises) (omega (arith, sorted-places ps s, s .few)) (omega arith) (omega (arith, c .before .order-key2 .ensures, c .if1 .taken))
 
 loop2-less-2 : tie.Need-loop2-less-2 Inv-loop2 μ-loop2 Inv-loop3 μ-loop3 Inv-loop μ-loop
 loop2-less-2 c = omega arith
 
 loop2-again-2 : tie.Need-loop2-again-2 Inv-loop2 μ-loop2 Inv-loop3 μ-loop3 Inv-loop μ-loop
 loop2-again-2 c =
+    let ps = c .before .before .before .before .before .before .before .before .loop .points in
     let h = c .before .before .before .before .loop2 in
     let mid = h .lo + (h .hi - h .lo) / 2 in
-    seek-down (c .before .before .before .before .before .before .before .before .loop .points) (c .before .before .before .before .before .order-key .result) (h .lo) (h .hi) mid (h .fresh) (h .inv) (c .before .order-key2 .result) (c .before .order-key2 .ensures) (omega arith) (omega arith) (omega (arith, c .if1 .left))
+    search-down timeKey anyPoint (c .before .before .before .before .before .order-key .result) (ps .places) (ps .count) (h .lo) (h .hi) mid (h .inv) (omega arith) (omega arith) (omega (arith, c .before .order-key2 .ensures, c .if1 .left))
+
+mul-q-2 : tie.Need-mul-q-2 Inv-loop2 μ-loop2 Inv-loop3 μ-loop3 Inv-loop μ-loop
+mul-q-2 c = omega (arith, c .if2 .taken, c .before .before .before .before .before .before .loop .inv .sorted .few)
+
+element-copy-out-q-2 : tie.Need-element-copy-out-q-2 Inv-loop2 μ-loop2 Inv-loop3 μ-loop3 Inv-loop μ-loop
+element-copy-out-q-2 c = omega (arith, c .if2 .taken, c .before .before .before .before .before .before .loop .inv .sorted .few)
+
+order-key-requires-3 : tie.Need-order-key-requires-3 Inv-loop2 μ-loop2 Inv-loop3 μ-loop3 Inv-loop μ-loop
+order-key-requires-3 c κs = tt
 
 returns : tie.Need-returns Inv-loop2 μ-loop2 Inv-loop3 μ-loop3 Inv-loop μ-loop
-returns c = turn-full (c .before .before .before .before .before .before .before .before .before .args .t1) (c .before .before .before .before .before .before .before .before .before .args .t2) (c .before .before .before .before .before .before .before .loop .points) (c .before .before .before .before .before .before .before .before .used .result) (c .before .before .before .before .before .before .before .loop .i) (c .before .before .before .before .before .before .before .loop .inv) (c .before .before .before .before .before .before .loop-test .taken) (c .before .before .before .before .order-key .result) (c .before .before .before .loop2 .lo) (c .before .before .before .loop2 .hi) (c .before .before .before .loop2 .fresh) (c .before .before .before .before .order-key .ensures) (c .before .before .before .loop2 .inv) (c .before .before .loop2-test .left) (c .before .if2 .taken) (c .if3 .taken)
+returns c =
+    let there = ⊎-elim (λ w. stand-here (c .before .before .before .before .before .before .before .before .loop .points) (c .before .before .before .before .before .order-key .result) (c .before .before .before .before .loop2 .lo) (c .before .before .if2 .fresh) (w .2 .result) (w .2 .ensures) (w .0 .taken) (w .3)) (λ w. stand-past (c .before .before .before .before .before .before .before .before .loop .points) (c .before .before .before .before .before .order-key .result) (c .before .before .before .before .loop2 .lo) (c .before .before .if2 .fresh) (w .0 .left) (w .1)) (c .before .before .if2 .came) in
+    turn-full (c .before .before .before .before .before .before .before .before .before .before .args .t1) (c .before .before .before .before .before .before .before .before .before .before .args .t2) (c .before .before .before .before .before .before .before .before .loop .points) (c .before .before .before .before .before .before .before .before .before .used .result) (c .before .before .before .before .before .before .before .before .loop .i) (c .before .before .before .before .before .before .before .before .loop .inv) (c .before .before .before .before .before .before .before .loop-test .taken) (c .before .before .before .before .before .order-key .result) (c .before .before .before .before .loop2 .lo) (c .before .before .before .before .loop2 .hi) (c .before .before .if2 .fresh) (c .before .before .before .before .before .order-key .ensures) (c .before .before .before .before .loop2 .inv) (c .before .before .before .loop2-test .left) there (c .before .if3 .taken) (c .if4 .taken)
 
 loop3-holds : tie.Need-loop3-holds Inv-loop2 μ-loop2 Inv-loop3 μ-loop3 Inv-loop μ-loop
-loop3-holds c = (omega (arith, c .before .before .before .loop2 .inv .search .ordered, c .before .before .before .loop2 .inv .search .bounded), omega arith, sym (ap (λ l. record { count = c .before .before .before .before .before .before .before .loop .points .count; places = l }) (shift-start (c .before .before .before .before .before .before .before .loop .points .count) (c .before .before .before .before .before .before .before .loop .points .places))))
+loop3-holds c = (omega (arith, c .before .before .before .before .loop2 .inv .ordered, c .before .before .before .before .loop2 .inv .bounded), omega arith, sym (ap (λ l. record { count = c .before .before .before .before .before .before .before .before .loop .points .count; places = l }) (shift-start (c .before .before .before .before .before .before .before .before .loop .points .count) (c .before .before .before .before .before .before .before .before .loop .points .places))))
 
 sub-q : tie.Need-sub-q Inv-loop2 μ-loop2 Inv-loop3 μ-loop3 Inv-loop μ-loop
 sub-q c = omega arith
 
-mul-q-2 : tie.Need-mul-q-2 Inv-loop2 μ-loop2 Inv-loop3 μ-loop3 Inv-loop μ-loop
-mul-q-2 c = omega (arith, c .before .before .before .before .before .before .before .before .before .loop .inv .sorted .few)
-
-element-copy-out-q-2 :
-    tie.Need-element-copy-out-q-2 Inv-loop2 μ-loop2 Inv-loop3 μ-loop3 Inv-loop μ-loop
-element-copy-out-q-2 c = omega (arith, c .before .before .before .before .before .before .before .before .before .loop .inv .sorted .few)
-
 mul-q-3 : tie.Need-mul-q-3 Inv-loop2 μ-loop2 Inv-loop3 μ-loop3 Inv-loop μ-loop
 mul-q-3 c = omega (arith, c .before .before .before .before .before .before .before .before .before .before .loop .inv .sorted .few)
 
+element-copy-out-q-3 :
+    tie.Need-element-copy-out-q-3 Inv-loop2 μ-loop2 Inv-loop3 μ-loop3 Inv-loop μ-loop
+element-copy-out-q-3 c = omega (arith, c .before .before .before .before .before .before .before .before .before .before .loop .inv .sorted .few)
+
+mul-q-4 : tie.Need-mul-q-4 Inv-loop2 μ-loop2 Inv-loop3 μ-loop3 Inv-loop μ-loop
+mul-q-4 c = omega (arith, c .before .before .before .before .before .before .before .before .before .before .before .loop .inv .sorted .few)
+
 element-set-from-q :
     tie.Need-element-set-from-q Inv-loop2 μ-loop2 Inv-loop3 μ-loop3 Inv-loop μ-loop
-element-set-from-q c = omega (arith, c .before .before .before .before .before .before .before .before .before .before .loop .inv .sorted .few)
+element-set-from-q c = omega (arith, c .before .before .before .before .before .before .before .before .before .before .before .loop .inv .sorted .few)
 
 sub-j : tie.Need-sub-j Inv-loop2 μ-loop2 Inv-loop3 μ-loop3 Inv-loop μ-loop
 sub-j c = omega arith
@@ -117,34 +134,37 @@ loop3-less c = omega arith
 
 loop3-again : tie.Need-loop3-again Inv-loop2 μ-loop2 Inv-loop3 μ-loop3 Inv-loop μ-loop
 loop3-again c =
-    let ps = c .before .before .before .before .before .before .before .before .before .before .loop .points in
-    let s = c .before .before .before .before .before .before .before .before .before .before .loop .inv .sorted in
+    let ps = c .before .before .before .before .before .before .before .before .before .before .before .loop .points in
+    let s = c .before .before .before .before .before .before .before .before .before .before .before .loop .inv .sorted in
     let h = c .before .before .loop3 in
-    (omega arith, omega arith, shift-turn ps (h .points) (h .j) (ps .count) (omega arith) (omega arith) (omega (arith, s .few, sorted-places ps s, c .before .before .before .if3 .left)) (h .inv .2))
+    (omega arith, omega arith, shift-turn ps (h .points) (h .j) (ps .count) (omega arith) (omega arith) (omega (arith, s .few, sorted-places ps s, c .before .before .before .if4 .left)) (h .inv .2))
 
 add-points : tie.Need-add-points Inv-loop2 μ-loop2 Inv-loop3 μ-loop3 Inv-loop μ-loop
-add-points c = omega (arith, c .before .before .before .before .before .before .before .before .before .loop .inv .sorted .few)
+add-points c = omega (arith, c .before .before .before .before .before .before .before .before .before .before .loop .inv .sorted .few)
 
 mul-p-2 : tie.Need-mul-p-2 Inv-loop2 μ-loop2 Inv-loop3 μ-loop3 Inv-loop μ-loop
 mul-p-2 c =
-    let s = c .before .before .loop2 .inv in
-    let few = c .before .before .before .before .before .before .loop .inv .sorted .few in
-    ⊎-elim (λ w. omega (arith, s .search .ordered, s .search .bounded, few, c .before .loop2-test .left, w .1 .left)) (λ w. omega (arith, s .search .ordered, s .same (w .0 .left) .0, few, c .before .loop2-test .left)) (c .if2 .came)
+    let s = c .before .before .before .loop2 .inv in
+    let few = c .before .before .before .before .before .before .before .loop .inv .sorted .few in
+    let there = ⊎-elim (λ w. stand-here (c .before .before .before .before .before .before .before .loop .points) (c .before .before .before .before .order-key .result) (c .before .before .before .loop2 .lo) (c .before .if2 .fresh) (w .2 .result) (w .2 .ensures) (w .0 .taken) (w .3)) (λ w. stand-past (c .before .before .before .before .before .before .before .loop .points) (c .before .before .before .before .order-key .result) (c .before .before .before .loop2 .lo) (c .before .if2 .fresh) (w .0 .left) (w .1)) (c .before .if2 .came) in
+    ⊎-elim (λ w. omega (arith, s .ordered, s .bounded, few, w .1 .left)) (λ w. omega (arith, there .same (w .0 .left) .0, few)) (c .if3 .came)
 
 element-set-from-p :
     tie.Need-element-set-from-p Inv-loop2 μ-loop2 Inv-loop3 μ-loop3 Inv-loop μ-loop
 element-set-from-p c =
-    let s = c .before .before .loop2 .inv in
-    let few = c .before .before .before .before .before .before .loop .inv .sorted .few in
-    ⊎-elim (λ w. omega (arith, s .search .ordered, s .search .bounded, few, c .before .loop2-test .left, w .1 .left)) (λ w. omega (arith, s .search .ordered, s .same (w .0 .left) .0, few, c .before .loop2-test .left)) (c .if2 .came)
+    let s = c .before .before .before .loop2 .inv in
+    let few = c .before .before .before .before .before .before .before .loop .inv .sorted .few in
+    let there = ⊎-elim (λ w. stand-here (c .before .before .before .before .before .before .before .loop .points) (c .before .before .before .before .order-key .result) (c .before .before .before .loop2 .lo) (c .before .if2 .fresh) (w .2 .result) (w .2 .ensures) (w .0 .taken) (w .3)) (λ w. stand-past (c .before .before .before .before .before .before .before .loop .points) (c .before .before .before .before .order-key .result) (c .before .before .before .loop2 .lo) (c .before .if2 .fresh) (w .0 .left) (w .1)) (c .before .if2 .came) in
+    ⊎-elim (λ w. omega (arith, s .ordered, s .bounded, few, w .1 .left)) (λ w. omega (arith, there .same (w .0 .left) .0, few)) (c .if3 .came)
 
 loop-less : tie.Need-loop-less Inv-loop2 μ-loop2 Inv-loop3 μ-loop3 Inv-loop μ-loop
 loop-less c = omega arith
 
 loop-again : tie.Need-loop-again Inv-loop2 μ-loop2 Inv-loop3 μ-loop3 Inv-loop μ-loop
 loop-again c =
-    ⊎-elim (λ w. turn-new (c .before .before .before .before .before .before .before .before .args .t1) (c .before .before .before .before .before .before .before .before .args .t2) (c .before .before .before .before .before .before .loop .points) (c .before .before .before .before .before .before .before .used .result) (c .before .before .before .before .before .before .loop .i) (c .before .before .before .before .before .before .loop .inv) (c .before .before .before .before .before .loop-test .taken) (c .before .before .before .order-key .result) (c .before .before .loop2 .lo) (c .before .before .loop2 .hi) (c .before .before .loop2 .fresh) (c .before .before .before .order-key .ensures) (c .before .before .loop2 .inv) (c .before .loop2-test .left) _ (w .2 .points) (w .2 .j) (w .4) (w .0 .taken) (w .1 .left) (w .2 .inv .0) (omega (arith, w .3 .left)) (w .2 .inv .2))
-    (λ w. turn-same (c .before .before .before .before .before .before .before .before .args .t1) (c .before .before .before .before .before .before .before .before .args .t2) (c .before .before .before .before .before .before .loop .points) (c .before .before .before .before .before .before .before .used .result) (c .before .before .before .before .before .before .loop .i) (c .before .before .before .before .before .before .loop .inv) (c .before .before .before .before .before .loop-test .taken) (c .before .before .before .order-key .result) (c .before .before .loop2 .lo) (c .before .before .loop2 .hi) (c .before .before .loop2 .fresh) (c .before .before .before .order-key .ensures) (c .before .before .loop2 .inv) (c .before .loop2-test .left) _ (w .1) (w .0 .left)) (c .if2 .came)
+    let there = ⊎-elim (λ w. stand-here (c .before .before .before .before .before .before .before .loop .points) (c .before .before .before .before .order-key .result) (c .before .before .before .loop2 .lo) (c .before .if2 .fresh) (w .2 .result) (w .2 .ensures) (w .0 .taken) (w .3)) (λ w. stand-past (c .before .before .before .before .before .before .before .loop .points) (c .before .before .before .before .order-key .result) (c .before .before .before .loop2 .lo) (c .before .if2 .fresh) (w .0 .left) (w .1)) (c .before .if2 .came) in
+    ⊎-elim (λ w. turn-new (c .before .before .before .before .before .before .before .before .before .args .t1) (c .before .before .before .before .before .before .before .before .before .args .t2) (c .before .before .before .before .before .before .before .loop .points) (c .before .before .before .before .before .before .before .before .used .result) (c .before .before .before .before .before .before .before .loop .i) (c .before .before .before .before .before .before .before .loop .inv) (c .before .before .before .before .before .before .loop-test .taken) (c .before .before .before .before .order-key .result) (c .before .before .before .loop2 .lo) (c .before .before .before .loop2 .hi) (c .before .if2 .fresh) (c .before .before .before .before .order-key .ensures) (c .before .before .before .loop2 .inv) (c .before .before .loop2-test .left) there _ (w .2 .points) (w .2 .j) (w .4) (w .0 .taken) (w .1 .left) (w .2 .inv .0) (omega (arith, w .3 .left)) (w .2 .inv .2))
+    (λ w. turn-same (c .before .before .before .before .before .before .before .before .before .args .t1) (c .before .before .before .before .before .before .before .before .before .args .t2) (c .before .before .before .before .before .before .before .loop .points) (c .before .before .before .before .before .before .before .before .used .result) (c .before .before .before .before .before .before .before .loop .i) (c .before .before .before .before .before .before .before .loop .inv) (c .before .before .before .before .before .before .loop-test .taken) (c .before .before .before .before .order-key .result) (c .before .before .before .loop2 .lo) (c .before .before .before .loop2 .hi) (c .before .if2 .fresh) (c .before .before .before .before .order-key .ensures) (c .before .before .before .loop2 .inv) (c .before .before .loop2-test .left) there _ (w .1) (w .0 .left)) (c .if3 .came)
 
 returns-2 : tie.Need-returns-2 Inv-loop2 μ-loop2 Inv-loop3 μ-loop3 Inv-loop μ-loop
 returns-2 c = fill-end (c .before .before .before .args .t1) (c .before .before .before .args .t2) (c .before .loop .points) (c .before .before .used .result) (c .before .loop .i) (c .before .loop .inv) (c .loop-test .left)
@@ -176,12 +196,15 @@ insert-all-spec =
     loop2-again
     loop2-less-2
     loop2-again-2
+    mul-q-2
+    element-copy-out-q-2
+    order-key-requires-3
     returns
     loop3-holds
     sub-q
-    mul-q-2
-    element-copy-out-q-2
     mul-q-3
+    element-copy-out-q-3
+    mul-q-4
     element-set-from-q
     sub-j
     loop3-less
