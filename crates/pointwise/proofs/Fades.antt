@@ -8,6 +8,7 @@ use Rattle.curve.specs.declared.CurveType.{CurveType}
 use Rattle.points.specs.Points.{listOf, holding}
 use Rattle.points.specs.ValidLaws.{listOf-holding}
 use Rattle.points.specs.declared.AutomationPoint.{AutomationPoint}
+use Rattle.points.specs.declared.Points.{Points}
 use Rattle.pointwise.specs.Places.{mappedIn, fadedInPlaces, fadedOutPlaces}
 use Rattle.pointwise.specs.Each.{zero64, changed, firstTime, lastTime, fadedInAll, fadedOutAll}
 use Rattle.pointwise.specs.declared.Change.{Change}
@@ -44,3 +45,14 @@ module _ (a b : Float) (c : CurveType) (l : List AutomationPoint) where
 
   pub fades-length : length (fadedOutAll b c (fadedInAll a c l)) ≡ length l
   fades-length = faded-out-length b c (fadedInAll a c l) ∙ faded-in-length a c l
+
+-- the fade out of what the fade in made, where its duration keeps the points, and where it changes them
+module _ (a b : Float) (c : CurveType) (ps x : Points) (e : x ≡ fadedInPlaces a c ps) where
+  pub fades-kept : le b zero64 ≡ true → x ≡ fadedOutPlaces b c (fadedInPlaces a c ps)
+  fades-kept h = rw h e
+
+  pub fades-mapped : (t : Float) → t ≡ lastTime (listOf x) → le b zero64 ≡ false → mappedIn (changed (FadeOut (sub binary64 t b) b c)) x ≡ fadedOutPlaces b c (fadedInPlaces a c ps)
+  fades-mapped t l h =
+      rw h
+      (ap (λ (s : Float). mappedIn (changed (FadeOut (sub binary64 s b) b c)) x) l
+      ∙ ap (λ (y : Points). mappedIn (changed (FadeOut (sub binary64 (lastTime (listOf y)) b) b c)) y) e)

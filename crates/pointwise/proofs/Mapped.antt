@@ -55,6 +55,12 @@ module _ {A : Type 0} where
   pub map-min : (f : A → A) (n : ℕ) (l : List A) (k : ℕ) → length l ≡ k → mapUpTo f (min n k) l ≡ mapUpTo f n l
   map-min f n l k h = λ i. map f (take-min n l k h i) ++ drop-min n l k h i
 
+  -- the places stay as many
+  pub map-long : (f : A → A) (i : ℕ) (l : List A) → length (mapUpTo f i l) ≡ length l
+  map-long f zero l = refl
+  map-long f (suc i) [] = refl
+  map-long f (suc i) (x ∷ l) = ap suc (map-long f i l)
+
 -- ---- the points changed in their places
 
 pub mapped-holding : (f : AutomationPoint → AutomationPoint) (l : List AutomationPoint) → mappedIn f (holding l) ≡ holding (map f l)

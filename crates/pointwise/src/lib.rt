@@ -5,14 +5,17 @@ ghost use mathlib.Core.List.{map, _++_};
 ghost use lib.ListN.{take, drop};
 ghost use Rattle.numbers.specs.Bounds.{finite};
 ghost use Rattle.curve.specs.Curve.{finiteControls};
-ghost use Rattle.points.specs.Points.{listOf};
+ghost use Rattle.points.specs.Point.{finitePoint};
+ghost use Rattle.points.specs.Points.{every, rising, listOf};
 ghost use Rattle.settle.specs.Settle.{editPoints};
-ghost use Rattle.pointwise.specs.Places.{mappedIn, fadedInPlaces, fadedOutPlaces};
+ghost use Rattle.settle.specs.Finish.{finished};
+ghost use Rattle.pointwise.specs.Places.{mappedIn, fadedInPlaces};
 ghost use Rattle.pointwise.specs.Each.{withTime, withValue, clampedTo, fadeFraction, fadedIn, fadedOut, gated, compressed, changed, scaledTime, lowestValue, highestValue, normalized, firstTime, lastTime, fadedInAll, fadedOutAll, clampedEdit};
 ghost use Rattle.pointwise.specs.declared.Change.the-variants.{Shift, Invert, Scale, Offset, Gate, Compress};
 use curve::CurveType;
 use points::AutomationPoint;
 use points::Points;
+use points::refusal::Answer;
 use points::refusal::Refusal;
 use settle::EditedPoints;
 use settle::finish;
@@ -156,25 +159,79 @@ impl Change {
     }
 }
 
-// Each point changed in its place.
-pub fn map_points(mut points: Points, change: Change) -> Points
-    ensures { λ r. ⌜ r ≡ mappedIn (changed change) points ⌝ }
+// The points after a change, and what the tests of them say.
+struct Tested {
+    finite: bool,
+    rise: bool,
+    points: Points,
+}
+
+// Each point changed in its place, and tested.
+fn map_tested(mut points: Points, change: Change) -> Tested
+    ensures { λ r. ⌜ (r .points ≡ mappedIn (changed change) points) × (r .finite ≡ every finitePoint (listOf (r .points))) × (r .rise ≡ rising (listOf (r .points))) ⌝ }
 {
     let n = points.used();
+    let mut finite = true;
+    let mut rise = true;
+    let mut last: u64 = 0;
     let mut i: usize = 0;
     while i < n {
         let p = points.places[i];
         let q = change.apply(p);
+        let key = numbers::order::order_key(q.time);
+        finite = finite & q.is_finite();
+        rise = rise & ((i == 0) | (last < key));
+        last = key;
         points.places[i] = q;
         i += 1;
     }
-    points
+    Tested {
+        finite,
+        rise,
+        points,
+    }
+}
+
+// Each point changed in its place.
+pub fn map_points(points: Points, change: Change) -> Points
+    ensures { λ r. ⌜ r ≡ mappedIn (changed change) points ⌝ }
+{
+    let made = map_tested(points, change);
+    made.points
+}
+
+// An edit that makes of the points what a change makes of `base`.
+fn edit_from(points: Points, ok: bool, base: Points, change: Change) -> EditedPoints
+    ensures { λ r. ⌜ r ≡ finished points ok (mappedIn (changed change) base) ⌝ }
+{
+    if points.is_valid() {
+        if ok {
+            let made = map_tested(base, change);
+            if made.finite {
+                if made.rise {
+                    let new = made.points;
+                    EditedPoints {
+                        answer: Answer::Accepted,
+                        points: new,
+                    }
+                } else {
+                    refuse(points, Refusal::TimesDontRise)
+                }
+            } else {
+                refuse(points, Refusal::NotFinite)
+            }
+        } else {
+            refuse(points, Refusal::NotFinite)
+        }
+    } else {
+        refuse(points, Refusal::NotValid)
+    }
 }
 
 fn edit_each(points: Points, ok: bool, change: Change) -> EditedPoints
     ensures { λ r. ⌜ r ≡ editPoints points ok (map (changed change) (listOf points)) ⌝ }
 {
-    finish(points, ok, map_points(points, change))
+    edit_from(points, ok, points, change)
 }
 
 // An edit that is accepted and changes nothing.
@@ -319,30 +376,34 @@ fn faded_in_all(points: Points, duration: f64, curve: CurveType) -> Points
     map_points(points, Change::FadeIn(first_time(points), duration, curve))
 }
 
-fn faded_out_all(points: Points, duration: f64, curve: CurveType) -> Points
-    ensures { λ r. ⌜ r ≡ fadedOutPlaces duration curve points ⌝ }
-{
-    if duration <= 0.0 {
-        return points;
-    }
-    map_points(
-        points,
-        Change::FadeOut(last_time(points) - duration, duration, curve),
-    )
-}
-
 pub fn apply_fade_in(points: Points, duration: f64, curve: CurveType) -> EditedPoints
     ensures { λ r. ⌜ r ≡ editPoints points (finite duration && finiteControls curve) (fadedInAll duration curve (listOf points)) ⌝ }
 {
     let ok = numbers::order::is_finite(duration) & curve.is_finite();
-    finish(points, ok, faded_in_all(points, duration, curve))
+    if duration <= 0.0 {
+        keep(points, ok)
+    } else {
+        edit_each(
+            points,
+            ok,
+            Change::FadeIn(first_time(points), duration, curve),
+        )
+    }
 }
 
 pub fn apply_fade_out(points: Points, duration: f64, curve: CurveType) -> EditedPoints
     ensures { λ r. ⌜ r ≡ editPoints points (finite duration && finiteControls curve) (fadedOutAll duration curve (listOf points)) ⌝ }
 {
     let ok = numbers::order::is_finite(duration) & curve.is_finite();
-    finish(points, ok, faded_out_all(points, duration, curve))
+    if duration <= 0.0 {
+        keep(points, ok)
+    } else {
+        edit_each(
+            points,
+            ok,
+            Change::FadeOut(last_time(points) - duration, duration, curve),
+        )
+    }
 }
 
 // The fade out takes the last time after the fade in, which changes no time.
@@ -357,12 +418,18 @@ pub fn apply_fades(
     let ok = numbers::order::is_finite(fade_in_duration)
         & numbers::order::is_finite(fade_out_duration)
         & curve.is_finite();
-    let new = faded_out_all(
-        faded_in_all(points, fade_in_duration, curve),
-        fade_out_duration,
-        curve,
-    );
-    finish(points, ok, new)
+    let risen = faded_in_all(points, fade_in_duration, curve);
+    if fade_out_duration <= 0.0 {
+        finish(points, ok, risen)
+    } else {
+        let start = last_time(risen) - fade_out_duration;
+        edit_from(
+            points,
+            ok,
+            risen,
+            Change::FadeOut(start, fade_out_duration, curve),
+        )
+    }
 }
 
 pub fn clamp_values(points: Points, min: f32, max: f32) -> EditedPoints

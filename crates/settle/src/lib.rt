@@ -21,21 +21,41 @@ pub fn refuse(points: Points, refusal: Refusal) -> EditedPoints
 }
 
 // `ok` says that the edit's arguments are finite, and `new` is what it makes of the points.
+// The loop stands in the body: a function of its own for the tests would copy the places.
 pub fn finish(points: Points, ok: bool, new: Points) -> EditedPoints
     ensures { λ r. ⌜ r ≡ finished points ok new ⌝ }
 {
-    if !points.is_valid() {
-        refuse(points, Refusal::NotValid)
-    } else if !ok {
-        refuse(points, Refusal::NotFinite)
-    } else if !new.all_finite() {
-        refuse(points, Refusal::NotFinite)
-    } else if !new.times_rise() {
-        refuse(points, Refusal::TimesDontRise)
-    } else {
-        EditedPoints {
-            answer: Answer::Accepted,
-            points: new,
+    if points.is_valid() {
+        if ok {
+            let n = new.used();
+            let mut finite = true;
+            let mut rise = true;
+            let mut last: u64 = 0;
+            let mut i: usize = 0;
+            while i < n {
+                let p = new.places[i];
+                let key = numbers::order::order_key(p.time);
+                finite = finite & p.is_finite();
+                rise = rise & ((i == 0) | (last < key));
+                last = key;
+                i += 1;
+            }
+            if finite {
+                if rise {
+                    EditedPoints {
+                        answer: Answer::Accepted,
+                        points: new,
+                    }
+                } else {
+                    refuse(points, Refusal::TimesDontRise)
+                }
+            } else {
+                refuse(points, Refusal::NotFinite)
+            }
+        } else {
+            refuse(points, Refusal::NotFinite)
         }
+    } else {
+        refuse(points, Refusal::NotValid)
     }
 }

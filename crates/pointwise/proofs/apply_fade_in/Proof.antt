@@ -1,9 +1,11 @@
+use mathlib.Core.Path.{ap, _∙_}
+use mathlib.Core.Bool.{Bool}
+use mathlib.Core.List.{map}
+use Rattle.points.specs.Points.{listOf}
 use Rattle.points.specs.Laws.{and-both}
-use Rattle.points.proofs.Good.{places}
-use Rattle.settle.proofs.Ends.{ends-kept}
-use Rattle.pointwise.specs.Each.{fadedInAll}
-use Rattle.pointwise.specs.Places.{fadedInPlaces}
-use Rattle.pointwise.proofs.Fades.{faded-in-holding, faded-in-length}
+use Rattle.settle.specs.Settle.{editPoints}
+use Rattle.pointwise.specs.Each.{changed}
+use Rattle.pointwise.specs.declared.Change.the-variants.{FadeIn}
 use borrow.Author.Needs.{needs}
 use Rattle.pointwise.proofs.apply_fade_in.Statement.{statement}
 use Rattle.pointwise.proofs.apply_fade_in.Tie as tie
@@ -14,17 +16,28 @@ is-finite-requires c κs = search needs
 is-finite-requires-2 : tie.Need-is-finite-requires-2
 is-finite-requires-2 c κs = search needs
 
-faded-in-all-requires : tie.Need-faded-in-all-requires
-faded-in-all-requires c κs = search needs
+keep-requires : tie.Need-keep-requires
+keep-requires c κs = search needs
 
-finish-requires : tie.Need-finish-requires
-finish-requires c κs = search needs
+first-time-requires : tie.Need-first-time-requires
+first-time-requires c κs = search needs
+
+edit-each-requires : tie.Need-edit-each-requires
+edit-each-requires c κs = search needs
 
 returns : tie.Need-returns
 returns c =
-    let d = c .before .before .before .before .args .duration in
-    let v = c .before .before .before .before .args .curve in
-    ends-kept (fadedInPlaces d v) (fadedInAll d v) (faded-in-holding d v) (faded-in-length d v) (c .before .before .before .before .args .points) (c .before .faded-in-all .result) (c .finish .ensures) (and-both (c .before .before .before .is-finite .ensures) (c .before .before .is-finite2 .ensures)) (places (c .before .before .before .before .args .points) _ (c .before .before .before .before .good .0)) (c .before .faded-in-all .ensures)
+    let ps = c .before .before .before .before .args .points in
+    rw (c .before .if1 .taken) (c .keep .ensures ∙ ap (λ (ok : Bool). editPoints ps ok (listOf ps)) (and-both (c .before .before .before .is-finite .ensures) (c .before .before .is-finite2 .ensures)))
+
+returns-2 : tie.Need-returns-2
+returns-2 c =
+    let ps = c .before .before .before .before .before .args .points in
+    let d = c .before .before .before .before .before .args .duration in
+    let v = c .before .before .before .before .before .args .curve in
+    let e = c .before .first-time .ensures in
+    let ok = and-both (c .before .before .before .before .is-finite .ensures) (c .before .before .before .is-finite2 .ensures) in
+    rw (c .before .before .if1 .left) (c .edit-each .ensures ∙ (λ j. editPoints ps (ok j) (map (changed (FadeIn (e j) d v)) (listOf ps))))
 
 pub apply-fade-in-spec : {M : Type 1} → statement M
 apply-fade-in-spec =
@@ -32,6 +45,8 @@ apply-fade-in-spec =
     (tie.spec
     is-finite-requires
     is-finite-requires-2
-    faded-in-all-requires
-    finish-requires
-    returns)
+    keep-requires
+    first-time-requires
+    edit-each-requires
+    returns
+    returns-2)

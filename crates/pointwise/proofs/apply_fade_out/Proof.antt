@@ -1,9 +1,12 @@
+use mathlib.Core.Path.{ap, _∙_}
+use mathlib.Core.Bool.{Bool}
+use mathlib.Core.List.{map}
+use lib.Ieee.{binary64, sub}
+use Rattle.points.specs.Points.{listOf}
 use Rattle.points.specs.Laws.{and-both}
-use Rattle.points.proofs.Good.{places}
-use Rattle.settle.proofs.Ends.{ends-kept}
-use Rattle.pointwise.specs.Each.{fadedOutAll}
-use Rattle.pointwise.specs.Places.{fadedOutPlaces}
-use Rattle.pointwise.proofs.Fades.{faded-out-holding, faded-out-length}
+use Rattle.settle.specs.Settle.{editPoints}
+use Rattle.pointwise.specs.Each.{changed}
+use Rattle.pointwise.specs.declared.Change.the-variants.{FadeOut}
 use borrow.Author.Needs.{needs}
 use Rattle.pointwise.proofs.apply_fade_out.Statement.{statement}
 use Rattle.pointwise.proofs.apply_fade_out.Tie as tie
@@ -14,17 +17,28 @@ is-finite-requires c κs = search needs
 is-finite-requires-2 : tie.Need-is-finite-requires-2
 is-finite-requires-2 c κs = search needs
 
-faded-out-all-requires : tie.Need-faded-out-all-requires
-faded-out-all-requires c κs = search needs
+keep-requires : tie.Need-keep-requires
+keep-requires c κs = search needs
 
-finish-requires : tie.Need-finish-requires
-finish-requires c κs = search needs
+last-time-requires : tie.Need-last-time-requires
+last-time-requires c κs = search needs
+
+edit-each-requires : tie.Need-edit-each-requires
+edit-each-requires c κs = search needs
 
 returns : tie.Need-returns
 returns c =
-    let d = c .before .before .before .before .args .duration in
-    let v = c .before .before .before .before .args .curve in
-    ends-kept (fadedOutPlaces d v) (fadedOutAll d v) (faded-out-holding d v) (faded-out-length d v) (c .before .before .before .before .args .points) (c .before .faded-out-all .result) (c .finish .ensures) (and-both (c .before .before .before .is-finite .ensures) (c .before .before .is-finite2 .ensures)) (places (c .before .before .before .before .args .points) _ (c .before .before .before .before .good .0)) (c .before .faded-out-all .ensures)
+    let ps = c .before .before .before .before .args .points in
+    rw (c .before .if1 .taken) (c .keep .ensures ∙ ap (λ (ok : Bool). editPoints ps ok (listOf ps)) (and-both (c .before .before .before .is-finite .ensures) (c .before .before .is-finite2 .ensures)))
+
+returns-2 : tie.Need-returns-2
+returns-2 c =
+    let ps = c .before .before .before .before .before .args .points in
+    let d = c .before .before .before .before .before .args .duration in
+    let v = c .before .before .before .before .before .args .curve in
+    let e = c .before .last-time .ensures in
+    let ok = and-both (c .before .before .before .before .is-finite .ensures) (c .before .before .before .is-finite2 .ensures) in
+    rw (c .before .before .if1 .left) (c .edit-each .ensures ∙ (λ j. editPoints ps (ok j) (map (changed (FadeOut (sub binary64 (e j) d) d v)) (listOf ps))))
 
 pub apply-fade-out-spec : {M : Type 1} → statement M
 apply-fade-out-spec =
@@ -32,6 +46,8 @@ apply-fade-out-spec =
     (tie.spec
     is-finite-requires
     is-finite-requires-2
-    faded-out-all-requires
-    finish-requires
-    returns)
+    keep-requires
+    last-time-requires
+    edit-each-requires
+    returns
+    returns-2)

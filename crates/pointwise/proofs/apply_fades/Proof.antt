@@ -1,10 +1,11 @@
-use mathlib.Core.Path.{ap, _∙_}
+use lib.Ieee.{binary64, sub}
 use Rattle.points.specs.Laws.{and-both}
 use Rattle.points.proofs.Good.{places}
+use Rattle.pointwise.specs.Places.{mappedIn, fadedInPlaces, fadedOutPlaces}
+use Rattle.pointwise.specs.Each.{changed, fadedInAll, fadedOutAll}
+use Rattle.pointwise.specs.declared.Change.the-variants.{FadeOut}
 use Rattle.settle.proofs.Ends.{ends-kept}
-use Rattle.pointwise.specs.Each.{fadedInAll, fadedOutAll}
-use Rattle.pointwise.specs.Places.{fadedInPlaces, fadedOutPlaces}
-use Rattle.pointwise.proofs.Fades.{fades-holding, fades-length}
+use Rattle.pointwise.proofs.Fades.{fades-holding, fades-length, fades-kept, fades-mapped}
 use borrow.Author.Needs.{needs}
 use Rattle.pointwise.proofs.apply_fades.Statement.{statement}
 use Rattle.pointwise.proofs.apply_fades.Tie as tie
@@ -21,18 +22,37 @@ is-finite-requires-3 c κs = search needs
 faded-in-all-requires : tie.Need-faded-in-all-requires
 faded-in-all-requires c κs = search needs
 
-faded-out-all-requires : tie.Need-faded-out-all-requires
-faded-out-all-requires c κs = search needs
-
 finish-requires : tie.Need-finish-requires
 finish-requires c κs = search needs
 
+last-time-requires : tie.Need-last-time-requires
+last-time-requires c κs = search needs
+
+edit-from-requires : tie.Need-edit-from-requires
+edit-from-requires c κs = search needs
+
 returns : tie.Need-returns
 returns c =
+    let ps = c .before .before .before .before .before .before .args .points in
     let a = c .before .before .before .before .before .before .args .fade-in-duration in
     let b = c .before .before .before .before .before .before .args .fade-out-duration in
     let v = c .before .before .before .before .before .before .args .curve in
-    ends-kept (λ x. fadedOutPlaces b v (fadedInPlaces a v x)) (λ l. fadedOutAll b v (fadedInAll a v l)) (fades-holding a b v) (fades-length a b v) (c .before .before .before .before .before .before .args .points) (c .before .faded-out-all .result) (c .finish .ensures) (and-both (and-both (c .before .before .before .before .before .is-finite .ensures) (c .before .before .before .before .is-finite2 .ensures)) (c .before .before .before .is-finite3 .ensures)) (places (c .before .before .before .before .before .before .args .points) _ (c .before .before .before .before .before .before .good .0)) (c .before .faded-out-all .ensures ∙ ap (fadedOutPlaces b v) (c .before .before .faded-in-all .ensures))
+    let len = places ps _ (c .before .before .before .before .before .before .good .0) in
+    let ok = and-both (and-both (c .before .before .before .before .before .is-finite .ensures) (c .before .before .before .before .is-finite2 .ensures)) (c .before .before .before .is-finite3 .ensures) in
+    let risen = c .before .before .faded-in-all in
+    ends-kept (λ x. fadedOutPlaces b v (fadedInPlaces a v x)) (λ l. fadedOutAll b v (fadedInAll a v l)) (fades-holding a b v) (fades-length a b v) ps (risen .result) (c .finish .ensures) ok len (fades-kept a b v ps (risen .result) (risen .ensures) (c .before .if1 .taken))
+
+returns-2 : tie.Need-returns-2
+returns-2 c =
+    let ps = c .before .before .before .before .before .before .before .args .points in
+    let a = c .before .before .before .before .before .before .before .args .fade-in-duration in
+    let b = c .before .before .before .before .before .before .before .args .fade-out-duration in
+    let v = c .before .before .before .before .before .before .before .args .curve in
+    let len = places ps _ (c .before .before .before .before .before .before .before .good .0) in
+    let ok = and-both (and-both (c .before .before .before .before .before .before .is-finite .ensures) (c .before .before .before .before .before .is-finite2 .ensures)) (c .before .before .before .before .is-finite3 .ensures) in
+    let risen = c .before .before .before .faded-in-all in
+    let last = c .before .last-time in
+    ends-kept (λ x. fadedOutPlaces b v (fadedInPlaces a v x)) (λ l. fadedOutAll b v (fadedInAll a v l)) (fades-holding a b v) (fades-length a b v) ps (mappedIn (changed (FadeOut (sub binary64 (last .result) b) b v)) (risen .result)) (c .edit-from .ensures) ok len (fades-mapped a b v ps (risen .result) (risen .ensures) (last .result) (last .ensures) (c .before .before .if1 .left))
 
 pub apply-fades-spec : {M : Type 1} → statement M
 apply-fades-spec =
@@ -42,6 +62,8 @@ apply-fades-spec =
     is-finite-requires-2
     is-finite-requires-3
     faded-in-all-requires
-    faded-out-all-requires
     finish-requires
-    returns)
+    last-time-requires
+    edit-from-requires
+    returns
+    returns-2)

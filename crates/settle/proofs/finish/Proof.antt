@@ -1,61 +1,128 @@
-use mathlib.Core.Path.{sym, _∙_}
-use borrow.Author.Tests.{not-true, not-false}
-use Rattle.settle.specs.Finish.{finished}
-use borrow.Author.Needs.{needs}
+use Prim.Native.Nat.{ℕ, _≤_, _<_, _-_}
+use mathlib.Core.Path.{_≡_, refl, ap, _∙_}
+use native.Mathlib.Omega.{arith}
+use lib.ListN.{length, take}
+use Rattle.points.specs.Point.{finitePoint}
+use Rattle.points.specs.Points.{every, risingBy, rising, listOf}
+use Rattle.points.specs.Laws.{take-min}
+use Rattle.points.proofs.Good.{places}
+use Rattle.settle.proofs.Tested.{LastKey, finite-more, rise-more, last-more, out-valid, out-ok, out-finite, out-rise, out-accepted}
 use Rattle.settle.proofs.finish.Statement.{statement}
 use Rattle.settle.proofs.finish.Tie as tie
 
-is-valid-requires : tie.Need-is-valid-requires
-is-valid-requires c κs = search needs
+abbrev Inv-loop : tie.InvT-loop
+Inv-loop points ok new n finite₀ rise₀ last₀ i₀ finite rise last i =
+    (i ≤ n) × (finite ≡ every finitePoint (take i (new .places))) × (rise ≡ rising (take i (new .places))) × LastKey (new .places) i last
 
-refuse-requires : tie.Need-refuse-requires
-refuse-requires c κs = search needs
+abbrev μ-loop : tie.MeasureT-loop
+μ-loop points ok new n finite₀ rise₀ last₀ i₀ finite rise last i = n - i
 
-refuse-requires-2 : tie.Need-refuse-requires-2
-refuse-requires-2 c κs = search needs
+is-valid-requires : tie.Need-is-valid-requires Inv-loop μ-loop
+is-valid-requires c κs = tt
 
-all-finite-requires : tie.Need-all-finite-requires
-all-finite-requires c κs = search needs
+used-requires : tie.Need-used-requires Inv-loop μ-loop
+used-requires c κs = tt
 
-refuse-requires-3 : tie.Need-refuse-requires-3
-refuse-requires-3 c κs = search needs
+loop-holds : tie.Need-loop-holds Inv-loop μ-loop
+unfolding every risingBy
+loop-holds c = (omega arith, refl, refl, λ p. absurd (omega (arith, p)))
 
-times-rise-requires : tie.Need-times-rise-requires
-times-rise-requires c κs = search needs
+mul-p : tie.Need-mul-p Inv-loop μ-loop
+mul-p c = omega arith
 
-refuse-requires-4 : tie.Need-refuse-requires-4
-refuse-requires-4 c κs = search needs
+element-copy-out-p : tie.Need-element-copy-out-p Inv-loop μ-loop
+element-copy-out-p c = omega arith
 
-returns : tie.Need-returns
-unfolding finished
-returns c = rw (sym (c .before .before .is-valid .ensures) ∙ not-true (c .before .before .is-valid .result) (c .before .if1 .taken)) (c .refuse .ensures)
+order-key-requires : tie.Need-order-key-requires Inv-loop μ-loop
+order-key-requires c κs = tt
 
-returns-2 : tie.Need-returns-2
-unfolding finished
-returns-2 c = rw (sym (c .before .before .before .is-valid .ensures) ∙ not-false (c .before .before .before .is-valid .result) (c .before .before .if1 .left), not-true (c .before .before .before .before .args .ok) (c .before .if2 .taken)) (c .refuse2 .ensures)
+is-finite-requires : tie.Need-is-finite-requires Inv-loop μ-loop
+is-finite-requires c κs = tt
 
-returns-3 : tie.Need-returns-3
-unfolding finished
-returns-3 c = rw (sym (c .before .before .before .before .before .is-valid .ensures) ∙ not-false (c .before .before .before .before .before .is-valid .result) (c .before .before .before .before .if1 .left), not-false (c .before .before .before .before .before .before .args .ok) (c .before .before .before .if2 .left), sym (c .before .before .all-finite .ensures) ∙ not-true (c .before .before .all-finite .result) (c .before .if3 .taken)) (c .refuse3 .ensures)
+add-i : tie.Need-add-i Inv-loop μ-loop
+add-i c = omega arith
 
-returns-4 : tie.Need-returns-4
-unfolding finished
-returns-4 c = rw (sym (c .before .before .before .before .before .before .before .is-valid .ensures) ∙ not-false (c .before .before .before .before .before .before .before .is-valid .result) (c .before .before .before .before .before .before .if1 .left), not-false (c .before .before .before .before .before .before .before .before .args .ok) (c .before .before .before .before .before .if2 .left), sym (c .before .before .before .before .all-finite .ensures) ∙ not-false (c .before .before .before .before .all-finite .result) (c .before .before .before .if3 .left), sym (c .before .before .times-rise .ensures) ∙ not-true (c .before .before .times-rise .result) (c .before .if4 .taken)) (c .refuse4 .ensures)
+loop-less : tie.Need-loop-less Inv-loop μ-loop
+loop-less c = omega arith
 
-returns-5 : tie.Need-returns-5
-unfolding finished
-returns-5 c = rw (sym (c .before .before .before .before .before .before .is-valid .ensures) ∙ not-false (c .before .before .before .before .before .before .is-valid .result) (c .before .before .before .before .before .if1 .left), not-false (c .before .before .before .before .before .before .before .args .ok) (c .before .before .before .before .if2 .left), sym (c .before .before .before .all-finite .ensures) ∙ not-false (c .before .before .before .all-finite .result) (c .before .before .if3 .left), sym (c .before .times-rise .ensures) ∙ not-false (c .before .times-rise .result) (c .if4 .left))
+loop-again : tie.Need-loop-again Inv-loop μ-loop
+loop-again c =
+    let new = c .before .before .before .before .before .before .before .before .before .args .t3 in
+    let len = places new _ (c .before .before .before .before .before .before .before .before .before .good .1 .1 .0) in
+    let h = c .before .before .before .before .loop in
+    let within : h .i < length (new .places) = omega arith in (
+      omega arith,
+      finite-more (new .places) (h .i) within (h .inv .1) (c .is-finite .ensures),
+      rise-more (new .places) (h .i) within (h .inv .2) (h .inv .3) (c .before .order-key .ensures),
+      last-more (new .places) (h .i) (c .before .order-key .ensures),
+    )
+
+refuse-requires : tie.Need-refuse-requires Inv-loop μ-loop
+refuse-requires c κs = tt
+
+refuse-requires-2 : tie.Need-refuse-requires-2 Inv-loop μ-loop
+refuse-requires-2 c κs = tt
+
+refuse-requires-3 : tie.Need-refuse-requires-3 Inv-loop μ-loop
+refuse-requires-3 c κs = tt
+
+refuse-requires-4 : tie.Need-refuse-requires-4 Inv-loop μ-loop
+refuse-requires-4 c κs = tt
+
+returns : tie.Need-returns Inv-loop μ-loop
+returns c =
+    let new = c .before .before .before .before .before .before .before .before .args .t3 in
+    let len = places new _ (c .before .before .before .before .before .before .before .before .good .1 .1 .0) in
+    let h = c .before .before .before .loop in
+    let at : h .i ≡ c .before .before .before .before .used .result = omega arith in
+    let whole : take (h .i) (new .places) ≡ listOf new = ap (λ (k : ℕ). take k (new .places)) (at ∙ c .before .before .before .before .used .ensures) ∙ take-min (new .count) (new .places) 256 len in
+    out-accepted (c .before .before .before .before .before .before .before .before .args .points) new (c .before .before .before .before .before .before .before .before .args .ok) (c .before .before .before .before .before .before .before .is-valid .ensures) (c .before .before .before .before .before .before .if1 .taken) (c .before .before .before .before .before .if2 .taken) (h .inv .1 ∙ ap (every finitePoint) whole) (c .before .if3 .taken) (h .inv .2 ∙ ap rising whole) (c .if4 .taken)
+
+returns-2 : tie.Need-returns-2 Inv-loop μ-loop
+returns-2 c =
+    let new = c .before .before .before .before .before .before .before .before .before .args .t3 in
+    let len = places new _ (c .before .before .before .before .before .before .before .before .before .good .1 .1 .0) in
+    let h = c .before .before .before .before .loop in
+    let at : h .i ≡ c .before .before .before .before .before .used .result = omega arith in
+    let whole : take (h .i) (new .places) ≡ listOf new = ap (λ (k : ℕ). take k (new .places)) (at ∙ c .before .before .before .before .before .used .ensures) ∙ take-min (new .count) (new .places) 256 len in
+    c .refuse .ensures
+    ∙ out-rise (c .before .before .before .before .before .before .before .before .before .args .points) new (c .before .before .before .before .before .before .before .before .before .args .ok) (c .before .before .before .before .before .before .before .before .is-valid .ensures) (c .before .before .before .before .before .before .before .if1 .taken) (c .before .before .before .before .before .before .if2 .taken) (h .inv .1 ∙ ap (every finitePoint) whole) (c .before .before .if3 .taken) (h .inv .2 ∙ ap rising whole) (c .before .if4 .left)
+
+returns-3 : tie.Need-returns-3 Inv-loop μ-loop
+returns-3 c =
+    let new = c .before .before .before .before .before .before .before .before .args .t3 in
+    let len = places new _ (c .before .before .before .before .before .before .before .before .good .1 .1 .0) in
+    let h = c .before .before .before .loop in
+    let at : h .i ≡ c .before .before .before .before .used .result = omega arith in
+    let whole : take (h .i) (new .places) ≡ listOf new = ap (λ (k : ℕ). take k (new .places)) (at ∙ c .before .before .before .before .used .ensures) ∙ take-min (new .count) (new .places) 256 len in
+    c .refuse2 .ensures
+    ∙ out-finite (c .before .before .before .before .before .before .before .before .args .points) new (c .before .before .before .before .before .before .before .before .args .ok) (c .before .before .before .before .before .before .before .is-valid .ensures) (c .before .before .before .before .before .before .if1 .taken) (c .before .before .before .before .before .if2 .taken) (h .inv .1 ∙ ap (every finitePoint) whole) (c .before .if3 .left)
+
+returns-4 : tie.Need-returns-4 Inv-loop μ-loop
+returns-4 c = c .refuse3 .ensures ∙ out-ok (c .before .before .before .before .args .points) (c .before .before .before .before .args .t3) (c .before .before .before .before .args .ok) (c .before .before .before .is-valid .ensures) (c .before .before .if1 .taken) (c .before .if2 .left)
+
+returns-5 : tie.Need-returns-5 Inv-loop μ-loop
+returns-5 c = c .refuse4 .ensures ∙ out-valid (c .before .before .before .args .points) (c .before .before .before .args .t3) (c .before .before .before .args .ok) (c .before .before .is-valid .ensures) (c .before .if1 .left)
 
 pub finish-spec : {M : Type 1} → statement M
 finish-spec =
     tie.close
     (tie.spec
+    Inv-loop
+    μ-loop
     is-valid-requires
+    used-requires
+    loop-holds
+    mul-p
+    element-copy-out-p
+    order-key-requires
+    is-finite-requires
+    add-i
+    loop-less
+    loop-again
     refuse-requires
     refuse-requires-2
-    all-finite-requires
     refuse-requires-3
-    times-rise-requires
     refuse-requires-4
     returns
     returns-2
