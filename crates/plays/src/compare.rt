@@ -3,6 +3,7 @@ ghost use mathlib.Core.Path.{_≡_};
 ghost use mathlib.Core.Bool.{true};
 ghost use Prim.Native.Nat.{_<_, _≤_, _+_};
 ghost use lib.ListN.{length};
+use crate::line::wide;
 use play::Play;
 use sheet::write::Written;
 use std::num::wrapping_add_u64;
@@ -21,12 +22,6 @@ struct Turn {
     on: bool,
     play: Play,
     compared: Compared,
-}
-
-fn wide(x: u8) -> u64
-    ensures { λ r. ⌜ r ≡ x ⌝ }
-{
-    x as u64
 }
 
 // Modulo the largest prime below 2^55.

@@ -31,7 +31,7 @@ pub(crate) fn find(s: &[u8], start: usize, b: u8) -> usize
     at
 }
 
-fn wide(x: u8) -> u64
+pub(crate) fn wide(x: u8) -> u64
     ensures { λ r. ⌜ r ≡ x ⌝ }
 {
     x as u64
