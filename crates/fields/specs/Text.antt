@@ -31,6 +31,6 @@ unfoldable pub placesOf : ℕ → ℕ → ℕ
 placesOf zero v = 0
 placesOf (suc most) v = cond (ltb v 10) 1 (suc (placesOf most (v / 10)))
 
--- "decimal without leading zeros": as many digits as the number has. 2^32 − 1 has ten.
+-- "decimal without leading zeros": as many digits as the number has, at most ten: 2^32 − 1 has ten
 abbrev pub decimalText : ℕ → ℕ → List ℕ
 decimalText e v = numberText 10 (placesOf 10 v) e v

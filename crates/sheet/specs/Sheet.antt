@@ -15,9 +15,11 @@ use Rattle.lines.specs.declared.block.Block.{Block}
 abbrev pub named : {B : Type 0} → ℕ → List ℕ → List ℕ → (List ℕ → Lines B) → Lines B
 named k names l next = cond (startsWith names l) (next (drop (length names) l)) (stop 9 k)
 
+-- line 1
 abbrev pub settingNames : List ℕ
 settingNames = text "target enabled min max step\n"
 
+-- line 3
 abbrev pub pointNames : List ℕ
 pointNames = text "time position value curve cp1 cp2\n"
 
@@ -26,10 +28,12 @@ pointNames = text "time position value curve cp1 cp2\n"
 abbrev pub envelopeOf : Settings → Points → AutomationEnvelope
 envelopeOf s ps = record { target = s .target; points = ps; enabled = s .enabled; «min_value» = s .min; «max_value» = s .max; «step_size» = s .step }
 
+-- the points with the settings of line 2
 abbrev pub withSettings : Settings → Lines Points → Lines AutomationEnvelope
 withSettings s (stop n k) = stop n k
 withSettings s (lines ps rest) = lines (envelopeOf s ps) rest
 
+-- names, settings, names, points
 unfoldable pub sheetLines : Bool → List ℕ → Lines AutomationEnvelope
 sheetLines program l =
     named 1 settingNames l (λ l1.
@@ -43,10 +47,12 @@ pub data Read : Type 0 where
   refusal : ℕ → ℕ → Read
   sheet : AutomationEnvelope → Read
 
+-- the envelope, or the refusal with its line
 abbrev pub readFrom : Lines AutomationEnvelope → Read
 readFrom (stop n k) = refusal n k
 readFrom (lines e rest) = sheet e
 
+-- the sheet reader
 unfoldable pub readSheet : List ℕ → Read
 readSheet l = readFrom (sheetLines false l)
 
@@ -66,5 +72,6 @@ abbrev pub blockFrom : Lines AutomationEnvelope → Input
 blockFrom (stop n k) = declined n k
 blockFrom (lines e rest) = lastLine e (e .points .count + 5) (blockLine (drop (length blockNames) rest))
 
+-- the program's input: a sheet and its block
 unfoldable pub playInput : List ℕ → Input
 playInput l = blockFrom (sheetLines true l)

@@ -32,9 +32,11 @@ settingsText r =
     decimalText space (r .target) ++ (numberText 2 1 space (r .enabled)
     ++ (optionalText 8 space (r .min) ++ (optionalText 8 space (r .max) ++ optionalText 8 newline (r .step))))
 
+-- the two last fields: numbers for 05, dashes for every other code
 abbrev pub controlsText : ℕ → ℕ → ℕ → List ℕ
 controlsText code cp1 cp2 = cond (eqb code 5) (numberText 16 8 space cp1 ++ numberText 16 8 newline cp2) dashes
 
+-- a point's line
 unfoldable pub pointText : RawPoint → List ℕ
 unfolding digitsOf optionalText
 pointText r =
@@ -47,6 +49,7 @@ abbrev pub limitBits : Limit → Optional
 limitBits limit.None = optional.None
 limitBits (limit.Number x) = optional.Bits (toBits binary32 x)
 
+-- the settings' numbers
 unfoldable pub rawSettings : AutomationEnvelope → RawSettings
 rawSettings e = record {
   target = e .target;
@@ -56,10 +59,12 @@ rawSettings e = record {
   step = limitBits (e .«step_size»);
 }
 
+-- a position's digits, or none
 abbrev pub positionBits : SamplePosition → Optional
 positionBits position.None = optional.None
 positionBits (position.At n) = optional.Bits n
 
+-- a point's numbers
 unfoldable pub rawPoint : AutomationPoint → RawPoint
 rawPoint p = record {
   time = toBits binary64 (p .time);
@@ -77,6 +82,7 @@ unfolding rawPoint pointText
 pointTexts [] = []
 pointTexts (p ∷ ps) = pointText (rawPoint p) ++ pointTexts ps
 
+-- names, settings, names, points
 unfoldable pub sheetText : AutomationEnvelope → List ℕ
 unfolding settingsText rawSettings pointTexts
 sheetText e = settingNames ++ (settingsText (rawSettings e) ++ (pointNames ++ pointTexts (listOf (e .points))))

@@ -20,13 +20,16 @@ use Rattle.sheet.specs.declared.write.Written.the-variants as written
 
 -- ---- a refusal with its line, or what stands beside the answer
 
+-- a sheet's lines
 unfoldable pub toldSheetLines : List ℕ → SheetLines → Lines AutomationEnvelope
 toldSheetLines s r = linesBy (r .answer) (r .line) (r .envelope) (drop (r .next) s)
 
+-- the reader's answer
 abbrev pub readBy : SheetAnswer → AutomationEnvelope → Read
 readBy Accepted e = sheet e
 readBy (Refused r k) e = refusal (number r) k
 
+-- what the reader gives
 unfoldable pub toldRead : ReadSheet → Read
 toldRead r = readBy (r .answer) (r .envelope)
 
@@ -35,10 +38,12 @@ abbrev pub readHeld : SheetAnswer → Read → ReadSheet
 readHeld a (refusal n k) = record { answer = a; envelope = new 0 }
 readHeld a (sheet e) = record { answer = a; envelope = e }
 
+-- the program's answer to its input
 abbrev pub inputBy : SheetAnswer → AutomationEnvelope → Block → Input
 inputBy Accepted e b = input e b
 inputBy (Refused r k) e b = declined (number r) k
 
+-- what the program is to play
 unfoldable pub toldInput : PlayInput → Input
 toldInput r = inputBy (r .answer) (r .envelope) (record { rate = r .rate; duration = r .duration })
 
@@ -49,6 +54,7 @@ inputHeld a (input e b) = record { answer = a; envelope = e; rate = b .rate; dur
 
 -- ---- the writer
 
+-- the writer's answer: how many bytes, or a refusal
 unfoldable pub toldWritten : Written → Said ℕ
 toldWritten (written.Bytes n) = gives n
 toldWritten (written.Refused r) = refuses (number r)
