@@ -3,7 +3,6 @@
 ghost use mathlib.Core.Path.{_≡_};
 ghost use lib.ListN.{length};
 use envelope::AutomationEnvelope;
-use listing_envelopes::records::envelope_at;
 use listing::text::Outcome;
 use listing::text::Place;
 use listing::text::Word;
@@ -12,6 +11,7 @@ use listing::text::call_among;
 use listing::text::decimal_after;
 use listing::text::decimal_at;
 use listing::text::ended;
+use listing_envelopes::records::envelope_at;
 use listing_points::answers::answers_refusal;
 use sheet::write::Written;
 

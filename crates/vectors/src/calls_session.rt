@@ -1,12 +1,6 @@
 // The lines of a session: `session s CALL => ok kept KEPT ahead AHEAD E`, where a call is
 // `open TARGET WORDS`, `edit NAME ARGUMENTS`, `back`, `forward`, `show`, `damage SLOT WORD`, or
 // `len WORDS` and one of those, with a step memory of another length. One session is open at a time.
-use listing_edits::EditField;
-use listing_edits::JoinField;
-use listing_edits::edit_at;
-use listing_edits::join_at;
-use listing_envelopes::records::envelope_at;
-use listing_envelopes::records::says_envelope;
 use listing::text::Name;
 use listing::text::Outcome;
 use listing::text::Place;
@@ -16,6 +10,12 @@ use listing::text::decimal_after;
 use listing::text::decimal_at;
 use listing::text::ended;
 use listing::text::find;
+use listing_edits::EditField;
+use listing_edits::JoinField;
+use listing_edits::edit_at;
+use listing_edits::join_at;
+use listing_envelopes::records::envelope_at;
+use listing_envelopes::records::says_envelope;
 use listing_points::answers::answers_refusal;
 use points::refusal::Answer;
 use session::Session;
