@@ -35,7 +35,7 @@ refused-requires-2 c κs = search needs
 
 -- src/lib.rt:63:17
 returns : tie.Need-returns
-returns c = many-opens (c .before .before .before .before .before .before .before .before .before .args .s .now) (c .before .before .before .before .before .before .before .read-play .result) (c .before .before .before .before .before .before .before .read-play .ensures) (c .before .before .before .before .before .enum-told .given .1) (c .before .before .before .f64-to-u64 .result) (c .before .before .before .f64-to-u64 .ensures) (c .before .before .if1 .taken) (c .refused2 .ensures)
+returns c = many-opens (c .before .before .before .before .before .before .before .before .before .args .s .now) (c .before .before .before .before .before .before .before .read-play .result) (c .before .before .before .before .before .before .before .read-play .ensures .0) (c .before .before .before .before .before .enum-told .given .1) (c .before .before .before .f64-to-u64 .result) (c .before .before .before .f64-to-u64 .ensures) (c .before .before .if1 .taken) (c .refused2 .ensures)
 
 -- src/lib.rt:66:56
 slice-aggregate-fit-text : tie.Need-slice-aggregate-fit-text
@@ -47,11 +47,11 @@ fit-text-requires c κs = search needs
 
 -- src/lib.rt:53:1
 returns-2 : tie.Need-returns-2
-returns-2 c = refused-is (c .before .before .before .before .before .before .before .args .s .now) (c .before .before .before .before .before .read-play .result) (c .before .before .before .before .before .read-play .ensures) (c .before .before .before .answer .given .1) (c .refused .ensures)
+returns-2 c = refused-is (c .before .before .before .before .before .before .before .args .s .now) (c .before .before .before .before .before .read-play .result) (c .before .before .before .before .before .read-play .ensures .0) (c .before .before .before .answer .given .1) (c .refused .ensures)
 
 -- src/lib.rt:53:1
 returns-3 : tie.Need-returns-3
-returns-3 c = few-opens (c .before .before .before .before .before .before .before .before .before .before .before .args .s .now) (c .before .before .before .before .before .before .before .before .before .read-play .result) (c .before .before .before .before .before .before .before .before .before .read-play .ensures) (c .before .before .before .before .before .before .before .enum-told .given .1) (c .before .before .before .before .before .f64-to-u64 .result) (c .before .before .before .before .before .f64-to-u64 .ensures) (c .before .before .before .before .if1 .left) (c .fit-text .ensures) (search needs)
+returns-3 c = few-opens (c .before .before .before .before .before .before .before .before .before .before .before .args .s .now) (c .before .before .before .before .before .before .before .before .before .read-play .result) (c .before .before .before .before .before .before .before .before .before .read-play .ensures .0) (c .before .before .before .before .before .before .before .enum-told .given .1) (c .before .before .before .before .before .f64-to-u64 .result) (c .before .before .before .before .before .f64-to-u64 .ensures) (c .before .before .before .before .if1 .left) (c .fit-text .ensures) (search needs)
 
 pub open-spec : {M : Type 1} → statement M
 open-spec =
