@@ -480,7 +480,7 @@ pub unsafe extern "C" fn rust_session_edit(
     let memory = from_raw_parts_mut(memory, memory_len);
     for i in 0..turns {
         let offset = if i % 2 == 0 { 0.25 } else { -0.25 };
-        s = session::shift_points(*black_box(&s), offset, black_box(memory)).session;
+        s = session::shift_points(*black_box(&s), offset, black_box(memory)).accepted();
     }
     s.kept as u64
 }
@@ -501,10 +501,10 @@ pub unsafe extern "C" fn rust_session_step(
 ) -> u64 {
     let e = made(from_raw_parts(times, times_len), from_raw_parts(values, values_len), curve);
     let memory = from_raw_parts_mut(memory, memory_len);
-    let mut s = session::shift_points(started(e, memory_len), 0.25, memory).session;
+    let mut s = session::shift_points(started(e, memory_len), 0.25, memory).accepted();
     for _ in 0..turns {
-        s = session::back(*black_box(&s), black_box(memory)).session;
-        s = session::forward(*black_box(&s), black_box(memory)).session;
+        s = session::back(*black_box(&s), black_box(memory)).accepted();
+        s = session::forward(*black_box(&s), black_box(memory)).accepted();
     }
     s.kept as u64
 }

@@ -17,8 +17,16 @@ pub struct Session {
 
 /// Refusal 0 and the session after the call, or the refusal's number and the session it got.
 pub struct Answer {
-    pub refusal: u32,
-    pub session: Session,
+    refusal: u32,
+    session: Session,
+}
+
+impl Answer {
+    #[inline(always)]
+    pub fn accepted(self) -> Session {
+        debug_assert_eq!(self.refusal, 0);
+        self.session
+    }
 }
 
 pub fn code(c: CurveType) -> u64 {
