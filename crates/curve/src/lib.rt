@@ -68,7 +68,7 @@ fn quad_in_out(t: f32) -> f32
     ensures { λ r. ⌜ r ≡ quadInOut t ⌝ }
 {
     let u = -2.0 * t + 2.0;
-    in_out(t, 2.0 * t * t, u * u)
+    in_out(t, 2.0 * t * t, numbers::root::square(u))
 }
 
 fn cubic_in_out(t: f32) -> f32
