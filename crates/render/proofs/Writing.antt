@@ -2,9 +2,9 @@
 use Prim.Native.Nat.{ℕ, _+_, _-_, _≤_, _<_, min}
 use mathlib.Core.Path.{_≡_, sym, ap, ap₂, subst, _∙_}
 use mathlib.Core.Bool.{Bool, true, false, _&&_}
-use mathlib.Core.List.{List, _++_, map}
+use mathlib.Core.List.{List, _++_}
 use native.Mathlib.Omega.{arith}
-use lib.ListN.{length, take, drop, replicate}
+use lib.ListN.{length, drop, replicate}
 use lib.IntN.{pos}
 use lib.Ieee.{Float, binary32, binary64, lt, ofInt, ofBits}
 use lib.Ieee.Fits.{div-fits}
@@ -27,13 +27,13 @@ use Rattle.lookup.specs.declared.Limits.{Limits}
 use Rattle.render.specs.declared.Segment.{Segment}
 use Rattle.lookup.proofs.Good.{inside as among}
 use Rattle.render.proofs.Fits.{times-fit}
-use Rattle.lookup.specs.Keys.{EndsAt}
+use Rattle.lookup.specs.Keys.{keysOf, EndsAt}
 use Rattle.lookup.specs.KeyLaws.{keys-place}
 use Rattle.render.proofs.Segments.{sampleOf, place-inside, raw-outside, stretch-samples}
 
 module _ (ps : Points) (vs : List Val) (g : Is (row the-type) ps vs) (v : validPoints ps ≡ true) (w : 2 ≤ ps .count) where
   -- at a time between the first and the last, the search over the keys ends between them, and the stretch that is written has the envelope's samples
-  module _ (keys : List ℕ) (e : take (ps .count) keys ≡ map timeKey (listOf ps)) (rate : Float) (k : ℕ)
+  module _ (keys : List ℕ) (e : keys ≡ keysOf false ps) (rate : Float) (k : ℕ)
       (t : (lt (pointAt (ps .places) 0 .time) (timeOf rate k) && lt (timeOf rate k) (pointAt (ps .places) (ps .count - 1) .time)) ≡ true)
       (key j : ℕ) (c : key ≡ orderKey (timeOf rate k)) (d : EndsAt keys (min (ps .count) 256) key j) where
     found : placeBy timeKey (orderKey (timeOf rate k)) (listOf ps) ≡ j

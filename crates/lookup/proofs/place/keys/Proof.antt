@@ -1,19 +1,20 @@
 -- `lookup::place::keys` meets its contract. Assumes nothing.
 use Prim.Native.Nat.{ℕ, _≤_, _-_, min}
-use mathlib.Core.Path.{_≡_, refl, sym, ap, _∙_}
-use mathlib.Core.List.{map}
+use mathlib.Core.Path.{_≡_, refl, ap, ap₂, _∙_}
+use mathlib.Core.List.{List, _++_, map}
 use native.Mathlib.Omega.{arith}
-use lib.ListN.{length, take, length-set, length-replicate}
+use lib.ListN.{length, take, replicate, length-set, length-replicate}
 use Rattle.points.specs.Point.{anyPoint}
 use Rattle.points.specs.Laws.{take-min}
+use Rattle.points.specs.declared.AutomationPoint.{AutomationPoint}
 use Rattle.lookup.specs.Keys.{keyBy}
 use Rattle.points.proofs.Good.{places}
-use Rattle.lookup.specs.KeyLaws.{keys-turn}
+use Rattle.lookup.specs.KeyLaws.{Filled, keys-turn}
 use Rattle.lookup.proofs.place.keys.Statement.{statement}
 use Rattle.lookup.proofs.place.keys.Tie as tie
 
 abbrev Inv-loop : tie.InvT-loop
-Inv-loop by-sample points n keys₀ i₀ keys i = (i ≤ n) × (length keys ≡ 256) × (take i keys ≡ map (keyBy by-sample) (take i (points .places)))
+Inv-loop by-sample points n keys₀ i₀ keys i = (i ≤ n) × (length keys ≡ 256) × Filled (keyBy by-sample) (points .places) i keys
 
 abbrev μ-loop : tie.MeasureT-loop
 μ-loop by-sample points n keys₀ i₀ keys i = n - i
@@ -53,12 +54,12 @@ loop-again c =
 returns : tie.Need-returns Inv-loop μ-loop
 returns c =
     let ps = c .before .before .before .args .t1 in
+    let key = keyBy (c .before .before .before .args .by-sample) in
     let at : c .before .loop .i ≡ min (ps .count) 256 = omega (arith, c .before .before .used .ensures) in
-    sym (take-min (ps .count) (c .before .loop .keys) 256 (c .before .loop .inv .1))
-    ∙ ap (λ (n : ℕ). take n (c .before .loop .keys)) (sym at)
-    ∙ c .before .loop .inv .2
-    ∙ ap (λ (n : ℕ). map (keyBy (c .before .before .before .args .by-sample)) (take n (ps .places))) at
-    ∙ ap (map (keyBy (c .before .before .before .args .by-sample))) (take-min (ps .count) (ps .places) 256 (places ps _ (c .before .before .before .good .0)))
+    let rest : 256 - min (ps .count) 256 ≡ 256 - ps .count = omega arith in
+    c .before .loop .inv .2
+    ∙ ap (λ (n : ℕ). map key (take n (ps .places)) ++ replicate (256 - n) 0) at
+    ∙ ap₂ (λ (l : List AutomationPoint) (n : ℕ). map key l ++ replicate n 0) (take-min (ps .count) (ps .places) 256 (places ps _ (c .before .before .before .good .0))) rest
 
 pub keys-spec : {M : Type 1} → statement M
 keys-spec =
