@@ -5,7 +5,7 @@ ghost use Prim.Native.Nat.{_-_};
 ghost use Rattle.points.specs.Points.{listOf, validPoints, risingBy};
 ghost use Rattle.points.specs.Refusal.{gives};
 ghost use Rattle.lookup.specs.Keys.{around};
-ghost use Rattle.lookup.specs.Lookup.{keyFrom, sampleKey, sampleFraction, betweenSamples, rawAtSample, keysRise, valueAtSample, getValueAtSample, told};
+ghost use Rattle.lookup.specs.Lookup.{keyFrom, sampleKey, sampleFraction, betweenSamples, rawAtSample, getValueAtSample, told};
 use crate::Limits;
 use crate::Lookup;
 use crate::place::previous;
@@ -147,18 +147,6 @@ fn raw_at_sample(points: Points, sample: u64) -> Lookup
     around(n, low, p, q, sample)
 }
 
-// The lookup on points that are known to be valid, with keys that are known to rise if they are enabled.
-fn value_at_sample(points: Points, enabled: bool, limits: Limits, sample: u64) -> Lookup
-    requires { ⌜ (validPoints points ≡ true) × (keysRise points enabled ≡ true) ⌝ }
-    ensures { λ r. ⌜ told r ≡ gives (valueAtSample points enabled limits sample) ⌝ }
-{
-    if enabled {
-        raw_at_sample(points, sample).constrain(limits)
-    } else {
-        Lookup::Silent
-    }
-}
-
 // 000's get_value_at_sample.
 pub fn get_value_at_sample(points: Points, enabled: bool, limits: Limits, sample: u64) -> Lookup
     ensures { λ r. ⌜ told r ≡ getValueAtSample points enabled limits sample ⌝ }
@@ -166,7 +154,7 @@ pub fn get_value_at_sample(points: Points, enabled: bool, limits: Limits, sample
     if crate::is_valid(points, limits) {
         if enabled {
             if keys_rise(points) {
-                value_at_sample(points, enabled, limits, sample)
+                raw_at_sample(points, sample).constrain(limits)
             } else {
                 Lookup::Refused(Refusal::KeysDontRise)
             }

@@ -1,10 +1,10 @@
 -- `lookup::sample::get_value_at_sample` meets its contract. Assumes nothing.
-use mathlib.Core.Path.{sym, _∙_}
+use mathlib.Core.Path.{sym, ap, _∙_}
 use Rattle.points.specs.Laws.{and-right}
 use Rattle.points.specs.Points.{validPoints, listOf}
 use Rattle.lookup.specs.Limits.{finiteLimits}
-use Rattle.lookup.specs.Lookup.{getValueAtSample, rawAtSample}
-use Rattle.lookup.specs.LookupLaws.{heard-off, keys-rise-is, keys-rise-off}
+use Rattle.lookup.specs.Lookup.{getValueAtSample, rawAtSample, told}
+use Rattle.lookup.specs.LookupLaws.{heard-on, heard-off, keys-rise-is, keys-rise-off}
 use borrow.Author.Needs.{needs}
 use Rattle.lookup.proofs.sample.get_value_at_sample.Statement.{statement}
 use Rattle.lookup.proofs.sample.get_value_at_sample.Tie as tie
@@ -15,12 +15,21 @@ is-valid-requires c κs = search needs
 keys-rise-requires : tie.Need-keys-rise-requires
 keys-rise-requires c κs = search needs
 
-value-at-sample-requires : tie.Need-value-at-sample-requires
-value-at-sample-requires c κs = (and-right (finiteLimits (c .before .before .before .before .before .args .limits)) (validPoints (c .before .before .before .before .before .args .points)) (sym (c .before .before .before .before .is-valid .ensures) ∙ c .before .before .before .if1 .taken), keys-rise-is (c .before .before .before .before .before .args .points) (c .before .before .before .before .before .args .enabled) (c .before .before .if2 .taken) ∙ sym (c .before .keys-rise .ensures) ∙ c .if3 .taken)
+raw-at-sample-requires : tie.Need-raw-at-sample-requires
+raw-at-sample-requires c κs =
+    let a = c .before .before .before .before .before .args in
+    (and-right (finiteLimits (a .limits)) (validPoints (a .points)) (sym (c .before .before .before .before .is-valid .ensures) ∙ c .before .before .before .if1 .taken), sym (c .before .keys-rise .ensures) ∙ c .if3 .taken)
+
+constrain-requires : tie.Need-constrain-requires
+constrain-requires c κs = search needs
 
 returns : tie.Need-returns
 unfolding getValueAtSample
-returns c = rw (sym (c .before .before .before .before .before .is-valid .ensures) ∙ c .before .before .before .before .if1 .taken, keys-rise-is (c .before .before .before .before .before .before .args .points) (c .before .before .before .before .before .before .args .enabled) (c .before .before .before .if2 .taken) ∙ sym (c .before .before .keys-rise .ensures) ∙ c .before .if3 .taken) (c .value-at-sample .ensures)
+returns c =
+    let a = c .before .before .before .before .before .before .before .args in
+    let on = c .before .before .before .before .if2 .taken in
+    rw (sym (c .before .before .before .before .before .before .is-valid .ensures) ∙ c .before .before .before .before .before .if1 .taken, keys-rise-is (a .points) (a .enabled) on ∙ sym (c .before .before .before .keys-rise .ensures) ∙ c .before .before .if3 .taken)
+    (ap told (c .constrain .ensures) ∙ heard-on (a .limits) (a .enabled) (c .before .raw-at-sample .result) (rawAtSample (listOf (a .points)) (a .sample)) on (c .before .raw-at-sample .ensures))
 
 returns-2 : tie.Need-returns-2
 unfolding getValueAtSample
@@ -40,7 +49,8 @@ get-value-at-sample-spec =
     (tie.spec
     is-valid-requires
     keys-rise-requires
-    value-at-sample-requires
+    raw-at-sample-requires
+    constrain-requires
     returns
     returns-2
     returns-3
