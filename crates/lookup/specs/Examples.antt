@@ -13,10 +13,10 @@ use Rattle.curve.specs.F32.{f32, f0, f1}
 use Rattle.curve.specs.Curve.{code, controls, finiteControls, interpolated, eased, clamped}
 use Rattle.curve.specs.declared.CurveType.{CurveType}
 use Rattle.curve.specs.declared.CurveType.the-variants.{Linear}
+use Rattle.points.specs.Point.{pointWith}
 use Rattle.points.specs.Points.{holding, every, risingBy, validPoints}
 use Rattle.points.specs.Refusal.{Said, gives}
 use Rattle.points.specs.declared.AutomationPoint.{AutomationPoint}
-use Rattle.points.specs.declared.SamplePosition.the-variants as position
 use Rattle.lookup.specs.Limits.{constrained}
 use Rattle.lookup.specs.Lookup.{surrounded, fraction, rawAt, rawAtSample, getValueAt, getValueAtSample}
 use Rattle.points.specs.Search.{placeBy}
@@ -53,17 +53,13 @@ t20 = f64 0x4034_0000_0000_0000
 abbrev pub minusZero : Float
 minusZero = f32 0x8000_0000
 
--- a point at a time, with a value and a curve
-abbrev pub bent : CurveType → Float → Float → AutomationPoint
-bent c t v = record { time = t; «sample_position» = position.None; value = v; curve = c }
-
--- a Linear one
+-- a Linear point at a time, with a value
 abbrev pub at : Float → Float → AutomationPoint
-at = bent Linear
+at t v = pointWith t v Linear
 
 -- "(0,0),(4,1)", by a curve
 abbrev pub rise : CurveType → List AutomationPoint
-rise c = bent c t0 f0 ∷ bent c t4 f1 ∷ []
+rise c = pointWith t0 f0 c ∷ pointWith t4 f1 c ∷ []
 
 -- a maximum and a step, and no minimum
 abbrev pub limits : Limit → Limit → Limits

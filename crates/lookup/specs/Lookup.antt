@@ -2,7 +2,7 @@
 use Prim.Native.Nat.{ℕ, _-_}
 use mathlib.Core.Bool.{Bool, true, false, cond}
 use mathlib.Core.List.{List, [], _∷_}
-use mathlib.Core.Option.{Option, none, some}
+use mathlib.Core.Option.{Option, none, some, Option·map}
 use lib.ListN.{length, getD}
 use lib.Dec.{ltb, leb, eqb}
 use lib.IntN.{pos}
@@ -31,15 +31,14 @@ pointAt l i = getD l i anyPoint
 abbrev pub lastPoint : List AutomationPoint → AutomationPoint
 lastPoint l = pointAt l (length l - 1)
 
--- 000's search for the surrounding points, over any key: "at an inner point's own time .. both ends are that point"; before the first and past the last there is none
+-- a search for the key k among n points ended at i, p being the point before and q the one at it: "at an inner point's own time .. both ends are that point"; before the first and past the last there is none
+abbrev pub around : {A : Type 0} → (AutomationPoint → ℕ) → ℕ → (AutomationPoint → AutomationPoint → A) → ℕ → ℕ → AutomationPoint → AutomationPoint → Option A
+around key k give n i p q = cond (ltb i n) (cond (eqb (key q) k) (some (give q q)) (cond (ltb 0 i) (some (give p q)) none)) none
+
+-- 000's search for the surrounding points, over any key
 unfoldable pub surrounded : {A : Type 0} → (AutomationPoint → ℕ) → ℕ → (AutomationPoint → AutomationPoint → A) → List AutomationPoint → Option A
 unfolding placeBy
-surrounded key k give l =
-    let i = placeBy key k l in
-    cond (ltb i (length l))
-    (cond (eqb (key (pointAt l i)) k) (some (give (pointAt l i) (pointAt l i)))
-    (cond (ltb 0 i) (some (give (pointAt l (i - 1)) (pointAt l i))) none))
-    none
+surrounded key k give l = let i = placeBy key k l in around key k give (length l) i (pointAt l (i - 1)) (pointAt l i)
 
 -- ---- by time
 
@@ -100,8 +99,7 @@ rawAtSample (p ∷ (q ∷ l)) sample =
 -- "disabled .. is silent", and what is heard is constrained
 abbrev pub heard : Bool → Limits → Option Float → Option Float
 heard false limits raw = none
-heard true limits none = none
-heard true limits (some v) = some (constrained limits v)
+heard true limits raw = Option·map (constrained limits) raw
 
 -- the lookup by time of a valid envelope
 abbrev pub valueAt : Points → Bool → Limits → Float → Option Float

@@ -17,9 +17,8 @@ use Rattle.points.specs.Points.{listOf, risingBy, timeKey}
 use Rattle.points.specs.declared.Points.{Points}
 use Rattle.points.specs.Refusal.{gives}
 use Rattle.points.specs.declared.AutomationPoint.{AutomationPoint}
-use Rattle.lookup.specs.Lookup.{pointAt, lastPoint, surrounded, between, rawAt, keyFrom, sampleKey, betweenSamples, rawAtSample, heard, keysRise, told, constrainedAnswer}
+use Rattle.lookup.specs.Lookup.{pointAt, lastPoint, around, surrounded, between, rawAt, keyFrom, sampleKey, betweenSamples, rawAtSample, heard, keysRise, told, constrainedAnswer}
 use Rattle.points.specs.Search.{placeBy}
-use Rattle.lookup.specs.Keys.{around}
 use Rattle.lookup.specs.declared.Limits.{Limits}
 use Rattle.lookup.specs.declared.Lookup.{Lookup}
 use Rattle.lookup.specs.declared.Lookup.the-variants.{Silent, Value, Refused}
@@ -49,7 +48,7 @@ module _ {A : Type 0} (key : AutomationPoint → ℕ) (k : ℕ) (give : Automati
 
   -- the same in one: p is the point before i, q the one at it, where there is one
   around-points : (t : Bool) → ltb i n ≡ t → around key k give n i (pointAt ps (i - 1)) (pointAt ps i) ≡ surrounded key k give (take n ps)
-  unfolding surrounded around
+  unfolding surrounded
   around-points true h =
       let s : i < n = ltb-true i n h in
       let b : i - 1 < n = omega arith in
@@ -58,7 +57,6 @@ module _ {A : Type 0} (key : AutomationPoint → ℕ) (k : ℕ) (give : Automati
 
   around-same : (p q : AutomationPoint) → p ≡ pointAt ps (i - 1) → (i < n → q ≡ pointAt ps i) → (t : Bool) → ltb i n ≡ t
       → around key k give n i p q ≡ around key k give n i (pointAt ps (i - 1)) (pointAt ps i)
-  unfolding around
   around-same p q hp hq true h = ap₂ (around key k give n i) hp (hq (ltb-true i n h))
   around-same p q hp hq false h = rw h
 

@@ -4,7 +4,6 @@ use mathlib.Core.Option.{some}
 use borrow.Author.Tests.{lt-ltb, le-ltb, eq-eqb, ne-eqb}
 use lib.Ieee.{Float}
 use Rattle.points.specs.Refusal.{gives}
-use Rattle.lookup.specs.Keys.{around}
 use borrow.Author.Needs.{needs}
 use Rattle.lookup.proofs.time.around.Statement.{statement}
 use Rattle.lookup.proofs.time.around.Tie as tie
@@ -22,19 +21,15 @@ between-requires-2 : tie.Need-between-requires-2
 between-requires-2 c κs = search needs
 
 returns : tie.Need-returns
-unfolding around
 returns c = rw (lt-ltb _ _ (c .before .before .before .before .if1 .taken), eq-eqb _ _ (sym (c .before .before .before .order-key .ensures) ∙ c .before .if2 .taken ∙ c .before .before .order-key2 .ensures)) (ap (λ (v : Float). gives (some v)) (c .between .ensures))
 
 returns-2 : tie.Need-returns-2
-unfolding around
 returns-2 c = rw (lt-ltb _ _ (c .before .before .before .before .before .if1 .taken), ne-eqb _ _ (λ e. c .before .before .if2 .left (c .before .before .before .before .order-key .ensures ∙ e ∙ sym (c .before .before .before .order-key2 .ensures))), lt-ltb _ _ (c .before .if3 .taken)) (ap (λ (v : Float). gives (some v)) (c .between2 .ensures))
 
 returns-3 : tie.Need-returns-3
-unfolding around
 returns-3 c = rw (lt-ltb _ _ (c .before .before .before .before .if1 .taken), ne-eqb _ _ (λ e. c .before .if2 .left (c .before .before .before .order-key .ensures ∙ e ∙ sym (c .before .before .order-key2 .ensures))), le-ltb _ _ (c .if3 .left))
 
 returns-4 : tie.Need-returns-4
-unfolding around
 returns-4 c = rw (le-ltb _ _ (c .if1 .left))
 
 pub around-spec : {M : Type 1} → statement M
