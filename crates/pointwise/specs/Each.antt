@@ -3,7 +3,6 @@ use mathlib.Core.Bool.{cond, _&&_}
 use mathlib.Core.List.{List, [], _∷_, map, foldl}
 use lib.Ieee.{Float, binary32, binary64, add, sub, mul, div, lt, le, ofBits}
 use Rattle.numbers.specs.Narrow.{narrow}
-use Rattle.numbers.specs.Whole.{roundAway}
 use Rattle.numbers.specs.Bounds.{maxNum, minNum, finite}
 use Rattle.curve.specs.Curve.{interpolated}
 use Rattle.curve.specs.declared.CurveType.{CurveType}
@@ -11,6 +10,7 @@ use Rattle.points.specs.Points.{listOf, validPoints}
 use Rattle.points.specs.declared.AutomationPoint.{AutomationPoint}
 use Rattle.points.specs.declared.Points.{Points}
 use Rattle.points.specs.declared.refusal.Refusal.the-variants.{NotValid, NotFinite, BoundsCross}
+use Rattle.grid.specs.Grid.{quantizedTime}
 use Rattle.settle.specs.Settle.{refused, settle}
 use Rattle.settle.specs.declared.EditedPoints.{EditedPoints}
 use Rattle.pointwise.specs.declared.Change.{Change}
@@ -76,7 +76,7 @@ abbrev pub changed : Change → AutomationPoint → AutomationPoint
 changed (Shift offset) p = withTime p (add binary64 (p .time) offset)
 changed (ScaleTime factor) p = withTime p (mul binary64 (p .time) factor)
 changed (Reflect maxTime) p = withTime p (sub binary64 maxTime (p .time))
-changed (Quantize grid) p = withTime p (mul binary64 (roundAway binary64 (div binary64 (p .time) grid)) grid)
+changed (Quantize grid) p = withTime p (quantizedTime grid (p .time))
 changed (Invert min max) p = withValue p (sub binary32 max (sub binary32 (p .value) min))
 changed (Normalize low range newMin newRange) p = withValue p (add binary32 newMin (mul binary32 (div binary32 (sub binary32 (p .value) low) range) newRange))
 changed (Scale factor) p = withValue p (mul binary32 (p .value) factor)
