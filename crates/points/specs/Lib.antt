@@ -1,10 +1,10 @@
--- The records of document 01, and what they hold, as lists.
+-- The records of document 01, and what they hold, as lists; where a search ends; the middle ones of three.
 pub mod Refusal
 pub mod Point
 pub mod Points
+pub mod Search
+pub mod Middles
 -- Laws that the crates above cite too.
 pub mod Laws
 pub mod ValidLaws
 pub mod FloatLaws
-pub mod Search
-pub mod Middles

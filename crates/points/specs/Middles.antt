@@ -8,7 +8,7 @@ use native.Mathlib.Nat.{le-of-suc-le-suc, not-suc-le-zero}
 use native.Mathlib.Omega.{arith}
 use lib.ListN.{length, take, getD}
 
--- the middle one of each three in a row that pass the test: 000's `windows(3)`
+-- what 01's "Peaks and valleys" are found by, 000's `windows(3)`: the middle one of each three in a row that pass the test
 unfoldable pub middles : {A : Type 0} → (A → A → A → Bool) → List A → List A
 middles q [] = []
 middles q (a ∷ []) = []

@@ -1,4 +1,4 @@
--- Laws of the search by a key, for any element and any key: where the keys rise, and the place that a search ends at. Assumes nothing.
+-- The place that a search by a key ends at, for any element and any key; its laws, where the keys rise. Assumes nothing.
 use Prim.Native.Nat.{ℕ, zero, suc, _+_, _-_, _≤_, _<_, suc-le-suc}
 use mathlib.Core.Path.{_≡_, refl, ap}
 use mathlib.Core.Bool.{Bool, true, false, cond}
@@ -14,11 +14,12 @@ use borrow.Author.Tests.{ltb-true, ltb-false, lt-ltb, le-ltb}
 use Rattle.points.specs.Points.{risingBy}
 use Rattle.points.specs.Laws.{and-left, and-right}
 
--- how many elements at the start have a key below k: where a search by that key ends
+-- where 01's "search" for a key k ends: after the elements at the start whose key is below k
 unfoldable pub placeBy : {A : Type 0} → (A → ℕ) → ℕ → List A → ℕ
 placeBy key k [] = 0
 placeBy key k (x ∷ l) = cond (ltb (key x) k) (suc (placeBy key k l)) 0
 
+-- what the search's loop has found so far: low and high enclose the place
 pub record Searching {A : Type 0} (key : A → ℕ) (d : A) (k : ℕ) (l : List A) (n low high : ℕ) : Type 0 where
   pub ordered : low ≤ high
   pub bounded : high ≤ n
