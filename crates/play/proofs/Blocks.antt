@@ -11,7 +11,7 @@ use lib.ListN.{length, take, drop, length-append}
 use lib.Seq.{take-at}
 use Rattle.numbers.specs.Bounds.{finite}
 use Rattle.points.specs.Refusal.{Said, refuses, gives}
-use Rattle.render.specs.Render.{written, Rendered, declined, lastSample, runInto, render}
+use Rattle.render.specs.Render.{written, Rendered, declined, mostSamples, runInto, render}
 use Rattle.lookup.specs.Runs.{run, run-long}
 use Rattle.envelope.specs.Envelope.{limitsOf, validEnvelope}
 use Rattle.fields.specs.Told.{Put}
@@ -36,7 +36,7 @@ module _ (p : Play) (room : List Float) (long : 1024 ≤ length room) where
   rendered-is : rendered
       ≡ cond (validEnvelope (p .envelope))
       (cond (finite (p .rate))
-      (cond (leb (p .next + blockCount p) lastSample) (record { said = gives tt; buffer = written 0 samples room }) (declined 13 room))
+      (cond (leb (p .next + blockCount p) mostSamples) (record { said = gives tt; buffer = written 0 samples room }) (declined 13 room))
       (declined 3 room))
       (declined 1 room)
   unfolding render runInto
@@ -44,7 +44,7 @@ module _ (p : Play) (room : List Float) (long : 1024 ≤ length room) where
 
   pub refused-block : (k : ℕ) (out : List ℕ) → rendered .said ≡ refuses k → nextBlock p out ≡ declines k p out
   unfolding nextBlock
-  refused-block k out q = go (validEnvelope (p .envelope)) (finite (p .rate)) (leb (p .next + blockCount p) lastSample) (sym (ap (λ (x : Rendered). x .said) rendered-is) ∙ q)
+  refused-block k out q = go (validEnvelope (p .envelope)) (finite (p .rate)) (leb (p .next + blockCount p) mostSamples) (sym (ap (λ (x : Rendered). x .said) rendered-is) ∙ q)
     where
       go : (v f t : Bool) → cond v (cond f (cond t (record { said = gives tt; buffer = written 0 samples room }) (declined 13 room)) (declined 3 room)) (declined 1 room) .said ≡ refuses k
           → cond v (cond f (cond t (record { said = gives (length (blockText p)); play = after p; bytes = over (blockText p) out }) (declines 13 p out)) (declines 3 p out)) (declines 1 p out) ≡ declines k p out
@@ -54,15 +54,15 @@ module _ (p : Play) (room : List Float) (long : 1024 ≤ length room) where
       go false f t e = let z : 1 ≡ k = cc in rw z
 
   pub record Given : Type 0 where
-    pub few : p .next + blockCount p ≤ lastSample
+    pub few : p .next + blockCount p ≤ mostSamples
     pub told : (out : List ℕ) → nextBlock p out ≡ record { said = gives (length (blockText p)); play = after p; bytes = over (blockText p) out }
     pub buffer : rendered .buffer ≡ written 0 samples room
 
   pub given : rendered .said ≡ gives tt → Given
   unfolding nextBlock
-  given q = go (validEnvelope (p .envelope)) refl (finite (p .rate)) refl (leb (p .next + blockCount p) lastSample) refl (sym (ap (λ (x : Rendered). x .said) rendered-is) ∙ q)
+  given q = go (validEnvelope (p .envelope)) refl (finite (p .rate)) refl (leb (p .next + blockCount p) mostSamples) refl (sym (ap (λ (x : Rendered). x .said) rendered-is) ∙ q)
     where
-      go : (v : Bool) → validEnvelope (p .envelope) ≡ v → (f : Bool) → finite (p .rate) ≡ f → (t : Bool) → leb (p .next + blockCount p) lastSample ≡ t
+      go : (v : Bool) → validEnvelope (p .envelope) ≡ v → (f : Bool) → finite (p .rate) ≡ f → (t : Bool) → leb (p .next + blockCount p) mostSamples ≡ t
           → cond v (cond f (cond t (record { said = gives tt; buffer = written 0 samples room }) (declined 13 room)) (declined 3 room)) (declined 1 room) .said ≡ gives tt
           → Given
       go true a true b true c e = record { few = leb-true _ _ c; told = λ out. rw (a, b, c); buffer = ap (λ (x : Rendered). x .buffer) rendered-is ∙ rw (a, b, c) }
@@ -131,7 +131,7 @@ block-length p =
 
 pub moved : (p : Play) (out : List ℕ) (n : ℕ) → gives n ≡ nextBlock p out .said → (n ≤ 20480) × (nextBlock p out .play ≡ after p)
 unfolding nextBlock
-moved p out n = go (validEnvelope (p .envelope)) (finite (p .rate)) (leb (p .next + blockCount p) lastSample)
+moved p out n = go (validEnvelope (p .envelope)) (finite (p .rate)) (leb (p .next + blockCount p) mostSamples)
   where
     no : {k : ℕ} → gives n ≡ refuses k → (n ≤ 20480) × (p ≡ after p)
     no q = let z : _≡_ {A = ℕ} 0 1 = cc in absurd (omega arith)

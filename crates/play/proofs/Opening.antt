@@ -8,7 +8,7 @@ use lib.Ieee.{binary64, ofBits}
 use lib.ListN.{length}
 use Rattle.points.specs.Refusal.{number}
 use Rattle.points.specs.declared.refusal.Refusal.{Refusal}
-use Rattle.render.specs.Render.{sampleCount, lastSample}
+use Rattle.render.specs.Render.{sampleCount, mostSamples}
 use Rattle.envelope.specs.Envelope.{new}
 use Rattle.envelope.specs.declared.AutomationEnvelope.{AutomationEnvelope}
 use Rattle.sheet.specs.Sheet.{Input, declined, input, playInput}
@@ -47,14 +47,14 @@ module _ (l : List ℕ) (r : PlayInput) (told : toldInput r ≡ playInput l) whe
 
     module _ (a : r .answer ≡ Accepted) (n : ℕ) (e : n ≡ sampleCount (r .rate) (r .duration)) where
       -- too many samples
-      pub many-opens : {x : Opened} → lastSample < n → Opens (declined 13 0) out x m → Opens (counted (playInput l)) out x m
+      pub many-opens : {x : Opened} → mostSamples < n → Opens (declined 13 0) out x m → Opens (counted (playInput l)) out x m
       unfolding counted block
-      many-opens {x} h o = subst (λ (i : Input). Opens (counted i) out x m) (sym (by Accepted a)) (rw (lt-leb (sampleCount (r .rate) (r .duration)) lastSample (omega arith)) o)
+      many-opens {x} h o = subst (λ (i : Input). Opens (counted i) out x m) (sym (by Accepted a)) (rw (lt-leb (sampleCount (r .rate) (r .duration)) mostSamples (omega arith)) o)
 
-      pub few-opens : {b : ℕ} → n ≤ lastSample → Fitted out 0 sampleNames m b → 13 ≤ length out
+      pub few-opens : {b : ℕ} → n ≤ mostSamples → Fitted out 0 sampleNames m b → 13 ≤ length out
           → Opens (counted (playInput l)) out (record { bytes = b; play = record { envelope = r .envelope; rate = r .rate; count = n; next = 0 } }) m
       unfolding counted block firstText firstPlay
       few-opens {b} h f k =
           subst (λ (i : Input). Opens (counted i) out (record { bytes = b; play = record { envelope = r .envelope; rate = r .rate; count = n; next = 0 } }) m) (sym (by Accepted a))
-          (rw (le-leb (sampleCount (r .rate) (r .duration)) lastSample (omega arith))
+          (rw (le-leb (sampleCount (r .rate) (r .duration)) mostSamples (omega arith))
           (opens (input (r .envelope) block) (put-fits f (omega arith)) (omega arith) refl (ap (λ (j : ℕ). record { envelope = r .envelope; rate = r .rate; count = j; next = 0 }) e)))

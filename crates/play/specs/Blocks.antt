@@ -9,7 +9,7 @@ use lib.Ieee.{binary64, ofBits}
 use Rattle.numbers.specs.Bounds.{finite}
 use Rattle.points.specs.Refusal.{Said, refuses, gives}
 use Rattle.lookup.specs.Runs.{run}
-use Rattle.render.specs.Render.{sampleCount, lastSample}
+use Rattle.render.specs.Render.{sampleCount, mostSamples}
 use Rattle.envelope.specs.Envelope.{new, validEnvelope}
 use Rattle.sheet.specs.Sheet.{Input, declined, input}
 use Rattle.play.specs.Play.{sampleNames, refusalText, samplesOf, sampleLines}
@@ -67,7 +67,7 @@ unfoldable pub nextBlock : Play → List ℕ → BlockTold
 nextBlock p out =
     cond (validEnvelope (p .envelope))
     (cond (finite (p .rate))
-    (cond (leb (p .next + blockCount p) lastSample)
+    (cond (leb (p .next + blockCount p) mostSamples)
     (record { said = gives (length (blockText p)); play = after p; bytes = over (blockText p) out })
     (declines 13 p out))
     (declines 3 p out))

@@ -14,7 +14,7 @@ use Rattle.numbers.specs.Bounds.{finite}
 use Rattle.curve.specs.Curve.{code}
 use Rattle.points.specs.Points.{every, risingBy, validPoints}
 use Rattle.points.specs.Refusal.{gives}
-use Rattle.render.specs.Render.{sampleCount, lastSample}
+use Rattle.render.specs.Render.{sampleCount, mostSamples}
 use Rattle.lookup.specs.Runs.{run, run-long, run-cut}
 use Rattle.envelope.specs.Envelope.{new, validEnvelope}
 use Rattle.envelope.specs.declared.AutomationEnvelope.{AutomationEnvelope}
@@ -57,7 +57,7 @@ lines-cut f i n m =
 pub record Playable (p : Play) : Type 0 where
   pub valid : validEnvelope (p .envelope) ≡ true
   pub rated : finite (p .rate) ≡ true
-  pub few : p .count ≤ lastSample
+  pub few : p .count ≤ mostSamples
   pub begun : p .next ≤ p .count
 
 module _ (p : Play) (h : Playable p) where
@@ -66,7 +66,7 @@ module _ (p : Play) (h : Playable p) where
 
   pub accepted : (out : List ℕ) → nextBlock p out ≡ record { said = gives (length (blockText p)); play = after p; bytes = over (blockText p) out }
   unfolding nextBlock
-  accepted out = rw (h .valid, h .rated, le-leb (p .next + blockCount p) lastSample (omega (arith, h .begun, h .few)))
+  accepted out = rw (h .valid, h .rated, le-leb (p .next + blockCount p) mostSamples (omega (arith, h .begun, h .few)))
 
 -- the samples from the next on
 abbrev left : Play → List ℕ
@@ -146,14 +146,14 @@ pub first-playable : (l : List ℕ) → Playable (firstPlay (counted (playInput 
 unfolding counted firstPlay
 first-playable l = on (playInput l) refl
   where
-    within : (e : AutomationEnvelope) (b : Block) → (validEnvelope e ≡ true) × (finite (b .rate) ≡ true) → (t : Bool) → leb (sampleCount (b .rate) (b .duration)) lastSample ≡ t
+    within : (e : AutomationEnvelope) (b : Block) → (validEnvelope e ≡ true) × (finite (b .rate) ≡ true) → (t : Bool) → leb (sampleCount (b .rate) (b .duration)) mostSamples ≡ t
         → Playable (firstPlay (cond t (input e b) (declined 13 0)))
     within e b g true q = record { valid = g .0; rated = g .1; few = leb-true _ _ q; begun = omega arith }
     within e b g false q = nothing 13 0
 
     on : (i : Input) → playInput l ≡ i → Playable (firstPlay (counted i))
     on (declined n k) q = nothing n k
-    on (input e b) q = within e b (input-playable l e b q) (leb (sampleCount (b .rate) (b .duration)) lastSample) refl
+    on (input e b) q = within e b (input-playable l e b q) (leb (sampleCount (b .rate) (b .duration)) mostSamples) refl
 
 -- ---- the theorem
 

@@ -5,7 +5,7 @@ use mathlib.Core.List.{List, [], _∷_, _++_}
 use lib.Dec.{leb}
 use lib.Ieee.{Float, binary32, toBits}
 use Rattle.lookup.specs.Runs.{run}
-use Rattle.render.specs.Render.{sampleAt, sampleCount, lastSample}
+use Rattle.render.specs.Render.{sampleAt, sampleCount, mostSamples}
 use Rattle.envelope.specs.Envelope.{limitsOf}
 use Rattle.envelope.specs.declared.AutomationEnvelope.{AutomationEnvelope}
 use Rattle.fields.specs.Form.{text, space, newline}
@@ -43,7 +43,7 @@ samplesOf e rate = sampleAt (e .points) (e .enabled) (limitsOf e) rate
 -- "13 has line 0": "first sample plus count .. over 2^32 − 1"
 unfoldable pub counted : Input → Input
 counted (declined n k) = declined n k
-counted (input e b) = cond (leb (sampleCount (b .rate) (b .duration)) lastSample) (input e b) (declined 13 0)
+counted (input e b) = cond (leb (sampleCount (b .rate) (b .duration)) mostSamples) (input e b) (declined 13 0)
 
 -- the lines of every sample: the count is "duration times rate cut to whole"
 unfoldable pub printed : Input → List ℕ

@@ -27,7 +27,8 @@ use Rattle.points.specs.Search.{placeBy}
 use Rattle.lookup.specs.LookupLaws.{raw-first, raw-last, raw-at-point, raw-between, raw-past}
 use Rattle.lookup.specs.Runs.{run, run-same}
 use Rattle.points.specs.Search.{place-at, place-before, place-from, place-bound, place-between, rising-at, key-take}
-use Rattle.render.specs.Writer.{segmentOf, segmentAround, segmentAt, inside, outsideAt, timeOf, Stretch}
+use Rattle.render.specs.Render.{timeOf}
+use Rattle.render.specs.Writer.{segmentOf, segmentAround, segmentAt, inside, outsideAt, Stretch}
 use Rattle.lookup.specs.declared.Limits.{Limits}
 use Rattle.render.specs.declared.Segment.{Segment}
 use Rattle.render.specs.declared.Ends.{Ends}
@@ -200,7 +201,7 @@ pub stretch-end : (seg : Segment) (limits : Limits) (rate : Float) (first i : �
     → Stretch seg limits rate first o out i
 stretch-end seg limits rate first i o out x p q h e =
     record {
-      some = p;
+      least = p;
       most = omega (arith, length-set o 0 x);
       within = h;
       buffer = e ∙ ap (λ (l : List Float). run (λ n. segmentAt limits seg (timeOf rate n)) first i ++ l) (drop-set-lt i o 0 x p);

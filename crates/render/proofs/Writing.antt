@@ -20,9 +20,9 @@ use Rattle.lookup.specs.Limits.{constrained}
 use Rattle.lookup.specs.Lookup.{pointAt}
 use Rattle.points.specs.Search.{placeBy}
 use Rattle.lookup.specs.LookupLaws.{raw-none, raw-one, valid-count, valid-finite, valid-rising}
-use Rattle.render.specs.Render.{sampleAt}
+use Rattle.render.specs.Render.{timeOf, sampleAt}
 use Rattle.lookup.specs.Runs.{run, run-same, run-constant}
-use Rattle.render.specs.Writer.{segmentAround, outsideAt, timeOf, Stretch}
+use Rattle.render.specs.Writer.{segmentAround, outsideAt, Stretch}
 use Rattle.lookup.specs.declared.Limits.{Limits}
 use Rattle.render.specs.declared.Segment.{Segment}
 use Rattle.lookup.proofs.Good.{inside as among}

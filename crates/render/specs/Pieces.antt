@@ -12,7 +12,7 @@ use Rattle.numbers.specs.Bounds.{finite}
 use Rattle.points.specs.Refusal.{Said, refuses, gives}
 use Rattle.points.specs.declared.Points.{Points}
 use Rattle.lookup.specs.Limits.{valid}
-use Rattle.render.specs.Render.{sampleAt, written, Rendered, declined, lastSample, render}
+use Rattle.render.specs.Render.{sampleAt, written, Rendered, declined, mostSamples, render}
 use Rattle.lookup.specs.Runs.{run}
 use Rattle.render.specs.RenderLaws.{accepted, none-written, written-cut, written-long, render-runs}
 use Rattle.lookup.specs.declared.Limits.{Limits}
@@ -41,7 +41,7 @@ pieces points enabled limits rate first place buffer (n ∷ counts) =
 record Passed (points : Points) (limits : Limits) (rate : Float) (first count place : ℕ) (buffer : List Float) : Type 0 where
   valid-is : valid points limits ≡ true
   finite-is : finite rate ≡ true
-  few : first + count ≤ lastSample
+  few : first + count ≤ mostSamples
   room : count ≤ length buffer - place
 
 never : {n : ℕ} → _≡_ {A = Said (Unit {0})} (refuses n) (gives tt) → ⊥
@@ -50,9 +50,9 @@ never h = let z : _≡_ {A = ℕ} 0 1 = cc in omega arith
 module _ (points : Points) (enabled : Bool) (limits : Limits) (rate : Float) where
   passed : (first count place : ℕ) (buffer : List Float) → render points enabled limits rate first count place buffer .said ≡ gives tt → Passed points limits rate first count place buffer
   unfolding render
-  passed first count place buffer = go (valid points limits) refl (finite rate) refl (leb (first + count) lastSample) refl (leb count (length buffer - place)) refl
+  passed first count place buffer = go (valid points limits) refl (finite rate) refl (leb (first + count) mostSamples) refl (leb count (length buffer - place)) refl
     where
-      go : (a : Bool) → valid points limits ≡ a → (b : Bool) → finite rate ≡ b → (c : Bool) → leb (first + count) lastSample ≡ c → (d : Bool) → leb count (length buffer - place) ≡ d
+      go : (a : Bool) → valid points limits ≡ a → (b : Bool) → finite rate ≡ b → (c : Bool) → leb (first + count) mostSamples ≡ c → (d : Bool) → leb count (length buffer - place) ≡ d
           → cond a
           (cond b
           (cond c (cond d (record { said = gives tt; buffer = written place (run (sampleAt points enabled limits rate) first count) buffer }) (declined 8 buffer)) (declined 13 buffer))

@@ -1,4 +1,4 @@
--- 01, "Rendering": a run of samples, its pieces, `to_buffer`, and the walk of `iter_samples`.
+-- 01, "Rendering": a run of samples, `to_buffer`, and the walk of `iter_samples`. A run's pieces are in Pieces.antt.
 use Prim.Native.Nat.{ℕ, _+_, _-_}
 use mathlib.Core.Bool.{Bool, cond, _&&_}
 use mathlib.Core.List.{List, _++_}
@@ -19,9 +19,13 @@ use Rattle.render.specs.declared.SampleStep.{SampleStep}
 use Rattle.render.specs.declared.Walk.{Walk}
 use Rattle.render.specs.declared.Walk.the-variants.{Over, Refused}
 
+-- "i / rate"
+abbrev pub timeOf : Float → ℕ → Float
+timeOf rate i = div binary64 (ofInt binary64 (pos i)) rate
+
 -- "Sample i is the lookup at i / rate"
 abbrev pub valueOfSample : Points → Bool → Limits → Float → ℕ → Option Float
-valueOfSample points enabled limits rate i = valueAt points enabled limits (div binary64 (ofInt binary64 (pos i)) rate)
+valueOfSample points enabled limits rate i = valueAt points enabled limits (timeOf rate i)
 
 -- "0.0 where silent"
 abbrev pub sampleAt : Points → Bool → Limits → Float → ℕ → Float
@@ -40,15 +44,15 @@ pub record Rendered : Type 0 where
 abbrev pub declined : ℕ → List Float → Rendered
 declined n buffer = record { said = refuses n; buffer = buffer }
 
--- 2^32 - 1
-abbrev pub lastSample : ℕ
-lastSample = 4294967295
+-- 01's "2^32 − 1": no more samples are numbered
+abbrev pub mostSamples : ℕ
+mostSamples = 4294967295
 
 -- 13, "first sample plus count .. over 2^32 − 1", then 8, "the answer needs more places than the lent part has (past the buffer's end: none)"; else the samples f gives are written
 unfoldable pub runInto : (ℕ → Float) → ℕ → ℕ → ℕ → List Float → Rendered
 unfolding run
 runInto f first count place buffer =
-    cond (leb (first + count) lastSample)
+    cond (leb (first + count) mostSamples)
     (cond (leb count (length buffer - place)) (record { said = gives tt; buffer = written place (run f first count) buffer })
     (declined 8 buffer))
     (declined 13 buffer)
@@ -82,7 +86,7 @@ unfoldable pub iterSamples : Points → Limits → Float → Float → Said Samp
 iterSamples points limits rate duration =
     cond (valid points limits)
     (cond (finite rate && finite duration)
-    (cond (leb (sampleCount rate duration) lastSample)
+    (cond (leb (sampleCount rate duration) mostSamples)
     (gives (record { «sample_rate» = rate; «current_sample» = 0; «total_samples» = sampleCount rate duration }))
     (refuses 13))
     (refuses 3))
@@ -107,7 +111,7 @@ unfoldable pub nextSample : Points → Bool → Limits → SampleIterator → St
 nextSample points enabled limits w =
     cond (valid points limits)
     (cond (finite (w .«sample_rate»))
-    (cond (leb (w .«total_samples») lastSample)
+    (cond (leb (w .«total_samples») mostSamples)
     (cond (ltb (w .«current_sample») (w .«total_samples»))
     (record {
       said = gives (valueOfSample points enabled limits (w .«sample_rate») (w .«current_sample»));

@@ -16,7 +16,7 @@ use Rattle.points.specs.Refusal.{Said, refuses, gives}
 use Rattle.points.specs.declared.Points.{Points}
 use Rattle.lookup.specs.Limits.{valid}
 use Rattle.lookup.specs.Lookup.{valueAt, getValueAt}
-use Rattle.render.specs.Render.{valueOfSample, sampleAt, written, Rendered, declined, lastSample, runInto, render, sampleCount, toBuffer, iterSamples, nextSample}
+use Rattle.render.specs.Render.{valueOfSample, sampleAt, written, Rendered, declined, mostSamples, runInto, render, sampleCount, toBuffer, iterSamples, nextSample}
 use Rattle.lookup.specs.Runs.{run, run-long, run-cut}
 use Rattle.lookup.specs.declared.Limits.{Limits}
 use Rattle.render.specs.declared.SampleIterator.{SampleIterator}
@@ -27,17 +27,17 @@ answers p q e = (p ∙ ap (λ (r : Rendered). r .said) e, q ∙ ap (λ (r : Rend
 
 -- ---- a run of any samples
 module _ (f : ℕ → Float) (first count place : ℕ) (buffer : List Float) where
-  pub too-many : lastSample < first + count → runInto f first count place buffer ≡ declined 13 buffer
+  pub too-many : mostSamples < first + count → runInto f first count place buffer ≡ declined 13 buffer
   unfolding runInto
-  too-many h = rw (lt-leb (first + count) lastSample h)
+  too-many h = rw (lt-leb (first + count) mostSamples h)
 
-  pub no-room : first + count ≤ lastSample → length buffer - place < count → runInto f first count place buffer ≡ declined 8 buffer
+  pub no-room : first + count ≤ mostSamples → length buffer - place < count → runInto f first count place buffer ≡ declined 8 buffer
   unfolding runInto
-  no-room h k = rw (le-leb (first + count) lastSample h, lt-leb count (length buffer - place) k)
+  no-room h k = rw (le-leb (first + count) mostSamples h, lt-leb count (length buffer - place) k)
 
-  pub accepted : first + count ≤ lastSample → count ≤ length buffer - place → runInto f first count place buffer ≡ record { said = gives tt; buffer = written place (run f first count) buffer }
+  pub accepted : first + count ≤ mostSamples → count ≤ length buffer - place → runInto f first count place buffer ≡ record { said = gives tt; buffer = written place (run f first count) buffer }
   unfolding runInto
-  accepted h k = rw (le-leb (first + count) lastSample h, le-leb count (length buffer - place) k)
+  accepted h k = rw (le-leb (first + count) mostSamples h, le-leb count (length buffer - place) k)
 
   pub written-is : written place (run f first count) buffer ≡ take place buffer ++ (run f first count ++ drop (place + count) buffer)
   written-is = ap (λ (n : ℕ). take place buffer ++ (run f first count ++ drop (place + n) buffer)) (run-long f first count)
@@ -140,15 +140,15 @@ module _ (points : Points) (limits : Limits) (rate duration : Float) where
   open-infinite v h = rw (v, h)
 
   module _ (v : valid points limits ≡ true) (h : (finite rate && finite duration) ≡ true) (n : ℕ) (e : n ≡ sampleCount rate duration) where
-    open-count : iterSamples points limits rate duration ≡ cond (leb n lastSample) (gives (record { «sample_rate» = rate; «current_sample» = 0; «total_samples» = n })) (refuses 13)
+    open-count : iterSamples points limits rate duration ≡ cond (leb n mostSamples) (gives (record { «sample_rate» = rate; «current_sample» = 0; «total_samples» = n })) (refuses 13)
     unfolding iterSamples
     open-count = rw (v, h, e)
 
-    pub open-too-many : lastSample < n → iterSamples points limits rate duration ≡ refuses 13
-    open-too-many k = open-count ∙ rw (lt-leb n lastSample k)
+    pub open-too-many : mostSamples < n → iterSamples points limits rate duration ≡ refuses 13
+    open-too-many k = open-count ∙ rw (lt-leb n mostSamples k)
 
-    pub opened : n ≤ lastSample → iterSamples points limits rate duration ≡ gives (record { «sample_rate» = rate; «current_sample» = 0; «total_samples» = n })
-    opened k = open-count ∙ rw (le-leb n lastSample k)
+    pub opened : n ≤ mostSamples → iterSamples points limits rate duration ≡ gives (record { «sample_rate» = rate; «current_sample» = 0; «total_samples» = n })
+    opened k = open-count ∙ rw (le-leb n mostSamples k)
 
 -- the lookup of a valid envelope isn't refused
 pub lookup-given : (points : Points) (enabled : Bool) (limits : Limits) (time : Float) → valid points limits ≡ true → getValueAt points enabled limits time ≡ gives (valueAt points enabled limits time)
@@ -164,14 +164,14 @@ module _ (points : Points) (enabled : Bool) (limits : Limits) (w : SampleIterato
   unfolding nextSample
   next-infinite v h = rw (v, h)
 
-  pub next-too-many : valid points limits ≡ true → finite (w .«sample_rate») ≡ true → lastSample < w .«total_samples» → nextSample points enabled limits w ≡ record { said = refuses 13; walk = w }
+  pub next-too-many : valid points limits ≡ true → finite (w .«sample_rate») ≡ true → mostSamples < w .«total_samples» → nextSample points enabled limits w ≡ record { said = refuses 13; walk = w }
   unfolding nextSample
-  next-too-many v h k = rw (v, h, lt-leb (w .«total_samples») lastSample k)
+  next-too-many v h k = rw (v, h, lt-leb (w .«total_samples») mostSamples k)
 
-  module _ (v : valid points limits ≡ true) (h : finite (w .«sample_rate») ≡ true) (k : w .«total_samples» ≤ lastSample) where
+  module _ (v : valid points limits ≡ true) (h : finite (w .«sample_rate») ≡ true) (k : w .«total_samples» ≤ mostSamples) where
     pub next-over : w .«total_samples» ≤ w .«current_sample» → nextSample points enabled limits w ≡ record { said = gives none; walk = w }
     unfolding nextSample
-    next-over l = rw (v, h, le-leb (w .«total_samples») lastSample k, le-ltb (w .«current_sample») (w .«total_samples») l)
+    next-over l = rw (v, h, le-leb (w .«total_samples») mostSamples k, le-ltb (w .«current_sample») (w .«total_samples») l)
 
     pub next-is : w .«current_sample» < w .«total_samples»
         → nextSample points enabled limits w
@@ -180,4 +180,4 @@ module _ (points : Points) (enabled : Bool) (limits : Limits) (w : SampleIterato
           walk = record { «sample_rate» = w .«sample_rate»; «current_sample» = w .«current_sample» + 1; «total_samples» = w .«total_samples» };
         }
     unfolding nextSample
-    next-is l = rw (v, h, le-leb (w .«total_samples») lastSample k, lt-ltb (w .«current_sample») (w .«total_samples») l)
+    next-is l = rw (v, h, le-leb (w .«total_samples») mostSamples k, lt-ltb (w .«current_sample») (w .«total_samples») l)

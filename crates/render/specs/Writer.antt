@@ -5,8 +5,7 @@ use mathlib.Core.Bool.{Bool, true, cond, _&&_}
 use mathlib.Core.List.{List, _++_}
 use lib.Dec.{eqb}
 use lib.ListN.{length, drop}
-use lib.IntN.{pos}
-use lib.Ieee.{Float, binary32, binary64, div, lt, le, ofInt, ofBits}
+use lib.Ieee.{Float, binary32, lt, le, ofBits}
 use Rattle.curve.specs.Curve.{interpolated}
 use Rattle.points.specs.Points.{timeKey}
 use Rattle.points.specs.declared.AutomationPoint.{AutomationPoint}
@@ -14,6 +13,7 @@ use Rattle.lookup.specs.Limits.{constrained}
 use Rattle.lookup.specs.Lookup.{fraction}
 use Rattle.lookup.specs.Runs.{run}
 use Rattle.lookup.specs.declared.Limits.{Limits}
+use Rattle.render.specs.Render.{timeOf}
 use Rattle.render.specs.declared.Segment.{Segment}
 use Rattle.render.specs.declared.Ends.{Ends}
 
@@ -33,17 +33,13 @@ segmentAt limits s time = constrained limits (interpolated (s .curve) (s .start)
 abbrev pub inside : Segment → Float → Bool
 inside s time = lt (s .from) time && lt time (s .to)
 
--- "i / rate"
-abbrev pub timeOf : Float → ℕ → Float
-timeOf rate i = div binary64 (ofInt binary64 (pos i)) rate
-
 -- where no segment is: at or before the first time, at or after the last, or a NaN
 abbrev pub outsideAt : Ends → Float → Float
 outsideAt e time = cond (le time (e .first)) (e .early) (cond (le (e .last) time) (e .late) (ofBits binary32 0))
 
 -- r samples of a segment written from the start, all but the first at times inside it
 pub record Stretch (s : Segment) (limits : Limits) (rate : Float) (first : ℕ) (old new : List Float) (r : ℕ) : Type 0 where
-  pub some : 0 < r
+  pub least : 0 < r
   pub most : r ≤ length old
   pub within : (i : ℕ) → i < r → 0 < i → inside s (timeOf rate (first + i)) ≡ true
   pub buffer : new ≡ run (λ i. segmentAt limits s (timeOf rate i)) first r ++ drop r old

@@ -6,7 +6,7 @@ ghost use lib.ListN.{length, replicate};
 ghost use Rattle.points.specs.Points.{validPoints};
 ghost use Rattle.points.specs.Refusal.{said};
 ghost use Rattle.lookup.specs.Lookup.{told};
-ghost use Rattle.render.specs.Render.{sampleAt, runInto, render, toBuffer, iterSamples, walkTold, nextSample, stepTold};
+ghost use Rattle.render.specs.Render.{sampleAt, mostSamples, runInto, render, toBuffer, iterSamples, walkTold, nextSample, stepTold};
 ghost use Rattle.lookup.specs.Runs.{run};
 ghost use Rattle.render.specs.Writer.{segmentOf, segmentAround, segmentAt, outsideAt, Stretch};
 use curve::CurveType;
@@ -16,6 +16,9 @@ use points::AutomationPoint;
 use points::Points;
 use points::refusal::Answer;
 use points::refusal::Refusal;
+
+// 2^32 - 1: what a first sample and a count may add up to.
+const MOST_SAMPLES: u64 = 4294967295;
 
 // 000's SampleIterator, without its borrow.
 pub struct SampleIterator {
@@ -121,7 +124,7 @@ fn fill(v: f32, out: &mut [f32])
 
 // The first sample, and those after it while their times lie inside the segment; how many they are.
 fn write_stretch(seg: Segment, limits: Limits, rate: f64, first: u32, out: &mut [f32]) -> usize
-    requires { ⌜ (0 < length (now out)) × (first + length (now out) ≤ 4294967295) ⌝ }
+    requires { ⌜ (0 < length (now out)) × (first + length (now out) ≤ mostSamples) ⌝ }
     ensures { λ r. ⌜ Stretch seg limits rate first (now (out .entry)) (now (out .exit)) r ⌝ }
 {
     out[0] = seg.value_at(limits, first as f64 / rate);
@@ -142,7 +145,7 @@ fn write_stretch(seg: Segment, limits: Limits, rate: f64, first: u32, out: &mut 
 
 // The samples of two or more points. Each segment is searched for once and serves while the times stay inside it.
 fn write_segments(points: Points, limits: Limits, rate: f64, first: u32, out: &mut [f32])
-    requires { ⌜ (validPoints points ≡ true) × (2 ≤ points .count) × (first + length (now out) ≤ 4294967295) ⌝ }
+    requires { ⌜ (validPoints points ≡ true) × (2 ≤ points .count) × (first + length (now out) ≤ mostSamples) ⌝ }
     ensures { λ _. ⌜ now (out .exit) ≡ run (sampleAt points true limits rate) first (length (now (out .entry))) ⌝ }
 {
     let n = points.count;
@@ -186,7 +189,7 @@ fn write_samples(
     first: u64,
     out: &mut [f32],
 )
-    requires { ⌜ (validPoints points ≡ true) × (first + length (now out) ≤ 4294967295) ⌝ }
+    requires { ⌜ (validPoints points ≡ true) × (first + length (now out) ≤ mostSamples) ⌝ }
     ensures { λ _. ⌜ now (out .exit) ≡ run (sampleAt points enabled limits rate) first (length (now (out .entry))) ⌝ }
 {
     let n = points.count;
@@ -219,9 +222,9 @@ fn run_into(
     ensures { λ r. ⌜ said r ≡ runInto (sampleAt points enabled limits rate) first count place (now (out .entry)) .said ⌝ }
     ensures { λ _. ⌜ now (out .exit) ≡ runInto (sampleAt points enabled limits rate) first count place (now (out .entry)) .buffer ⌝ }
 {
-    if first > 4294967295 {
+    if first > MOST_SAMPLES {
         Answer::Refused(Refusal::TooManySamples)
-    } else if count > 4294967295 - first {
+    } else if count > MOST_SAMPLES - first {
         Answer::Refused(Refusal::TooManySamples)
     } else if count == 0 {
         Answer::Accepted
@@ -296,7 +299,7 @@ pub fn iter_samples(points: Points, limits: Limits, rate: f64, duration: f64) ->
     if lookup::is_valid(points, limits) {
         if numbers::order::is_finite(rate) & numbers::order::is_finite(duration) {
             let n = numbers::convert::f64_to_u64(duration * rate);
-            if n <= 4294967295 {
+            if n <= MOST_SAMPLES {
                 Walk::Over(SampleIterator {
                     sample_rate: rate,
                     current_sample: 0,
@@ -330,7 +333,7 @@ impl SampleIterator {
         if !numbers::order::is_finite(self.sample_rate) {
             return self.stays(Lookup::Refused(Refusal::NotFinite));
         }
-        if self.total_samples > 4294967295 {
+        if self.total_samples > MOST_SAMPLES {
             return self.stays(Lookup::Refused(Refusal::TooManySamples));
         }
         if self.current_sample >= self.total_samples {

@@ -128,7 +128,7 @@ add-k : tie.Need-add-k Inv-loop μ-loop
 add-k c = omega (arith, ends-inside (c .before .before) .1)
 
 loop-less : tie.Need-loop-less Inv-loop μ-loop
-loop-less c = omega (arith, ends-inside (c .before .before) .0, c .before .before .write-stretch .ensures .some)
+loop-less c = omega (arith, ends-inside (c .before .before) .0, c .before .before .write-stretch .ensures .least)
 
 loop-again : tie.Need-loop-again Inv-loop μ-loop
 loop-again c =

@@ -10,7 +10,8 @@ use lib.Seq.{drop-set-lt}
 use lib.Ieee.{Float}
 use borrow.Author.Count.{below-more}
 use Rattle.lookup.specs.Runs.{run, run-turn}
-use Rattle.render.specs.Writer.{inside, timeOf, segmentAt}
+use Rattle.render.specs.Render.{timeOf}
+use Rattle.render.specs.Writer.{inside, segmentAt}
 use Rattle.render.proofs.Segments.{stretch-end}
 use Rattle.render.proofs.write_stretch.Statement.{statement}
 use Rattle.render.proofs.write_stretch.Tie as tie
