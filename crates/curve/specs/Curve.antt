@@ -26,17 +26,17 @@ cubicBezier t cp1 cp2 =
     let mt2 = mt *ᶠ mt in
     f3 *ᶠ mt2 *ᶠ t *ᶠ cp1 +ᶠ f3 *ᶠ mt *ᶠ t2 *ᶠ cp2 +ᶠ t3
 
--- what 001's in-out curves repeat: `-2.0 * t + 2.0`, and `if t < 0.5 { early } else { 1.0 - late / 2.0 }`
-abbrev pub opposite : Float → Float
-opposite t = neg f2 *ᶠ t +ᶠ f2
+-- twice what is left of 1, as 001's in-out curves have it: `-2.0 * t + 2.0`
+abbrev pub twiceTheRest : Float → Float
+twiceTheRest t = neg f2 *ᶠ t +ᶠ f2
 
--- a curve of two halves, by 001's `t < 0.5`
+-- a curve of two halves: 001's `if t < 0.5 { early } else { 1.0 - late / 2.0 }`
 unfoldable pub inOut : Float → Float → Float → Float
 inOut t early late = cond (t <ᶠ f0·5) early (f1 -ᶠ late /ᶠ f2)
 
 -- 001's SCurve and QuadInOut
 unfoldable pub quadInOut : Float → Float
-quadInOut t = let u = opposite t in inOut t (f2 *ᶠ t *ᶠ t) (u *ᶠ u)
+quadInOut t = let u = twiceTheRest t in inOut t (f2 *ᶠ t *ᶠ t) (u *ᶠ u)
 
 -- 01: "Branches use 001's comparisons, so Stepped with t NaN gives 1."
 unfoldable pub stepped : Float → Float
@@ -67,13 +67,13 @@ eased QuadOut t = f1 -ᶠ (f1 -ᶠ t) *ᶠ (f1 -ᶠ t)
 eased QuadInOut t = quadInOut t
 eased CubicIn t = t *ᶠ t *ᶠ t
 eased CubicOut t = let u = f1 -ᶠ t in f1 -ᶠ u *ᶠ u *ᶠ u
-eased CubicInOut t = let u = opposite t in inOut t (f4 *ᶠ t *ᶠ t *ᶠ t) (u *ᶠ u *ᶠ u)
+eased CubicInOut t = let u = twiceTheRest t in inOut t (f4 *ᶠ t *ᶠ t *ᶠ t) (u *ᶠ u *ᶠ u)
 eased QuartIn t = t *ᶠ t *ᶠ t *ᶠ t
 eased QuartOut t = let u = f1 -ᶠ t in f1 -ᶠ u *ᶠ u *ᶠ u *ᶠ u
-eased QuartInOut t = let u = opposite t in inOut t (f8 *ᶠ t *ᶠ t *ᶠ t *ᶠ t) (u *ᶠ u *ᶠ u *ᶠ u)
+eased QuartInOut t = let u = twiceTheRest t in inOut t (f8 *ᶠ t *ᶠ t *ᶠ t *ᶠ t) (u *ᶠ u *ᶠ u *ᶠ u)
 eased QuintIn t = t *ᶠ t *ᶠ t *ᶠ t *ᶠ t
 eased QuintOut t = let u = f1 -ᶠ t in f1 -ᶠ u *ᶠ u *ᶠ u *ᶠ u *ᶠ u
-eased QuintInOut t = let u = opposite t in inOut t (f16 *ᶠ t *ᶠ t *ᶠ t *ᶠ t *ᶠ t) (u *ᶠ u *ᶠ u *ᶠ u *ᶠ u)
+eased QuintInOut t = let u = twiceTheRest t in inOut t (f16 *ᶠ t *ᶠ t *ᶠ t *ᶠ t *ᶠ t) (u *ᶠ u *ᶠ u *ᶠ u *ᶠ u)
 
 -- 01: "gives start + (end − start) times the eased t"
 unfoldable pub interpolated : CurveType → Float → Float → Float → Float
@@ -145,7 +145,7 @@ curves cp1 cp2 =
 unfoldable pub curveOf : ℕ → Float → Float → CurveType
 curveOf n cp1 cp2 = getD (curves cp1 cp2) n Linear
 
--- 01's refusal 2: "sheet curve 6 or above 21"
+-- a number that is a curve's, so that 01's refusal 2, "sheet curve 6 or above 21", isn't given
 abbrev pub known : ℕ → Bool
 known n = not (eqb n 6) && ltb n 22
 

@@ -9,7 +9,7 @@ use Rattle.lookup.specs.declared.Limit.{Limit}
 use Rattle.lookup.specs.declared.Limit.the-variants as limit
 use Rattle.lookup.specs.declared.Limits.{Limits}
 
--- a number, or none
+-- a limit is "a number or none", and a number has to be finite
 abbrev pub finiteLimit : Limit → Bool
 finiteLimit limit.None = true
 finiteLimit (limit.Number x) = finite x

@@ -66,7 +66,7 @@ samePoint p q = lt (abs (sub binary64 (p .time) (q .time))) (ofBits binary64 0x3
 abbrev pub samePointExact : AutomationPoint → AutomationPoint → Bool
 samePointExact p q = samePoint p q && sameCurve (p .curve) (q .curve)
 
--- one or the other
+-- 000's `eq_exact` of two points, or its `eq`
 abbrev pub matching : Bool → AutomationPoint → AutomationPoint → Bool
 matching exact p q = cond exact (samePointExact p q) (samePoint p q)
 

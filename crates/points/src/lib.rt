@@ -1,7 +1,4 @@
 // The point and the list of points: 256 places and a count, by value. Source: envelope.rs (000).
-ghost use mathlib.Core.Path.{_≡_};
-ghost use Prim.Native.Nat.{ℕ, _+_, _<_, _≤_};
-
 pub mod list;
 pub mod point;
 pub mod refusal;

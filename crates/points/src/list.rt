@@ -1,9 +1,9 @@
 // The list of points: 256 places and a count.
 ghost use mathlib.Core.Path.{_≡_};
 ghost use mathlib.Core.List.{[]};
-ghost use Prim.Native.Nat.{min, _≤_};
+ghost use Prim.Native.Nat.{min};
 ghost use Rattle.points.specs.Point.{finitePoint, isUnused, matching};
-ghost use Rattle.points.specs.Points.{listOf, restOf, holding, every, everyPair, rising, validPoints};
+ghost use Rattle.points.specs.Points.{listOf, holding, every, everyPair, rising, validPoints};
 use crate::AutomationPoint;
 use crate::Points;
 
