@@ -1,5 +1,5 @@
 -- Rounding a whole number of a known width, times a power of two, to a format; and the bit pattern of the result. Assumes nothing.
--- `round-at` is over the width w of the number D that is rounded: 53 for the digits of an `f64`, and the number's own length for a `u64`.
+-- `round-at` is over the width w of the number D that is rounded: 53 for the digits of an `f64`, and 64 for a `u64`, whose digits stand at the top of the word.
 use mathlib.Core.Path.{_≡_, refl, sym, ap, _∙_, subst}
 use mathlib.Core.Logic.{_⊎_, inl, inr}
 use mathlib.Core.Bool.{Bool, true, false, not, cond}

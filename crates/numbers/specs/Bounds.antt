@@ -3,8 +3,7 @@
 use mathlib.Core.Bool.{Bool, true, false, cond}
 use lib.Ieee.{Float, nan, inf, fin, lt, isNan}
 
--- A NaN is below nothing and above nothing: where b is one, both tests below fail and a is kept. So either NaN gives the other number, and two give a NaN.
--- Of two that are equal, -0.0 and 0.0 among them, a is kept.
+-- the larger: b where a is a NaN or is smaller, and else a. So a is kept where b is a NaN, which no number is smaller than, and where the two are equal, -0.0 and 0.0 among them.
 unfoldable pub maxNum : Float → Float → Float
 maxNum a b = cond (isNan a) b (cond (lt a b) b a)
 

@@ -55,19 +55,24 @@ fn narrow_bits(b: u64) -> u64
     requires { ⌜ T (not (Ieee.isNan (Ieee.ofBits binary64 b))) ⌝ }
     ensures { λ r. ⌜ r ≡ Ieee.toBits binary32 (narrow (Ieee.ofBits binary64 b)) ⌝ }
 {
-    let sign = (b >> 63) * 2147483648;
-    let e = (b >> 52) % 2048;
-    let t = b % 4503599627370496;
+    // the sign at an `f32`'s place, the exponent's field, and the 52 digits after the leading one
+    let sign = (b >> 63) * 0x8000_0000;
+    let e = (b >> 52) % 0x800;
+    let t = b % 0x10_0000_0000_0000;
+    // below 2^-160, where the shift below would pass 63: far under half of the smallest subnormal
     if e < 863 {
         return sign;
     }
+    // below 2^-126, the smallest normal value: so many times 2^-149
     if e < 897 {
-        return sign + nearest_shr(4503599627370496 + t, 926 - e);
+        return sign + nearest_shr(0x10_0000_0000_0000 + t, 926 - e);
     }
+    // below 2^128: 29 digits go, and a carry out of the others runs into the field
     if e < 1151 {
-        return sign + ((e - 897) * 8388608 + nearest_shr(4503599627370496 + t, 29));
+        return sign + ((e - 897) * 0x80_0000 + nearest_shr(0x10_0000_0000_0000 + t, 29));
     }
-    sign + 2139095040
+    // an infinity
+    sign + 0x7F80_0000
 }
 
 // x rounded to the nearest `f32`, a tie to the even one. Rust's `x as f32`. From the smallest normal

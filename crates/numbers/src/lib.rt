@@ -1,5 +1,6 @@
 // The numbers that everything else borrows: conversions, rounding, square root, order, bounds.
-// Each function is total, and equals a definition of `specs/` over whole numbers.
+// Each public function is total, and equals a definition over whole numbers: of `specs/`, or of the
+// kit's IEEE 754 library.
 pub mod convert;
 pub mod order;
 pub mod root;

@@ -25,7 +25,7 @@ pub fn order_key(x: f64) -> u64
     }
 }
 
-// IEEE 754's totalOrder: by size, -0.0 before 0.0, and a NaN last. Rust's `x.total_cmp(&y)`.
+// IEEE 754's totalOrder: by value, -0.0 before 0.0, and a NaN last. Rust's `x.total_cmp(&y)`.
 pub fn total_cmp(x: f64, y: f64) -> Ordering
     ensures { λ r. ⌜ r ≡ totalOf x y ⌝ }
 {
