@@ -9,11 +9,15 @@ use Rattle.points.specs.Points.{listOf, holding}
 use Rattle.points.specs.ValidLaws.{listOf-holding}
 use Rattle.points.specs.declared.AutomationPoint.{AutomationPoint}
 use Rattle.points.specs.declared.Points.{Points}
-use Rattle.pointwise.specs.Places.{mappedIn, fadedInPlaces, fadedOutPlaces}
+use Rattle.pointwise.specs.Places.{mappedIn, fadedInPlaces}
 use Rattle.pointwise.specs.Each.{zero64, changed, firstTime, lastTime, fadedInAll, fadedOutAll}
 use Rattle.pointwise.specs.declared.Change.{Change}
 use Rattle.pointwise.specs.declared.Change.the-variants.{FadeIn, FadeOut}
 use Rattle.pointwise.proofs.Mapped.{mapped-holding}
+
+-- the points faded out, in their places
+abbrev pub fadedOutPlaces : Float → CurveType → Points → Points
+fadedOutPlaces duration c ps = cond (le duration zero64) ps (mappedIn (changed (FadeOut (sub binary64 (lastTime (listOf ps)) duration) duration c)) ps)
 
 -- the points as they are, or each changed by what the list says
 kept-or-mapped : (b : Bool) (change : List AutomationPoint → Change) (l : List AutomationPoint)

@@ -2,22 +2,18 @@
 use mathlib.Core.Bool.{cond}
 use mathlib.Core.List.{map, _++_}
 use lib.ListN.{take, drop}
-use lib.Ieee.{Float, binary64, sub, le}
+use lib.Ieee.{Float, le}
 use Rattle.curve.specs.declared.CurveType.{CurveType}
 use Rattle.points.specs.Points.{listOf}
 use Rattle.points.specs.declared.AutomationPoint.{AutomationPoint}
 use Rattle.points.specs.declared.Points.{Points}
-use Rattle.pointwise.specs.Each.{zero64, changed, firstTime, lastTime}
-use Rattle.pointwise.specs.declared.Change.the-variants.{FadeIn, FadeOut}
+use Rattle.pointwise.specs.Each.{zero64, changed, firstTime}
+use Rattle.pointwise.specs.declared.Change.the-variants.{FadeIn}
 
 -- the points changed in their places
 abbrev pub mappedIn : (AutomationPoint → AutomationPoint) → Points → Points
 mappedIn f ps = record { count = ps .count; places = map f (take (ps .count) (ps .places)) ++ drop (ps .count) (ps .places) }
 
--- the points faded in their places
+-- the points faded in, in their places
 abbrev pub fadedInPlaces : Float → CurveType → Points → Points
 fadedInPlaces duration c ps = cond (le duration zero64) ps (mappedIn (changed (FadeIn (firstTime (listOf ps)) duration c)) ps)
-
--- the same at the end
-abbrev pub fadedOutPlaces : Float → CurveType → Points → Points
-fadedOutPlaces duration c ps = cond (le duration zero64) ps (mappedIn (changed (FadeOut (sub binary64 (lastTime (listOf ps)) duration) duration c)) ps)

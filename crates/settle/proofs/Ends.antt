@@ -49,6 +49,11 @@ ends ps new l f o h n = ends-valid ps new l f o (λ v. (h, n))
 pub listOf-few : (ps : Points) → length (ps .places) ≡ 256 → length (listOf ps) ≤ 256
 listOf-few ps len = omega (arith, length-take (ps .count) (ps .places))
 
+-- what `finish` ensures: its two sentences, of which the first gives the second
+pub as-edit : {r : EditedPoints} (ps new : Points) (ok : Bool) → length (new .places) ≡ 256 → r ≡ finished ps ok new
+    → (r ≡ finished ps ok new) × (holding (listOf new) ≡ new → r ≡ editPoints ps ok (listOf new))
+as-edit ps new ok len f = (f, λ h. ends ps new (listOf new) f refl (listOf-few new len) (sym h))
+
 -- an edit that keeps the number of the points: `g` makes of the places what `h` makes of the list
 pub ends-kept : {r : EditedPoints} (g : Points → Points) (h : List AutomationPoint → List AutomationPoint)
     → ((l : List AutomationPoint) → g (holding l) ≡ holding (h l)) → ((l : List AutomationPoint) → length (h l) ≡ length l)

@@ -1,6 +1,7 @@
-// The end that all edits of the points share: the refusals in 01's order as far as the points decide them, or the new points.
+// What an edit of the points answers, and the end of those that build their points before the tests: the refusals in 01's order as far as the points decide them, or the new points.
 ghost use mathlib.Core.Path.{_≡_};
-ghost use Rattle.settle.specs.Settle.{refused};
+ghost use Rattle.points.specs.Points.{listOf, holding};
+ghost use Rattle.settle.specs.Settle.{refused, editPoints};
 ghost use Rattle.settle.specs.Finish.{finished};
 use points::Points;
 use points::refusal::Answer;
@@ -20,10 +21,11 @@ pub fn refuse(points: Points, refusal: Refusal) -> EditedPoints
     }
 }
 
-// `ok` says that the edit's arguments are finite, and `new` is what it makes of the points.
+// `ok` says that the edit's arguments are finite, and `new` is what it makes of the points. Whoever calls it hands over new points that hold their list.
 // The loop stands in the body: a function of its own for the tests would copy the places.
 pub fn finish(points: Points, ok: bool, new: Points) -> EditedPoints
     ensures { λ r. ⌜ r ≡ finished points ok new ⌝ }
+    ensures { λ r. ⌜ (holding (listOf new) ≡ new → r ≡ editPoints points ok (listOf new)) ⌝ }
 {
     if points.is_valid() {
         if ok {

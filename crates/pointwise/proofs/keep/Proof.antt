@@ -9,7 +9,7 @@ finish-requires : tie.Need-finish-requires
 finish-requires c κs = search needs
 
 returns : tie.Need-returns
-returns c = ends-same (c .before .args .points) (c .finish .ensures) refl (places (c .before .args .points) _ (c .before .good .0))
+returns c = ends-same (c .before .args .points) (c .finish .ensures .0) refl (places (c .before .args .points) _ (c .before .good .0))
 
 pub keep-spec : {M : Type 1} → statement M
 keep-spec = tie.close (tie.spec finish-requires returns)

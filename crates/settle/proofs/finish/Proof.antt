@@ -6,6 +6,7 @@ use Rattle.points.specs.Point.{finitePoint}
 use Rattle.points.specs.Points.{every, risingBy, rising, listOf}
 use Rattle.points.specs.Laws.{take-min}
 use Rattle.points.proofs.Good.{places}
+use Rattle.settle.proofs.Ends.{as-edit}
 use Rattle.settle.proofs.Tested.{LastKey, finite-more, rise-more, last-more, out-valid, out-ok, out-finite, out-rise, out-accepted}
 use Rattle.settle.proofs.finish.Statement.{statement}
 use Rattle.settle.proofs.finish.Tie as tie
@@ -76,7 +77,8 @@ returns c =
     let h = c .before .before .before .loop in
     let at : h .i ≡ c .before .before .before .before .used .result = omega arith in
     let whole : take (h .i) (new .places) ≡ listOf new = ap (λ (k : ℕ). take k (new .places)) (at ∙ c .before .before .before .before .used .ensures) ∙ take-min (new .count) (new .places) 256 len in
-    out-accepted (c .before .before .before .before .before .before .before .before .args .points) new (c .before .before .before .before .before .before .before .before .args .ok) (c .before .before .before .before .before .before .before .is-valid .ensures) (c .before .before .before .before .before .before .if1 .taken) (c .before .before .before .before .before .if2 .taken) (h .inv .1 ∙ ap (every finitePoint) whole) (c .before .if3 .taken) (h .inv .2 ∙ ap rising whole) (c .if4 .taken)
+    as-edit (c .before .before .before .before .before .before .before .before .args .points) new (c .before .before .before .before .before .before .before .before .args .ok) len
+    (out-accepted (c .before .before .before .before .before .before .before .before .args .points) new (c .before .before .before .before .before .before .before .before .args .ok) (c .before .before .before .before .before .before .before .is-valid .ensures) (c .before .before .before .before .before .before .if1 .taken) (c .before .before .before .before .before .if2 .taken) (h .inv .1 ∙ ap (every finitePoint) whole) (c .before .if3 .taken) (h .inv .2 ∙ ap rising whole) (c .if4 .taken))
 
 returns-2 : tie.Need-returns-2 Inv-loop μ-loop
 returns-2 c =
@@ -85,8 +87,9 @@ returns-2 c =
     let h = c .before .before .before .before .loop in
     let at : h .i ≡ c .before .before .before .before .before .used .result = omega arith in
     let whole : take (h .i) (new .places) ≡ listOf new = ap (λ (k : ℕ). take k (new .places)) (at ∙ c .before .before .before .before .before .used .ensures) ∙ take-min (new .count) (new .places) 256 len in
-    c .refuse .ensures
-    ∙ out-rise (c .before .before .before .before .before .before .before .before .before .args .points) new (c .before .before .before .before .before .before .before .before .before .args .ok) (c .before .before .before .before .before .before .before .before .is-valid .ensures) (c .before .before .before .before .before .before .before .if1 .taken) (c .before .before .before .before .before .before .if2 .taken) (h .inv .1 ∙ ap (every finitePoint) whole) (c .before .before .if3 .taken) (h .inv .2 ∙ ap rising whole) (c .before .if4 .left)
+    as-edit (c .before .before .before .before .before .before .before .before .before .args .points) new (c .before .before .before .before .before .before .before .before .before .args .ok) len
+    (c .refuse .ensures
+    ∙ out-rise (c .before .before .before .before .before .before .before .before .before .args .points) new (c .before .before .before .before .before .before .before .before .before .args .ok) (c .before .before .before .before .before .before .before .before .is-valid .ensures) (c .before .before .before .before .before .before .before .if1 .taken) (c .before .before .before .before .before .before .if2 .taken) (h .inv .1 ∙ ap (every finitePoint) whole) (c .before .before .if3 .taken) (h .inv .2 ∙ ap rising whole) (c .before .if4 .left))
 
 returns-3 : tie.Need-returns-3 Inv-loop μ-loop
 returns-3 c =
@@ -95,14 +98,19 @@ returns-3 c =
     let h = c .before .before .before .loop in
     let at : h .i ≡ c .before .before .before .before .used .result = omega arith in
     let whole : take (h .i) (new .places) ≡ listOf new = ap (λ (k : ℕ). take k (new .places)) (at ∙ c .before .before .before .before .used .ensures) ∙ take-min (new .count) (new .places) 256 len in
-    c .refuse2 .ensures
-    ∙ out-finite (c .before .before .before .before .before .before .before .before .args .points) new (c .before .before .before .before .before .before .before .before .args .ok) (c .before .before .before .before .before .before .before .is-valid .ensures) (c .before .before .before .before .before .before .if1 .taken) (c .before .before .before .before .before .if2 .taken) (h .inv .1 ∙ ap (every finitePoint) whole) (c .before .if3 .left)
+    as-edit (c .before .before .before .before .before .before .before .before .args .points) new (c .before .before .before .before .before .before .before .before .args .ok) len
+    (c .refuse2 .ensures
+    ∙ out-finite (c .before .before .before .before .before .before .before .before .args .points) new (c .before .before .before .before .before .before .before .before .args .ok) (c .before .before .before .before .before .before .before .is-valid .ensures) (c .before .before .before .before .before .before .if1 .taken) (c .before .before .before .before .before .if2 .taken) (h .inv .1 ∙ ap (every finitePoint) whole) (c .before .if3 .left))
 
 returns-4 : tie.Need-returns-4 Inv-loop μ-loop
-returns-4 c = c .refuse3 .ensures ∙ out-ok (c .before .before .before .before .args .points) (c .before .before .before .before .args .t3) (c .before .before .before .before .args .ok) (c .before .before .before .is-valid .ensures) (c .before .before .if1 .taken) (c .before .if2 .left)
+returns-4 c =
+    as-edit (c .before .before .before .before .args .points) (c .before .before .before .before .args .t3) (c .before .before .before .before .args .ok) (places (c .before .before .before .before .args .t3) _ (c .before .before .before .before .good .1 .1 .0))
+    (c .refuse3 .ensures ∙ out-ok (c .before .before .before .before .args .points) (c .before .before .before .before .args .t3) (c .before .before .before .before .args .ok) (c .before .before .before .is-valid .ensures) (c .before .before .if1 .taken) (c .before .if2 .left))
 
 returns-5 : tie.Need-returns-5 Inv-loop μ-loop
-returns-5 c = c .refuse4 .ensures ∙ out-valid (c .before .before .before .args .points) (c .before .before .before .args .t3) (c .before .before .before .args .ok) (c .before .before .is-valid .ensures) (c .before .if1 .left)
+returns-5 c =
+    as-edit (c .before .before .before .args .points) (c .before .before .before .args .t3) (c .before .before .before .args .ok) (places (c .before .before .before .args .t3) _ (c .before .before .before .good .1 .1 .0))
+    (c .refuse4 .ensures ∙ out-valid (c .before .before .before .args .points) (c .before .before .before .args .t3) (c .before .before .before .args .ok) (c .before .before .is-valid .ensures) (c .before .if1 .left))
 
 pub finish-spec : {M : Type 1} → statement M
 finish-spec =

@@ -21,7 +21,7 @@ returns : tie.Need-returns
 returns c =
     let ps = c .before .before .before .args .points in
     let q = near (c .before .before .before .args .time) in
-    ends ps (c .before .without-first-near .result) (removeFirst q (listOf ps)) (c .finish .ensures) (c .before .before .is-finite .ensures)
+    ends ps (c .before .without-first-near .result) (removeFirst q (listOf ps)) (c .finish .ensures .0) (c .before .before .is-finite .ensures)
     (omega (arith, remove-few q (listOf ps), listOf-few ps (places ps _ (c .before .before .before .good .0)))) (c .before .without-first-near .ensures)
 
 pub remove-point-at-spec : {M : Type 1} → statement M

@@ -37,7 +37,7 @@ returns c =
     let f = changed (Reflect (lastTime l)) in
     let len = places ps _ (c .before .before .before .before .good .0) in
     let m : c .before .before .map-points .result ≡ mappedIn f ps = c .before .before .map-points .ensures ∙ ap (λ (t : Float). mappedIn (changed (Reflect t)) ps) (c .before .before .before .last-time .ensures) in
-    ends-valid ps (c .before .turned .result) (reversed l) (c .finish .ensures) refl
+    ends-valid ps (c .before .turned .result) (reversed l) (c .finish .ensures .0) refl
     (λ v. (omega (arith, reverse-long (map f l), length-map l f, listOf-few ps len), c .before .turned .ensures ∙ ap (λ (k : List AutomationPoint). holding (lists.reverse k)) (ap listOf m ∙ mapped-list f ps v len)))
 
 pub reverse-spec : {M : Type 1} → statement M

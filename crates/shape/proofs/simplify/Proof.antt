@@ -21,7 +21,7 @@ returns : tie.Need-returns
 returns c =
     let ps = c .before .before .before .args .points in
     let t = c .before .before .before .args .tolerance in
-    ends ps (c .before .kept-differing .result) (simplified t (listOf ps)) (c .finish .ensures) (c .before .before .is-finitef .ensures)
+    ends ps (c .before .kept-differing .result) (simplified t (listOf ps)) (c .finish .ensures .0) (c .before .before .is-finitef .ensures)
     (omega (arith, simplified-bound t (listOf ps), listOf-few ps (places ps _ (c .before .before .before .good .0)))) (c .before .kept-differing .ensures)
 
 pub simplify-spec : {M : Type 1} → statement M
