@@ -1,4 +1,4 @@
--- A combination's times rise, so 6 can't meet it, and an accepted one is a valid envelope's points. Assumes nothing.
+-- A combination's times rise, so 6 can't meet it. Assumes nothing.
 use Prim.Native.Nat.{ℕ}
 use mathlib.Core.Path.{_≡_, refl, sym, ap, _∙_}
 use mathlib.Core.Bool.{Bool, true, false, cond, _&&_}
@@ -16,7 +16,6 @@ use Rattle.points.specs.declared.refusal.Refusal.{Refusal}
 use Rattle.points.specs.declared.refusal.Refusal.the-variants.{NotValid, NotFinite, TooManyPoints, TimesDontRise}
 use Rattle.points.specs.declared.refusal.Answer.the-variants.{Accepted, Refused}
 use Rattle.settle.specs.Settle.{refused, settle, editPoints}
-use Rattle.settle.specs.Accepted.{accepted-valid}
 use Rattle.settle.specs.declared.EditedPoints.{EditedPoints}
 use Rattle.lookup.specs.Limits.{finiteLimits}
 use Rattle.combine.specs.Combine.{finiteOperation, mergeTimes, timeOf, timesOf, validSide, combinedPoint, combinedList, combinedPoints}
@@ -55,6 +54,7 @@ validWays op a b =
     (refused (a .points) NotFinite))
     (refused (a .points) NotFinite)
 
+-- those of any two: 1 for either side first
 unfoldable pub combinedWays : Operation → Side → Side → EditedPoints
 combinedWays op a b =
     cond (validSide a)
@@ -99,16 +99,3 @@ never-falls op a b h =
     go true true false y z e = other-refusal NotFinite (λ q. omega arith) e
     go true false x y z e = other-refusal NotValid (λ q. omega arith) e
     go false w x y z e = other-refusal NotValid (λ q. omega arith) e
-
--- an accepted combination's points are valid
-not-accepted : {A : Type 0} (why : Refusal) → Refused why ≡ Accepted → A
-not-accepted why h = let z : _≡_ {A = ℕ} 0 1 = cc in absurd (omega arith)
-
-pub combined-valid : (op : Operation) (a b : Side) → combinedPoints op a b .answer ≡ Accepted → validPoints (combinedPoints op a b .points) ≡ true
-unfolding combinedPoints
-combined-valid op a b = go (validSide a && validSide b)
-  where
-    go : (x : Bool) → cond x (editPoints (a .points) (finiteOperation op) (combinedList op a b)) (refused (a .points) NotValid) .answer ≡ Accepted
-        → validPoints (cond x (editPoints (a .points) (finiteOperation op) (combinedList op a b)) (refused (a .points) NotValid) .points) ≡ true
-    go true h = accepted-valid (a .points) (finiteOperation op) (combinedList op a b) h
-    go false h = not-accepted NotValid h

@@ -51,6 +51,7 @@ parts false b c d h = absurd (false≢true h)
 
 -- ---- an edit of points either refuses and keeps them, or holds a list that gives valid ones
 
+-- what an accepted edit that makes the list l gives
 abbrev pub accepted : List AutomationPoint → EditedPoints
 accepted l = record { answer = Accepted; points = holding l }
 
@@ -118,6 +119,7 @@ module _ (P : EditedPoints → Type 0) (ps : Points) (refusing : (n : Refusal) �
 
 -- ---- what an edit of the envelope e says and gives
 
+-- the envelope that comes back is valid where the edit is accepted, and e where it is refused; it has e's target
 pub record Fair (e : AutomationEnvelope) (t : EditTold) : Type 0 where
   pub valid : t .said ≡ gives tt → validEnvelope (t .envelope) ≡ true
   pub kept : (n : ℕ) → t .said ≡ refuses n → t .envelope ≡ e
@@ -179,7 +181,7 @@ merge-fair e other offset =
     (λ f. merge-either (λ r. Fair e (edited e r)) (e .points) (edited-refused e) (other .points) offset (edited-accepted e (merged (listOf (e .points)) (listOf (other .points)) offset)))
     (declines e 1)
 
--- ---- 01's list of edits, and merge
+-- ---- 01's list of edits
 
 -- an accepted edit leaves a valid envelope
 pub edit-valid : (d : Edit) (e : AutomationEnvelope) → editOf d e .said ≡ gives tt → validEnvelope (editOf d e .envelope) ≡ true
@@ -192,12 +194,3 @@ edit-refused d e n h = edit-fair d e .kept n h
 -- "given the target the envelope has"
 pub edit-target : (d : Edit) (e : AutomationEnvelope) → editOf d e .envelope .target ≡ e .target
 edit-target d e = edit-fair d e .target
-
-pub merge-valid : (e other : AutomationEnvelope) (offset : Float) → mergeOf e other offset .said ≡ gives tt → validEnvelope (mergeOf e other offset .envelope) ≡ true
-merge-valid e other offset h = merge-fair e other offset .valid h
-
-pub merge-refused : (e other : AutomationEnvelope) (offset : Float) (n : ℕ) → mergeOf e other offset .said ≡ refuses n → mergeOf e other offset .envelope ≡ e
-merge-refused e other offset n h = merge-fair e other offset .kept n h
-
-pub merge-target : (e other : AutomationEnvelope) (offset : Float) → mergeOf e other offset .envelope .target ≡ e .target
-merge-target e other offset = merge-fair e other offset .target

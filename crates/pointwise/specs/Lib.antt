@@ -1,4 +1,3 @@
 -- What each edit of 000 that changes each point by itself makes of a list of points.
 pub mod Each
 pub mod Places
-pub mod Accepted

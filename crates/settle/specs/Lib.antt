@@ -1,4 +1,3 @@
 -- What every edit of the points is held to: its refusals, and the points that an accepted one gives.
 pub mod Settle
 pub mod Finish
-pub mod Accepted
