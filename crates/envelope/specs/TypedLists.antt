@@ -6,30 +6,33 @@ use mathlib.Core.List.{List, [], _∷_, _++_, map, foldl, reverse, reverseAux}
 use native.Mathlib.Omega.{arith}
 use borrow.Author.Tests.{eq-eqb}
 use lib.Dec.{T, ltb, eqb}
-use lib.ListN.{length, take, replicate, length-append, length-replicate}
+use lib.ListN.{length, take, drop, replicate, length-append, length-replicate}
 use lib.Ieee.{Float, binary32, binary64, fits, add, sub, lt, le}
 use lib.Ieee.Bits.{is-true, ofBits-fits}
 use lib.Ieee.Fits.{cond-fits, add-fits, sub-fits, mul-fits}
 use Rattle.numbers.specs.Tests.{yes as passes}
 use Rattle.curve.specs.Curve.{controls}
+use Rattle.curve.specs.F32.{f0, f1}
 use Rattle.curve.specs.declared.CurveType.{CurveType}
 use Rattle.curve.specs.declared.CurveType.the-variants.{Linear}
 use Rattle.points.specs.Point.{unused, pointWith}
 use Rattle.points.specs.Points.{every, timeKey, listOf, holding}
 use Rattle.points.specs.Laws.{and-left, and-right, every-append}
+use Rattle.points.specs.Middles.{middles}
 use Rattle.points.specs.declared.AutomationPoint.{AutomationPoint}
 use Rattle.points.specs.declared.Points.{Points}
-use Rattle.pointwise.specs.Each.{zero64, zero32, one32, withTime, withValue, clampedTo, fadedIn, fadedOut, gated, compressed, changed, lowestValue, highestValue, firstTime, lastTime, scaledTime, normalized, fadedInAll, fadedOutAll}
+use Rattle.pointwise.specs.Each.{zero64, withTime, withValue, clampedTo, fadedIn, fadedOut, gated, compressed, changed, lowestValue, highestValue, firstTime, lastTime, scaledTime, normalized, fadedInAll, fadedOutAll}
 use Rattle.pointwise.specs.declared.Change.{Change}
 use Rattle.pointwise.specs.declared.Change.the-variants.{Shift, ScaleTime, Reflect, Quantize, Invert, Normalize, Scale, Offset, Clamp, FadeIn, FadeOut, Gate, Compress}
 use Rattle.insert.specs.Insert.{insertPoint, insertAll, merged, rampList, pulseList}
-use Rattle.shape.specs.Shape.{keepIf, removeFirst, reversed, firsts, quantized, differs, innerKept, simplified}
+use Rattle.shape.specs.Shape.{keepIf, removeFirst, reversed, firsts, quantized, differs, simplified}
 use Rattle.envelope.specs.Typed.{typedCurve, typedPosition, typedPoint, typedPoints}
 use Rattle.envelope.specs.EditLaws.{either, both, parts}
 
 -- ---- a list without some of its elements
 
 module _ {A : Type 0} where
+  -- `Sub m l`: m is l without some of its elements
   pub data Sub : List A → List A → Type 0 where
     none : {l : List A} → Sub [] l
     whole : {l : List A} → Sub l l
@@ -64,16 +67,16 @@ unfolding firsts
 firsts-sub [] = none
 firsts-sub (p ∷ l) = keep (keepIf-within _ (firsts-sub l))
 
-innerKept-sub : (tolerance : Float) (p : AutomationPoint) (l : List AutomationPoint) → Sub (innerKept tolerance (p ∷ l)) l
-unfolding innerKept
-innerKept-sub tolerance p [] = none
-innerKept-sub tolerance p (q ∷ []) = whole
-innerKept-sub tolerance p (q ∷ (r ∷ l)) =
-    either (λ (m : List AutomationPoint). Sub m (q ∷ (r ∷ l))) (differs tolerance p q r) (λ h. keep (innerKept-sub tolerance q (r ∷ l))) (skip (innerKept-sub tolerance q (r ∷ l)))
+inner-sub : (tolerance : Float) (p q : AutomationPoint) (l : List AutomationPoint) → Sub (middles (differs tolerance) (p ∷ (q ∷ l)) ++ drop (length l) (q ∷ l)) (q ∷ l)
+unfolding middles
+inner-sub tolerance p q [] = whole
+inner-sub tolerance p q (r ∷ l) =
+    either (λ (m : List AutomationPoint). Sub (m ++ drop (length l) (r ∷ l)) (q ∷ (r ∷ l))) (differs tolerance p q r) (λ h. keep (inner-sub tolerance q r l)) (skip (inner-sub tolerance q r l))
 
 pub simplified-sub : (tolerance : Float) (l : List AutomationPoint) → Sub (simplified tolerance l) l
 simplified-sub tolerance [] = none
-simplified-sub tolerance (p ∷ l) = keep (innerKept-sub tolerance p l)
+simplified-sub tolerance (p ∷ []) = whole
+simplified-sub tolerance (p ∷ (q ∷ l)) = keep (inner-sub tolerance p q l)
 
 -- ---- a test that every element passes
 
@@ -121,6 +124,7 @@ every-insert q p k (x ∷ l) h =
 
 -- ---- a point in range of its types
 
+-- every point of the list is in range
 abbrev pub TypedList : List AutomationPoint → Type 0
 TypedList l = every typedPoint l ≡ true
 
@@ -140,7 +144,7 @@ value-or p b x t h = cond-fits binary32 b x (p .value) h (passes (point-parts p 
 
 pub linear-typed : typedCurve Linear ≡ true
 unfolding controls
-linear-typed = let z = is-true (fits binary32 zero32) (ofBits-fits binary32 0) in both z z
+linear-typed = let z = is-true (fits binary32 f0) (ofBits-fits binary32 0) in both z z
 
 pub unused-typed : typedPoint unused ≡ true
 unfolding fits
@@ -193,7 +197,7 @@ module _ (l : List AutomationPoint) (h : TypedList l) where
   pub normalized-typed : (min max : Float) → TypedList (normalized min max l)
   normalized-typed min max =
       let range = sub binary32 (highestValue l) (lowestValue l) in
-      either TypedList (lt zero32 range) (λ b. each (Normalize (lowestValue l) range min (sub binary32 max min)) refl l h) h
+      either TypedList (lt f0 range) (λ b. each (Normalize (lowestValue l) range min (sub binary32 max min)) refl l h) h
 
   pub fadedInAll-typed : (duration : Float) (c : CurveType) → TypedList (fadedInAll duration c l)
   fadedInAll-typed duration c = either TypedList (le duration zero64) (λ b. h) (each (FadeIn (firstTime l) duration c) refl l h)
@@ -242,11 +246,11 @@ pulseList-typed fadeIn sustain fadeOut c d k =
     let held = add binary64 fadeIn sustain in
     let z = ofBits-fits binary32 0 in
     let o = ofBits-fits binary32 0x3F80_0000 in
-    insertAll-typed [] list-none (pointWith zero64 zero32 Linear ∷ (pointWith fadeIn one32 c ∷ (pointWith held one32 Linear ∷ (pointWith (add binary64 held fadeOut) zero32 c ∷ []))))
-    (list-cons _ _ (pointWith-typed zero64 zero32 Linear (ofBits-fits binary64 0) z linear-typed)
-    (list-cons _ _ (pointWith-typed fadeIn one32 c d o k)
-    (list-cons _ _ (pointWith-typed held one32 Linear (add-fits binary64 fadeIn sustain) o linear-typed)
-    (list-cons _ _ (pointWith-typed (add binary64 held fadeOut) zero32 c (add-fits binary64 held fadeOut) z k) list-none))))
+    insertAll-typed [] list-none (pointWith zero64 f0 Linear ∷ (pointWith fadeIn f1 c ∷ (pointWith held f1 Linear ∷ (pointWith (add binary64 held fadeOut) f0 c ∷ []))))
+    (list-cons _ _ (pointWith-typed zero64 f0 Linear (ofBits-fits binary64 0) z linear-typed)
+    (list-cons _ _ (pointWith-typed fadeIn f1 c d o k)
+    (list-cons _ _ (pointWith-typed held f1 Linear (add-fits binary64 fadeIn sustain) o linear-typed)
+    (list-cons _ _ (pointWith-typed (add binary64 held fadeOut) f0 c (add-fits binary64 held fadeOut) z k) list-none))))
 
 -- ---- the places
 

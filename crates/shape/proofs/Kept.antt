@@ -8,18 +8,18 @@ use native.Mathlib.Nat.{le-of-suc-le-suc, not-suc-le-zero}
 use native.Mathlib.Omega.{arith}
 use lib.Dec.{eqb}
 use lib.Ieee.{Float}
-use lib.ListN.{length, take, getD, set, length-append, length-take}
+use lib.ListN.{length, take, drop, getD, set, length-append, length-take}
 use lib.Seq.{take-suc, getD-take}
 use borrow.Author.Tests.{eqb-true, eq-eqb, ne-eqb, not-true}
 use Rattle.points.specs.Point.{anyPoint}
 use Rattle.points.specs.Points.{every, timeKey, listOf, holding}
 use Rattle.points.specs.Laws.{and-left, and-right}
-use Rattle.points.specs.Middles.{middles, keep-cons, keep-one, middles-yes, middles-no}
+use Rattle.points.specs.Middles.{middles, keep-cons, keep-one, middles-yes, middles-no, middles-few}
 use Rattle.points.specs.declared.AutomationPoint.{AutomationPoint}
 use Rattle.points.specs.declared.Points.{Points}
 use Rattle.settle.proofs.Ends.{pushed}
 use Rattle.shape.specs.Neighbours.{differingAfter, withoutRepeats}
-use Rattle.shape.specs.Shape.{keepIf, removeFirst, differs, innerKept, simplified}
+use Rattle.shape.specs.Shape.{keepIf, removeFirst, differs, simplified}
 
 -- a search that goes on while none has passed: the first is found
 pub none-here : (a b : Bool) → (a && b) ≡ true → false ≡ (a && not b)
@@ -165,34 +165,29 @@ repeats-one (x ∷ l) = refl
 
 -- ---- the points that differ from what their neighbours would give
 
--- the inner ones, and the last
-inner-is : (t : Float) (p q : AutomationPoint) (l : List AutomationPoint) (d : AutomationPoint)
-    → innerKept t (p ∷ (q ∷ l)) ≡ middles (differs t) (p ∷ (q ∷ l)) ++ (getD (q ∷ l) (length l) d ∷ [])
-unfolding innerKept middles
-inner-is t p q [] d = refl
-inner-is t p q (r ∷ l) d = keep-cons (differs t p q r) q _ _ _ (inner-is t q r l d)
+-- the last one
+last-is : (p : AutomationPoint) (l : List AutomationPoint) (d : AutomationPoint) → drop (length l) (p ∷ l) ≡ getD (p ∷ l) (length l) d ∷ []
+last-is p [] d = refl
+last-is p (q ∷ l) d = last-is q l d
 
 pub simplified-is : (t : Float) (l : List AutomationPoint) (d : AutomationPoint) → 2 ≤ length l
     → simplified t l ≡ (take 1 l ++ middles (differs t) l) ++ (getD l (length l - 1) d ∷ [])
 simplified-is t [] d h = absurd (not-suc-le-zero h)
 simplified-is t (p ∷ []) d h = absurd (not-suc-le-zero (le-of-suc-le-suc h))
-simplified-is t (p ∷ (q ∷ l)) d h = let e : suc (suc (length l)) - 1 ≡ suc (length l) = omega arith in rw e (ap (λ (k : List AutomationPoint). p ∷ k) (inner-is t p q l d))
+simplified-is t (p ∷ (q ∷ l)) d h =
+    let e : suc (suc (length l)) - 1 ≡ suc (length l) = omega arith in
+    rw e (ap (λ (k : List AutomationPoint). p ∷ (middles (differs t) (p ∷ (q ∷ l)) ++ k)) (last-is q l d))
 
 pub simplified-few : (t : Float) (l : List AutomationPoint) → length l < 2 → simplified t l ≡ take 1 l
-unfolding innerKept
 simplified-few t [] h = refl
 simplified-few t (p ∷ []) h = refl
 simplified-few t (p ∷ (q ∷ l)) h = absurd (not-suc-le-zero (le-of-suc-le-suc (le-of-suc-le-suc h)))
 
-inner-bound : (t : Float) (p : AutomationPoint) (l : List AutomationPoint) → length (innerKept t (p ∷ l)) ≤ length l
-unfolding innerKept
-inner-bound t p [] = zero-le
-inner-bound t p (q ∷ []) = suc-le-suc zero-le
-inner-bound t p (q ∷ (r ∷ l)) = keep-one (differs t p q r) q (innerKept t (q ∷ (r ∷ l))) (length (r ∷ l)) (inner-bound t q (r ∷ l))
-
 pub simplified-bound : (t : Float) (l : List AutomationPoint) → length (simplified t l) ≤ length l
 simplified-bound t [] = zero-le
-simplified-bound t (p ∷ l) = suc-le-suc (inner-bound t p l)
+simplified-bound t (p ∷ []) = suc-le-suc zero-le
+simplified-bound t (p ∷ (q ∷ l)) =
+    omega (arith, length-append (middles (differs t) (p ∷ (q ∷ l))) (drop (length l) (q ∷ l)), middles-few (differs t) (p ∷ (q ∷ l)), ap length (last-is q l anyPoint))
 
 -- ---- the loops that look back: n places hold points, and a turn reads the one at i
 

@@ -1,10 +1,12 @@
 -- The edits that change which points there are, as 000 has them.
 use mathlib.Core.Bool.{Bool, cond, not, _&&_}
-use mathlib.Core.List.{List, [], _∷_, map, reverse}
+use mathlib.Core.List.{List, [], _∷_, _++_, map, reverse}
 use lib.Dec.{eqb}
 use lib.Ieee.{Float, binary32, binary64, sub, div, lt, le, ofBits}
+use lib.ListN.{length, drop}
 use Rattle.numbers.specs.Narrow.{narrow}
 use Rattle.curve.specs.Curve.{interpolated}
+use Rattle.points.specs.Middles.{middles}
 use Rattle.points.specs.Point.{abs}
 use Rattle.points.specs.Points.{timeKey}
 use Rattle.points.specs.declared.AutomationPoint.{AutomationPoint}
@@ -48,14 +50,8 @@ differs tolerance prev curr next =
     let t = narrow (div binary64 (sub binary64 (curr .time) (prev .time)) (sub binary64 (next .time) (prev .time))) in
     lt tolerance (abs (sub binary32 (curr .value) (interpolated (prev .curve) (prev .value) (next .value) t)))
 
--- the last point, and each inner one that differs; the neighbours are those of the list as it was
-unfoldable pub innerKept : Float → List AutomationPoint → List AutomationPoint
-innerKept tolerance [] = []
-innerKept tolerance (p ∷ []) = []
-innerKept tolerance (p ∷ (q ∷ [])) = q ∷ []
-innerKept tolerance (p ∷ (q ∷ (r ∷ l))) = cond (differs tolerance p q r) (q ∷ innerKept tolerance (q ∷ (r ∷ l))) (innerKept tolerance (q ∷ (r ∷ l)))
-
--- simplify: the first point stays too; so two points or fewer stay as they are
+-- simplify: the first point stays, each inner one that differs, and the last; the neighbours are those of the list as it was
 abbrev pub simplified : Float → List AutomationPoint → List AutomationPoint
 simplified tolerance [] = []
-simplified tolerance (p ∷ l) = p ∷ innerKept tolerance (p ∷ l)
+simplified tolerance (p ∷ []) = p ∷ []
+simplified tolerance (p ∷ (q ∷ l)) = p ∷ (middles (differs tolerance) (p ∷ (q ∷ l)) ++ drop (length l) (q ∷ l))
