@@ -16,10 +16,10 @@ use curve::CurveType;
 use points::AutomationPoint;
 
 impl AutomationEnvelope {
-    pub fn add_point(mut self, p: AutomationPoint) -> Edited
-        ensures { λ r. ⌜ toldEdit r ≡ editOf (OfPoints (AddPoint p)) self ⌝ }
+    pub fn add_point(mut self, point: AutomationPoint) -> Edited
+        ensures { λ r. ⌜ toldEdit r ≡ editOf (OfPoints (AddPoint point)) self ⌝ }
     {
-        self.edit_points(PointsEdit::AddPoint(p))
+        self.edit_points(PointsEdit::AddPoint(point))
     }
 
     pub fn remove_point_at(mut self, time: f64) -> Edited
@@ -40,10 +40,10 @@ impl AutomationEnvelope {
         self.edit_points(PointsEdit::ScaleTime(factor))
     }
 
-    pub fn trim(mut self, start: f64, end: f64) -> Edited
-        ensures { λ r. ⌜ toldEdit r ≡ editOf (OfPoints (Trim start end)) self ⌝ }
+    pub fn trim(mut self, start_time: f64, end_time: f64) -> Edited
+        ensures { λ r. ⌜ toldEdit r ≡ editOf (OfPoints (Trim «start_time» «end_time»)) self ⌝ }
     {
-        self.edit_points(PointsEdit::Trim(start, end))
+        self.edit_points(PointsEdit::Trim(start_time, end_time))
     }
 
     pub fn reverse(mut self) -> Edited
@@ -70,10 +70,10 @@ impl AutomationEnvelope {
         self.edit_points(PointsEdit::Simplify(tolerance))
     }
 
-    pub fn normalize(mut self, min: f32, max: f32) -> Edited
-        ensures { λ r. ⌜ toldEdit r ≡ editOf (OfPoints (Normalize min max)) self ⌝ }
+    pub fn normalize(mut self, new_min: f32, new_max: f32) -> Edited
+        ensures { λ r. ⌜ toldEdit r ≡ editOf (OfPoints (Normalize «new_min» «new_max»)) self ⌝ }
     {
-        self.edit_points(PointsEdit::Normalize(min, max))
+        self.edit_points(PointsEdit::Normalize(new_min, new_max))
     }
 
     pub fn scale(mut self, factor: f32) -> Edited
@@ -106,10 +106,15 @@ impl AutomationEnvelope {
         self.edit_points(PointsEdit::ApplyFadeOut(duration, curve))
     }
 
-    pub fn apply_fades(mut self, rise: f64, fall: f64, curve: CurveType) -> Edited
-        ensures { λ r. ⌜ toldEdit r ≡ editOf (OfPoints (ApplyFades rise fall curve)) self ⌝ }
+    pub fn apply_fades(
+        mut self,
+        fade_in_duration: f64,
+        fade_out_duration: f64,
+        curve: CurveType,
+    ) -> Edited
+        ensures { λ r. ⌜ toldEdit r ≡ editOf (OfPoints (ApplyFades «fade_in_duration» «fade_out_duration» curve)) self ⌝ }
     {
-        self.edit_points(PointsEdit::ApplyFades(rise, fall, curve))
+        self.edit_points(PointsEdit::ApplyFades(fade_in_duration, fade_out_duration, curve))
     }
 
     pub fn apply_gate(mut self, threshold: f32) -> Edited
@@ -136,16 +141,16 @@ impl AutomationEnvelope {
         self.replace_points(Replacement::FadeOut(duration, curve))
     }
 
-    pub fn pulse(mut self, rise: f64, sustain: f64, fall: f64, curve: CurveType) -> Edited
-        ensures { λ r. ⌜ toldEdit r ≡ editOf (Replace (Pulse rise sustain fall curve)) self ⌝ }
+    pub fn pulse(mut self, fade_in: f64, sustain: f64, fade_out: f64, curve: CurveType) -> Edited
+        ensures { λ r. ⌜ toldEdit r ≡ editOf (Replace (Pulse «fade_in» sustain «fade_out» curve)) self ⌝ }
     {
-        self.replace_points(Replacement::Pulse(rise, sustain, fall, curve))
+        self.replace_points(Replacement::Pulse(fade_in, sustain, fade_out, curve))
     }
 
-    pub fn ramp(mut self, duration: f64, start: f32, end: f32, curve: CurveType) -> Edited
-        ensures { λ r. ⌜ toldEdit r ≡ editOf (Replace (Ramp duration start end curve)) self ⌝ }
+    pub fn ramp(mut self, duration: f64, start: f32, end_value: f32, curve: CurveType) -> Edited
+        ensures { λ r. ⌜ toldEdit r ≡ editOf (Replace (Ramp duration start «end_value» curve)) self ⌝ }
     {
-        self.replace_points(Replacement::Ramp(duration, start, end, curve))
+        self.replace_points(Replacement::Ramp(duration, start, end_value, curve))
     }
 
     // Blends this envelope with another: 0.0 is this one, 1.0 the other.

@@ -139,7 +139,7 @@ impl AutomationEnvelope {
         }
     }
 
-    pub(crate) fn refuse(self, refusal: Refusal) -> Edited
+    fn refuse(self, refusal: Refusal) -> Edited
         ensures { λ r. ⌜ r ≡ refusedEdit self refusal ⌝ }
     {
         Edited {
@@ -149,7 +149,7 @@ impl AutomationEnvelope {
     }
 
     // What an edit of the points makes of the envelope.
-    pub(crate) fn settle(self, r: EditedPoints) -> Edited
+    fn settle(self, r: EditedPoints) -> Edited
         ensures { λ t. ⌜ toldEdit t ≡ edited self r ⌝ }
     {
         let limits = self.limits();
@@ -234,13 +234,8 @@ impl AutomationEnvelope {
     pub fn edit_points(mut self, edit: PointsEdit) -> Edited
         ensures { λ r. ⌜ toldEdit r ≡ editOf (OfPoints edit) self ⌝ }
     {
-        let limits = self.limits();
-        if limits.is_finite() {
-            let points = self.points;
-            self.settle(edit.apply(points))
-        } else {
-            self.refuse(Refusal::NotValid)
-        }
+        let points = self.points;
+        self.settle(edit.apply(points))
     }
 
     // Any of 000's constructors.

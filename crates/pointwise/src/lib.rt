@@ -234,7 +234,7 @@ fn edit_each(points: Points, ok: bool, change: Change) -> EditedPoints
     edit_from(points, ok, points, change)
 }
 
-// An edit that is accepted and changes nothing.
+// An edit that leaves the points as they are; it has the refusals of every edit.
 fn keep(points: Points, ok: bool) -> EditedPoints
     ensures { λ r. ⌜ r ≡ editPoints points ok (listOf points) ⌝ }
 {
@@ -418,15 +418,15 @@ pub fn apply_fades(
     let ok = numbers::order::is_finite(fade_in_duration)
         & numbers::order::is_finite(fade_out_duration)
         & curve.is_finite();
-    let risen = faded_in_all(points, fade_in_duration, curve);
+    let faded = faded_in_all(points, fade_in_duration, curve);
     if fade_out_duration <= 0.0 {
-        finish(points, ok, risen)
+        finish(points, ok, faded)
     } else {
-        let start = last_time(risen) - fade_out_duration;
+        let start = last_time(faded) - fade_out_duration;
         edit_from(
             points,
             ok,
-            risen,
+            faded,
             Change::FadeOut(start, fade_out_duration, curve),
         )
     }

@@ -7,37 +7,25 @@ use Rattle.envelope.specs.Edit.{EditTold, toldEdit, edited}
 use borrow.Author.Needs.{needs}
 use Rattle.envelope.proofs.AutomationEnvelope.settle.Statement.{statement}
 use Rattle.envelope.proofs.AutomationEnvelope.settle.Tie as tie
-use Rattle.envelope.proofs.AutomationEnvelope.settle.Reads as reads
-use Rattle.envelope.proofs.AutomationEnvelope.settle.Lts as lts
-use Rattle.envelope.proofs.AutomationEnvelope.limits.Reads as limits-reads
-use Rattle.envelope.proofs.AutomationEnvelope.refuse.Reads as refuse-reads
-use Rattle.envelope.proofs.AutomationEnvelope.with_points.Reads as with-points-reads
-use Rattle.lookup.proofs.Limits.is_finite.Reads as is-finite-reads
 
--- src/edit.rt:148:13
 limits-requires : tie.Need-limits-requires
 limits-requires c κs = search needs
 
--- src/edit.rt:149:12
 is-finite-requires : tie.Need-is-finite-requires
 is-finite-requires c κs = search needs
 
--- src/edit.rt:154:27
 with-points-requires : tie.Need-with-points-requires
 with-points-requires c κs = search needs
 
--- src/edit.rt:157:13
 refuse-requires : tie.Need-refuse-requires
 refuse-requires c κs = search needs
 
--- src/edit.rt:145:5
 returns : tie.Need-returns
 unfolding edited
 returns c =
     let f = sym (c .before .before .before .is-finite .ensures ∙ ap (λ (l : Limits). finiteLimits l) (c .before .before .before .before .limits .ensures)) ∙ c .before .before .if1 .taken in
     rw f (ap {B = EditTold} (λ (e : AutomationEnvelope). record { said = said (c .before .before .before .before .before .args .r .answer); envelope = e }) (c .with-points .ensures))
 
--- src/edit.rt:145:5
 returns-2 : tie.Need-returns-2
 unfolding edited
 returns-2 c =
