@@ -25,8 +25,8 @@ use Rattle.points.specs.Search.{placeBy}
 use Rattle.lookup.specs.Keys.{around}
 use Rattle.lookup.specs.LookupLaws.{heard-on, raw-one, raw-first, raw-last, raw-around, sample-one, sample-first, sample-last, sample-around, at-place}
 use Rattle.lookup.specs.Runs.{run, run-cut, run-one}
-use Rattle.analysis.specs.Analysis.{heardOf, rangeOf, rawInside, slopeOf}
-use Rattle.analysis.specs.Ranges.{nowhere, widen, hear, asRange, slopeSaid}
+use Rattle.analysis.specs.Analysis.{givenValues, rangeOf, rawInside, slopeOf}
+use Rattle.analysis.specs.Ranges.{noValues, widen, addLookup, asRange, slopeSaid}
 use Rattle.lookup.specs.declared.Limits.{Limits}
 use Rattle.lookup.specs.declared.Lookup.{Lookup}
 use Rattle.analysis.specs.declared.Bounds.{Bounds}
@@ -39,59 +39,59 @@ fold-part : {A B C : Type 0} (part : B → C) (step : B → A → B) (own : C �
 fold-part part step own h b [] = refl
 fold-part part step own h b (x ∷ l) = fold-part part step own h (step b x) l ∙ ap (λ z. foldl own z l) (h b x)
 
-pub range-is : (l : List Float) → asRange (foldl widen nowhere l) ≡ rangeOf l
+pub range-is : (l : List Float) → asRange (foldl widen noValues l) ≡ rangeOf l
 unfolding rangeOf
 range-is l =
     ap₂ (λ (low high : Float). cond (finite low) (some (low, high)) none)
-    (fold-part (λ (b : Bounds). b .low) widen minNum (λ b x. refl) nowhere l)
-    (fold-part (λ (b : Bounds). b .high) widen maxNum (λ b x. refl) nowhere l)
+    (fold-part (λ (b : Bounds). b .low) widen minNum (λ b x. refl) noValues l)
+    (fold-part (λ (b : Bounds). b .high) widen maxNum (λ b x. refl) noValues l)
 
 -- ---- one more lookup
 
-heard-append : (l m : List (Option Float)) → heardOf (l ++ m) ≡ heardOf l ++ heardOf m
-unfolding heardOf
-heard-append [] m = refl
-heard-append (none ∷ l) m = heard-append l m
-heard-append (some v ∷ l) m = ap (λ (r : List Float). v ∷ r) (heard-append l m)
+given-append : (l m : List (Option Float)) → givenValues (l ++ m) ≡ givenValues l ++ givenValues m
+unfolding givenValues
+given-append [] m = refl
+given-append (none ∷ l) m = given-append l m
+given-append (some v ∷ l) m = ap (λ (r : List Float). v ∷ r) (given-append l m)
 
-heard-one : (b : Bounds) (v : Option Float) → foldl widen b (heardOf (v ∷ [])) ≡ hear b (gives v)
-unfolding heardOf
-heard-one b none = refl
-heard-one b (some v) = refl
+given-one : (b : Bounds) (v : Option Float) → foldl widen b (givenValues (v ∷ [])) ≡ addLookup b (gives v)
+unfolding givenValues
+given-one b none = refl
+given-one b (some v) = refl
 
-heard-more : (f : ℕ → Option Float) (b : Bounds) (n : ℕ) → foldl widen b (heardOf (run f 0 (n + 1))) ≡ hear (foldl widen b (heardOf (run f 0 n))) (gives (f n))
-heard-more f b n =
-    ap (λ (l : List (Option Float)). foldl widen b (heardOf l)) (run-cut f 0 n 1 ∙ ap (λ (l : List (Option Float)). run f 0 n ++ l) (run-one f (0 + n)))
-    ∙ ap (λ (l : List Float). foldl widen b l) (heard-append (run f 0 n) (f (0 + n) ∷ []))
-    ∙ foldl-append widen b (heardOf (run f 0 n)) (heardOf (f (0 + n) ∷ []))
-    ∙ heard-one (foldl widen b (heardOf (run f 0 n))) (f (0 + n))
-    ∙ ap (λ (k : ℕ). hear (foldl widen b (heardOf (run f 0 n))) (gives (f k))) (zero-add n)
+given-more : (f : ℕ → Option Float) (b : Bounds) (n : ℕ) → foldl widen b (givenValues (run f 0 (n + 1))) ≡ addLookup (foldl widen b (givenValues (run f 0 n))) (gives (f n))
+given-more f b n =
+    ap (λ (l : List (Option Float)). foldl widen b (givenValues l)) (run-cut f 0 n 1 ∙ ap (λ (l : List (Option Float)). run f 0 n ++ l) (run-one f (0 + n)))
+    ∙ ap (λ (l : List Float). foldl widen b l) (given-append (run f 0 n) (f (0 + n) ∷ []))
+    ∙ foldl-append widen b (givenValues (run f 0 n)) (givenValues (f (0 + n) ∷ []))
+    ∙ given-one (foldl widen b (givenValues (run f 0 n))) (f (0 + n))
+    ∙ ap (λ (k : ℕ). addLookup (foldl widen b (givenValues (run f 0 n))) (gives (f k))) (zero-add n)
 
 -- a turn of a loop of lookups
-pub hear-turn : (f : ℕ → Option Float) (n : ℕ) (b new : Bounds) (v : Said (Option Float)) → b ≡ foldl widen nowhere (heardOf (run f 0 n)) → new ≡ hear b v → v ≡ gives (f n)
-    → new ≡ foldl widen nowhere (heardOf (run f 0 (n + 1)))
-hear-turn f n b new v e h w = h ∙ ap₂ hear e w ∙ sym (heard-more f nowhere n)
+pub lookup-turn : (f : ℕ → Option Float) (n : ℕ) (b new : Bounds) (v : Said (Option Float)) → b ≡ foldl widen noValues (givenValues (run f 0 n)) → new ≡ addLookup b v → v ≡ gives (f n)
+    → new ≡ foldl widen noValues (givenValues (run f 0 (n + 1)))
+lookup-turn f n b new v e h w = h ∙ ap₂ addLookup e w ∙ sym (given-more f noValues n)
 
 -- lookups that are all silent
-pub heard-none : (f : ℕ → Option Float) (a n : ℕ) → ((i : ℕ) → f i ≡ none) → heardOf (run f a n) ≡ []
-unfolding heardOf run
-heard-none f a zero h = refl
-heard-none f a (suc n) h = rw (h a) (heard-none f (suc a) n h)
+pub given-none : (f : ℕ → Option Float) (a n : ℕ) → ((i : ℕ) → f i ≡ none) → givenValues (run f a n) ≡ []
+unfolding givenValues run
+given-none f a zero h = refl
+given-none f a (suc n) h = rw (h a) (given-none f (suc a) n h)
 
 -- ---- a lookup's value
 
 -- of a point, constrained beforehand
-pub value-heard : (limits : Limits) (x v : Float) (raw : Option Float) → v ≡ constrained limits x → raw ≡ some x → gives (some v) ≡ gives (heard true limits raw)
-value-heard limits x v raw h e = ap (λ (y : Float). gives (some y)) h ∙ ap (λ (r : Option Float). gives (heard true limits r)) (sym e)
+pub value-gives : (limits : Limits) (x v : Float) (raw : Option Float) → v ≡ constrained limits x → raw ≡ some x → gives (some v) ≡ gives (heard true limits raw)
+value-gives limits x v raw h e = ap (λ (y : Float). gives (some y)) h ∙ ap (λ (r : Option Float). gives (heard true limits r)) (sym e)
 
 -- of a search
-pub answer-heard : (limits : Limits) (answer new : Lookup) (raw : Option Float) → new ≡ constrainedAnswer limits answer → told answer ≡ gives raw → told new ≡ gives (heard true limits raw)
-answer-heard limits answer new raw h e = ap told h ∙ heard-on limits true answer raw refl e
+pub answer-gives : (limits : Limits) (answer new : Lookup) (raw : Option Float) → new ≡ constrainedAnswer limits answer → told answer ≡ gives raw → told new ≡ gives (heard true limits raw)
+answer-gives limits answer new raw h e = ap told h ∙ heard-on limits true answer raw refl e
 
--- none is heard of no points, or of disabled ones
-pub silent-heard : (enabled : Bool) (n : ℕ) (limits : Limits) (raw : Option Float) → (enabled && ltb 0 n) ≡ false → (n ≡ 0 → raw ≡ none) → heard enabled limits raw ≡ none
-silent-heard false n limits raw h e = refl
-silent-heard true n limits raw h e = let z = ltb-false 0 n h in ap (heard true limits) (e (omega arith))
+-- no points, or disabled ones, give no value
+pub silent-gives : (enabled : Bool) (n : ℕ) (limits : Limits) (raw : Option Float) → (enabled && ltb 0 n) ≡ false → (n ≡ 0 → raw ≡ none) → heard enabled limits raw ≡ none
+silent-gives false n limits raw h e = refl
+silent-gives true n limits raw h e = let z = ltb-false 0 n h in ap (heard true limits) (e (omega arith))
 
 -- the ends: a lone point has its value at every time
 two-of : (n : ℕ) → 1 ≤ n → eqb n 1 ≡ false → 2 ≤ n
@@ -118,7 +118,7 @@ module _ (ps : Points) (f : ps .count ≤ length (ps .places)) (w : 1 ≤ ps .co
     pub time-early : (eqb (ps .count) 1 || le time (pointAt (ps .places) 0 .time)) ≡ true → (v : Float) → v ≡ constrained limits (pointAt (ps .places) 0 .value)
         → gives (some v) ≡ gives (valueAt ps true limits time)
     time-early h v e =
-        value-heard limits (pointAt (ps .places) 0 .value) v (rawAt (listOf ps) time) e
+        value-gives limits (pointAt (ps .places) 0 .value) v (rawAt (listOf ps) time) e
         (early (ps .count) (le time (pointAt (ps .places) 0 .time)) w h (raw-one (ps .places) (ps .count) time f) (raw-first (ps .places) (ps .count) time f))
 
     module _ (h : (eqb (ps .count) 1 || le time (pointAt (ps .places) 0 .time)) ≡ false) where
@@ -126,21 +126,21 @@ module _ (ps : Points) (f : ps .count ≤ length (ps .places)) (w : 1 ≤ ps .co
           → gives (some v) ≡ gives (valueAt ps true limits time)
       time-late l v e =
           let b = neither (ps .count) (le time (pointAt (ps .places) 0 .time)) w h in
-          value-heard limits (pointAt (ps .places) (ps .count - 1) .value) v (rawAt (listOf ps) time) e (raw-last (ps .places) (ps .count) time f (b .0) (b .1) l)
+          value-gives limits (pointAt (ps .places) (ps .count - 1) .value) v (rawAt (listOf ps) time) e (raw-last (ps .places) (ps .count) time f (b .0) (b .1) l)
 
       pub time-inner : le (pointAt (ps .places) (ps .count - 1) .time) time ≡ false → ps .count ≤ 256 → (j before at : ℕ) → placeBy timeKey (orderKey time) (listOf ps) ≡ j → before ≡ j - 1 → at ≡ min j 255
           → (answer new : Lookup) → told answer ≡ gives (around timeKey (orderKey time) (between time) (ps .count) j (pointAt (ps .places) before) (pointAt (ps .places) at)) → new ≡ constrainedAnswer limits answer
           → told new ≡ gives (valueAt ps true limits time)
       time-inner l c j before at e p q answer new t n =
           let b = neither (ps .count) (le time (pointAt (ps .places) 0 .time)) w h in
-          answer-heard limits answer new (rawAt (listOf ps) time) n
+          answer-gives limits answer new (rawAt (listOf ps) time) n
           (t ∙ ap gives (raw-around (ps .places) (ps .count) time f (b .0) (b .1) l j e _ _ (ap (pointAt (ps .places)) p) (at-place (ps .places) j at (ps .count) q c)))
 
   module _ (sample start : ℕ) (s : start ≡ keyFrom (pointAt (ps .places) 0 .«sample_position») 0) where
     pub sample-early : (eqb (ps .count) 1 || leb sample start) ≡ true → (v : Float) → v ≡ constrained limits (pointAt (ps .places) 0 .value)
         → gives (some v) ≡ gives (valueAtSample ps true limits sample)
     sample-early h v e =
-        value-heard limits (pointAt (ps .places) 0 .value) v (rawAtSample (listOf ps) sample) e
+        value-gives limits (pointAt (ps .places) 0 .value) v (rawAtSample (listOf ps) sample) e
         (early (ps .count) (leb sample start) w h (sample-one (ps .places) (ps .count) sample f) (λ m t. sample-first (ps .places) (ps .count) sample f m (omega (arith, leb-true sample start t))))
 
     module _ (h : (eqb (ps .count) 1 || leb sample start) ≡ false) (end : ℕ) (z : end ≡ sampleKey (pointAt (ps .places) (ps .count - 1))) where
@@ -149,14 +149,14 @@ module _ (ps : Points) (f : ps .count ≤ length (ps .places)) (w : 1 ≤ ps .co
 
       pub sample-late : end ≤ sample → (v : Float) → v ≡ constrained limits (pointAt (ps .places) (ps .count - 1) .value) → gives (some v) ≡ gives (valueAtSample ps true limits sample)
       sample-late l v e =
-          value-heard limits (pointAt (ps .places) (ps .count - 1) .value) v (rawAtSample (listOf ps) sample) e
+          value-gives limits (pointAt (ps .places) (ps .count - 1) .value) v (rawAtSample (listOf ps) sample) e
           (sample-last (ps .places) (ps .count) sample f (neither (ps .count) (leb sample start) w h .0) past-start (omega arith))
 
       pub sample-within : sample < end → ps .count ≤ 256 → (j before at : ℕ) → placeBy sampleKey sample (listOf ps) ≡ j → before ≡ j - 1 → at ≡ min j 255
           → (answer new : Lookup) → told answer ≡ gives (around sampleKey sample (betweenSamples sample) (ps .count) j (pointAt (ps .places) before) (pointAt (ps .places) at)) → new ≡ constrainedAnswer limits answer
           → told new ≡ gives (valueAtSample ps true limits sample)
       sample-within l c j before at e p q answer new t n =
-          answer-heard limits answer new (rawAtSample (listOf ps) sample) n
+          answer-gives limits answer new (rawAtSample (listOf ps) sample) n
           (t ∙ ap gives (sample-around (ps .places) (ps .count) sample f (neither (ps .count) (leb sample start) w h .0) past-start (omega arith) j e _ _ (ap (pointAt (ps .places)) p) (at-place (ps .places) j at (ps .count) q c)))
 
 -- ---- the points inside

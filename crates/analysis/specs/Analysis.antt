@@ -1,14 +1,15 @@
 -- 01, "Analysis": ranges, slope, peaks and valleys.
 use Prim.Native.Nat.{ℕ, _+_, _-_, _*_, _/_, max}
-use mathlib.Core.Bool.{Bool, cond, _&&_}
+use mathlib.Core.Bool.{Bool, true, false, cond, _&&_}
 use mathlib.Core.List.{List, [], _∷_, _++_, map, foldl}
 use mathlib.Core.Option.{Option, none, some}
 use lib.ListN.{length, drop}
 use lib.Dec.{ltb, leb}
 use lib.IntN.{pos}
-use lib.Ieee.{Float, binary32, binary64, add, sub, mul, div, lt, le, ofInt, ofBits}
+use lib.Ieee.{Float, inf, binary32, binary64, add, sub, mul, div, lt, le, ofInt, ofBits}
 use Rattle.numbers.specs.Bounds.{finite, maxNum, minNum}
 use Rattle.numbers.specs.Narrow.{narrow}
+use Rattle.curve.specs.F32.{f0}
 use Rattle.points.specs.Middles.{middles}
 use Rattle.points.specs.Points.{listOf}
 use Rattle.points.specs.Refusal.{Said, refuses, gives, number}
@@ -26,16 +27,16 @@ use Rattle.analysis.specs.declared.Found.the-variants as found
 -- ---- ranges
 
 -- the values among lookups that are not silent
-unfoldable pub heardOf : List (Option Float) → List Float
-heardOf [] = []
-heardOf (none ∷ l) = heardOf l
-heardOf (some v ∷ l) = v ∷ heardOf l
+unfoldable pub givenValues : List (Option Float) → List Float
+givenValues [] = []
+givenValues (none ∷ l) = givenValues l
+givenValues (some v ∷ l) = v ∷ givenValues l
 
 -- the least and the greatest, from the infinities: "none if the minimum isn't finite"
 unfoldable pub rangeOf : List Float → Option (Float × Float)
 rangeOf l =
-    let low = foldl minNum (ofBits binary32 0x7F80_0000) l in
-    cond (finite low) (some (low, foldl maxNum (ofBits binary32 0xFF80_0000) l)) none
+    let low = foldl minNum (inf false) l in
+    cond (finite low) (some (low, foldl maxNum (inf true) l)) none
 
 -- a range's answer in 01's terms
 abbrev pub rangeTold : Range → Said (Option (Float × Float))
@@ -57,7 +58,7 @@ unfoldable pub getRange : Points → Bool → Limits → Float → Float → Sai
 getRange points enabled limits start end =
     cond (valid points limits)
     (cond (finite start && finite end)
-    (gives (rangeOf (heardOf (run (λ i. valueAt points enabled limits (rangeTime start end i)) 0 101) ++ rawInside start end (listOf points))))
+    (gives (rangeOf (givenValues (run (λ i. valueAt points enabled limits (rangeTime start end i)) 0 101) ++ rawInside start end (listOf points))))
     (refuses 3))
     (refuses 1)
 
@@ -76,7 +77,7 @@ getRangeSamples points enabled limits start end =
     (cond (leb start end)
     (cond (ltb (start + sampleStops start end * sampleStep start end) 0x1_0000_0000_0000_0000)
     (cond (keysRise points enabled)
-    (gives (rangeOf (heardOf (run (λ k. valueAtSample points enabled limits (start + k * sampleStep start end)) 0 (sampleStops start end)))))
+    (gives (rangeOf (givenValues (run (λ k. valueAtSample points enabled limits (start + k * sampleStep start end)) 0 (sampleStops start end)))))
     (refuses 7))
     (refuses 13))
     (refuses 4))
@@ -84,18 +85,21 @@ getRangeSamples points enabled limits start end =
 
 -- ---- slope
 
+-- 000's `let delta = 0.001`
+abbrev pub delta : Float
+delta = ofBits binary64 0x3F50_624D_D2F1_A9FC
+
 -- the quotient of two lookups' difference and 0.002 in f32; none where either is silent
 unfoldable pub slopeOf : Option Float → Option Float → Option Float
 slopeOf none after = none
 slopeOf (some v) none = none
-slopeOf (some v) (some w) = some (div binary32 (sub binary32 w v) (narrow (mul binary64 (ofBits binary64 0x4000_0000_0000_0000) (ofBits binary64 0x3F50_624D_D2F1_A9FC))))
+slopeOf (some v) (some w) = some (div binary32 (sub binary32 w v) (narrow (mul binary64 (ofBits binary64 0x4000_0000_0000_0000) delta)))
 
 -- "`get_slope_at` gives 0 under two points, even disabled"; the lookups are 0.001 before and after
 unfoldable pub getSlopeAt : Points → Bool → Limits → Float → Said (Option Float)
 getSlopeAt points enabled limits time =
-    let delta = ofBits binary64 0x3F50_624D_D2F1_A9FC in
     cond (valid points limits)
-    (gives (cond (ltb (length (listOf points)) 2) (some (ofBits binary32 0))
+    (gives (cond (ltb (length (listOf points)) 2) (some f0)
     (slopeOf (valueAt points enabled limits (sub binary64 time delta)) (valueAt points enabled limits (add binary64 time delta)))))
     (refuses 1)
 

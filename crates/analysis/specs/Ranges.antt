@@ -3,7 +3,7 @@ use Prim.Native.Nat.{ℕ, _+_, _*_}
 use mathlib.Core.Bool.{Bool, true, false, cond}
 use mathlib.Core.List.{List}
 use mathlib.Core.Option.{Option, none, some}
-use lib.Ieee.{Float, binary32, ofBits}
+use lib.Ieee.{Float, inf}
 use Rattle.numbers.specs.Bounds.{finite, maxNum, minNum}
 use Rattle.points.specs.Middles.{middles}
 use Rattle.points.specs.Points.{listOf}
@@ -12,25 +12,25 @@ use Rattle.points.specs.declared.AutomationPoint.{AutomationPoint}
 use Rattle.points.specs.declared.Points.{Points}
 use Rattle.lookup.specs.Lookup.{valueAt, valueAtSample}
 use Rattle.lookup.specs.Runs.{run}
-use Rattle.analysis.specs.Analysis.{heardOf, rangeTime, slopeOf, isPeak, isValley}
+use Rattle.analysis.specs.Analysis.{givenValues, rangeTime, slopeOf, isPeak, isValley}
 use Rattle.lookup.specs.declared.Limits.{Limits}
 use Rattle.analysis.specs.declared.Bounds.{Bounds}
 
 -- ---- the least and the greatest
 
 -- before any value: the infinities, as `rangeOf` starts
-abbrev pub nowhere : Bounds
-nowhere = record { low = ofBits binary32 0x7F80_0000; high = ofBits binary32 0xFF80_0000 }
+abbrev pub noValues : Bounds
+noValues = record { low = inf false; high = inf true }
 
 -- with one more value
 abbrev pub widen : Bounds → Float → Bounds
 widen b v = record { low = minNum (b .low) v; high = maxNum (b .high) v }
 
 -- with one more lookup
-abbrev pub hear : Bounds → Said (Option Float) → Bounds
-hear b (gives (some v)) = widen b v
-hear b (gives none) = b
-hear b (refuses n) = b
+abbrev pub addLookup : Bounds → Said (Option Float) → Bounds
+addLookup b (gives (some v)) = widen b v
+addLookup b (gives none) = b
+addLookup b (refuses n) = b
 
 -- "none if the minimum isn't finite"
 abbrev pub asRange : Bounds → Option (Float × Float)
@@ -39,12 +39,12 @@ asRange b = cond (finite (b .low)) (some (b .low, b .high)) none
 -- ---- the lookups
 
 -- the values of n lookups by time
-abbrev pub timesHeard : Points → Bool → Limits → Float → Float → ℕ → List Float
-timesHeard points enabled limits start end n = heardOf (run (λ i. valueAt points enabled limits (rangeTime start end i)) 0 n)
+abbrev pub valuesAtTimes : Points → Bool → Limits → Float → Float → ℕ → List Float
+valuesAtTimes points enabled limits start end n = givenValues (run (λ i. valueAt points enabled limits (rangeTime start end i)) 0 n)
 
 -- and by sample
-abbrev pub samplesHeard : Points → Bool → Limits → ℕ → ℕ → ℕ → List Float
-samplesHeard points enabled limits start step n = heardOf (run (λ k. valueAtSample points enabled limits (start + k * step)) 0 n)
+abbrev pub valuesAtSamples : Points → Bool → Limits → ℕ → ℕ → ℕ → List Float
+valuesAtSamples points enabled limits start step n = givenValues (run (λ k. valueAtSample points enabled limits (start + k * step)) 0 n)
 
 -- ---- slope
 

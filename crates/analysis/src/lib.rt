@@ -9,7 +9,7 @@ ghost use Rattle.points.specs.Points.{listOf, validPoints, risingBy};
 ghost use Rattle.points.specs.Refusal.{gives};
 ghost use Rattle.lookup.specs.Lookup.{sampleKey, keysRise, told};
 ghost use Rattle.analysis.specs.Analysis.{rawInside, getRange, getRangeSamples, getSlopeAt, isPeak, isValley, findMiddles, rangeTold, foundTold};
-ghost use Rattle.analysis.specs.Ranges.{nowhere, widen, hear, asRange, timesHeard, samplesHeard, slopeSaid, middleTest, middlesOf, timeOf, valueOf};
+ghost use Rattle.analysis.specs.Ranges.{noValues, widen, addLookup, asRange, valuesAtTimes, valuesAtSamples, slopeSaid, middleTest, middlesOf, timeOf, valueOf};
 use lookup::Limits;
 use lookup::Lookup;
 use lookup::place::previous;
@@ -40,8 +40,8 @@ struct Bounds {
 // ---- ranges
 
 // Before any value: the infinities.
-fn nowhere() -> Bounds
-    ensures { λ r. ⌜ r ≡ nowhere ⌝ }
+fn no_values() -> Bounds
+    ensures { λ r. ⌜ r ≡ noValues ⌝ }
 {
     Bounds {
         low: 1.0 / 0.0,
@@ -61,8 +61,8 @@ impl Bounds {
     }
 
     // A lookup's value, if it isn't silent.
-    fn hear(self, answer: Lookup) -> Bounds
-        ensures { λ r. ⌜ r ≡ hear self (told answer) ⌝ }
+    fn add_lookup(self, answer: Lookup) -> Bounds
+        ensures { λ r. ⌜ r ≡ addLookup self (told answer) ⌝ }
     {
         match answer {
             Lookup::Silent => self,
@@ -101,9 +101,9 @@ impl Bounds {
 }
 
 // What 101 lookups give, from the start to the end.
-fn hear_times(points: Points, limits: Limits, start: f64, end: f64) -> Bounds
+fn bounds_of_times(points: Points, limits: Limits, start: f64, end: f64) -> Bounds
     requires { ⌜ (validPoints points ≡ true) × (1 ≤ points .count) ⌝ }
-    ensures { λ r. ⌜ r ≡ foldl widen nowhere (timesHeard points true limits start end 101) ⌝ }
+    ensures { λ r. ⌜ r ≡ foldl widen noValues (valuesAtTimes points true limits start end 101) ⌝ }
 {
     let n = points.count;
     let one = n == 1;
@@ -113,7 +113,7 @@ fn hear_times(points: Points, limits: Limits, start: f64, end: f64) -> Bounds
     let late = limits.apply_constraints(last.value);
     let keys = lookup::place::keys(points, false);
     let step = (end - start) / 100.0;
-    let mut bounds = nowhere();
+    let mut bounds = no_values();
     let mut i: u32 = 0;
     while i < 101 {
         let time = start + step * i as f64;
@@ -128,7 +128,7 @@ fn hear_times(points: Points, limits: Limits, start: f64, end: f64) -> Bounds
             let at = within(j);
             let p = points.places[before];
             let q = points.places[at];
-            bounds = bounds.hear(lookup::time::around(n, j, p, q, time).constrain(limits));
+            bounds = bounds.add_lookup(lookup::time::around(n, j, p, q, time).constrain(limits));
         }
     }
     bounds
@@ -137,12 +137,12 @@ fn hear_times(points: Points, limits: Limits, start: f64, end: f64) -> Bounds
 // The same of points that may be none, or disabled.
 fn times_range(points: Points, enabled: bool, limits: Limits, start: f64, end: f64) -> Bounds
     requires { ⌜ validPoints points ≡ true ⌝ }
-    ensures { λ r. ⌜ r ≡ foldl widen nowhere (timesHeard points enabled limits start end 101) ⌝ }
+    ensures { λ r. ⌜ r ≡ foldl widen noValues (valuesAtTimes points enabled limits start end 101) ⌝ }
 {
     if enabled & (0 < points.count) {
-        hear_times(points, limits, start, end)
+        bounds_of_times(points, limits, start, end)
     } else {
-        nowhere()
+        no_values()
     }
 }
 
@@ -170,9 +170,9 @@ pub fn get_range(
 }
 
 // What the lookups at the start and each step after it give.
-fn hear_samples(points: Points, limits: Limits, start: u64, step: u64, stops: u64) -> Bounds
+fn bounds_of_samples(points: Points, limits: Limits, start: u64, step: u64, stops: u64) -> Bounds
     requires { ⌜ (validPoints points ≡ true) × (1 ≤ points .count) × (risingBy sampleKey (listOf points) ≡ true) × (start + stops * step < 18446744073709551616) ⌝ }
-    ensures { λ r. ⌜ r ≡ foldl widen nowhere (samplesHeard points true limits start step stops) ⌝ }
+    ensures { λ r. ⌜ r ≡ foldl widen noValues (valuesAtSamples points true limits start step stops) ⌝ }
 {
     let n = points.count;
     let one = n == 1;
@@ -183,7 +183,7 @@ fn hear_samples(points: Points, limits: Limits, start: u64, step: u64, stops: u6
     let first_key = lookup::sample::start_key(first);
     let last_key = lookup::sample::sample_key(last);
     let keys = lookup::place::keys(points, true);
-    let mut bounds = nowhere();
+    let mut bounds = no_values();
     let mut k: u64 = 0;
     while k < stops {
         let sample = start + k * step;
@@ -198,7 +198,9 @@ fn hear_samples(points: Points, limits: Limits, start: u64, step: u64, stops: u6
             let at = within(j);
             let p = points.places[before];
             let q = points.places[at];
-            bounds = bounds.hear(lookup::sample::around(n, j, p, q, sample).constrain(limits));
+            bounds = bounds.add_lookup(lookup::sample::around(n, j, p, q, sample).constrain(
+                limits,
+            ));
         }
     }
     bounds
@@ -214,12 +216,12 @@ fn samples_range(
     stops: u64,
 ) -> Bounds
     requires { ⌜ (validPoints points ≡ true) × (keysRise points enabled ≡ true) × (start + stops * step < 18446744073709551616) ⌝ }
-    ensures { λ r. ⌜ r ≡ foldl widen nowhere (samplesHeard points enabled limits start step stops) ⌝ }
+    ensures { λ r. ⌜ r ≡ foldl widen noValues (valuesAtSamples points enabled limits start step stops) ⌝ }
 {
     if enabled & (0 < points.count) {
-        hear_samples(points, limits, start, step, stops)
+        bounds_of_samples(points, limits, start, step, stops)
     } else {
-        nowhere()
+        no_values()
     }
 }
 

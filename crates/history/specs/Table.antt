@@ -26,7 +26,7 @@ use Rattle.lookup.specs.Runs.{run}
 use Rattle.lookup.specs.declared.Limit.{Limit}
 use Rattle.lookup.specs.declared.Limit.the-variants as limit
 use Rattle.analysis.specs.Examples as ranges
-use Rattle.analysis.specs.Analysis.{heardOf, rangeOf, rawInside, getRange}
+use Rattle.analysis.specs.Analysis.{givenValues, rangeOf, rawInside, getRange}
 use Rattle.envelope.specs.Envelope.{new, limitsOf}
 use Rattle.envelope.specs.Edit.{withPoints, withSettings, editOf, edited, pointsEdited}
 use Rattle.envelope.specs.declared.AutomationEnvelope.{AutomationEnvelope}
@@ -96,7 +96,7 @@ pub record Table : Type 0 where
   pub p14 : sqrt binary32 f2 ≡ f32 0x3FB5_04F3
 
 pub table : Table
-unfolding answersAfter ruleOf upTo made editOf edited pointsEdited editPoints settle insertPoint new getValueAt getValueAtSample getRange rangeOf heardOf rawInside run validPoints every risingBy rawAt rawAtSample surrounded placeBy fraction constrained code controls finiteControls clamped cubicBezier inOut eased interpolated finite minNum maxNum narrow orderKey sqrt roundAway ofBits toBits ofInt toUnsigned round neg add sub mul div lt le isNan
+unfolding answersAfter ruleOf upTo made editOf edited pointsEdited editPoints settle insertPoint new getValueAt getValueAtSample getRange rangeOf givenValues rawInside run validPoints every risingBy rawAt rawAtSample surrounded placeBy fraction constrained code controls finiteControls clamped cubicBezier inOut eased interpolated finite minNum maxNum narrow orderKey sqrt roundAway ofBits toBits ofInt toUnsigned round neg add sub mul div lt le isNan
 table =
     record {
       p1 = lookups.p1;

@@ -6,7 +6,7 @@ use Rattle.points.specs.Points.{listOf, validPoints}
 use Rattle.points.specs.Refusal.{gives}
 use Rattle.lookup.specs.Limits.{finiteLimits}
 use Rattle.analysis.specs.Analysis.{rawInside, getRange}
-use Rattle.analysis.specs.Ranges.{nowhere, widen, asRange, timesHeard}
+use Rattle.analysis.specs.Ranges.{noValues, widen, asRange, valuesAtTimes}
 use Rattle.analysis.specs.declared.Bounds.{Bounds}
 use Rattle.analysis.proofs.Ranges.{range-is}
 use borrow.Author.Needs.{needs}
@@ -35,12 +35,12 @@ returns : tie.Need-returns
 unfolding getRange
 returns c =
     let a = c .before .before .before .before .before .before .before .before .args in
-    let heard = timesHeard (a .points) (a .enabled) (a .limits) (a .start-time) (a .end-time) 101 in
+    let values = valuesAtTimes (a .points) (a .enabled) (a .limits) (a .start-time) (a .end-time) 101 in
     let raw = rawInside (a .start-time) (a .end-time) (listOf (a .points)) in
     rw (sym (c .before .before .before .before .before .before .before .is-valid .ensures) ∙ c .before .before .before .before .before .before .if1 .taken, sym (and-both (c .before .before .before .before .before .is-finite .ensures) (c .before .before .before .before .is-finite2 .ensures)) ∙ c .before .before .before .if2 .taken)
     (c .range .ensures
-    ∙ ap (λ (b : Bounds). gives (asRange b)) (c .before .inside .ensures ∙ ap (λ (b : Bounds). foldl widen b raw) (c .before .before .times-range .ensures) ∙ sym (foldl-append widen nowhere heard raw))
-    ∙ ap gives (range-is (heard ++ raw)))
+    ∙ ap (λ (b : Bounds). gives (asRange b)) (c .before .inside .ensures ∙ ap (λ (b : Bounds). foldl widen b raw) (c .before .before .times-range .ensures) ∙ sym (foldl-append widen noValues values raw))
+    ∙ ap gives (range-is (values ++ raw)))
 
 returns-2 : tie.Need-returns-2
 unfolding getRange

@@ -11,7 +11,7 @@ use Rattle.points.specs.Points.{validPoints}
 use Rattle.points.specs.Refusal.{gives}
 use Rattle.lookup.specs.Limits.{finiteLimits}
 use Rattle.analysis.specs.Analysis.{getRangeSamples, sampleStep, sampleStops}
-use Rattle.analysis.specs.Ranges.{nowhere, widen, asRange, samplesHeard}
+use Rattle.analysis.specs.Ranges.{noValues, widen, asRange, valuesAtSamples}
 use Rattle.analysis.proofs.Ranges.{range-is, stops-few}
 use borrow.Author.Needs.{needs}
 use Rattle.analysis.proofs.get_range_samples.Statement.{statement}
@@ -58,8 +58,8 @@ returns c =
     rw (sym (c .before .before .before .before .before .before .before .before .before .is-valid .ensures) ∙ c .before .before .before .before .before .before .before .before .if1 .taken, le-leb start end (c .before .before .before .before .before .before .before .if2 .taken), fits, sym (c .before .before .before .enabled-keys-rise .ensures) ∙ c .before .before .if4 .taken)
     (c .range .ensures
     ∙ ap (λ b. gives (asRange b)) (c .before .samples-range .ensures)
-    ∙ ap (λ (s : ℕ). gives (asRange (foldl widen nowhere (samplesHeard (a .points) (a .enabled) (a .limits) start s ((end - start) / s + 1))))) (c .before .before .before .before .before .before .sample-step .ensures)
-    ∙ ap gives (range-is (samplesHeard (a .points) (a .enabled) (a .limits) start (sampleStep start end) (sampleStops start end))))
+    ∙ ap (λ (s : ℕ). gives (asRange (foldl widen noValues (valuesAtSamples (a .points) (a .enabled) (a .limits) start s ((end - start) / s + 1))))) (c .before .before .before .before .before .before .sample-step .ensures)
+    ∙ ap gives (range-is (valuesAtSamples (a .points) (a .enabled) (a .limits) start (sampleStep start end) (sampleStops start end))))
 
 returns-2 : tie.Need-returns-2
 unfolding getRangeSamples

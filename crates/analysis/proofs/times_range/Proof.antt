@@ -9,32 +9,32 @@ use Rattle.points.specs.Points.{listOf}
 use Rattle.lookup.specs.Lookup.{rawAt, valueAt}
 use Rattle.lookup.specs.LookupLaws.{raw-none}
 use Rattle.analysis.specs.Analysis.{rangeTime}
-use Rattle.analysis.specs.Ranges.{nowhere, widen, timesHeard}
+use Rattle.analysis.specs.Ranges.{noValues, widen, valuesAtTimes}
 use Rattle.lookup.proofs.Good.{inside}
-use Rattle.analysis.proofs.Ranges.{heard-none, silent-heard}
+use Rattle.analysis.proofs.Ranges.{given-none, silent-gives}
 use borrow.Author.Needs.{needs}
 use Rattle.analysis.proofs.times_range.Statement.{statement}
 use Rattle.analysis.proofs.times_range.Tie as tie
 
-hear-times-requires : tie.Need-hear-times-requires
-hear-times-requires c κs = (c .before .before .pre, ltb-true 0 (c .before .before .args .points .count) (and-right (c .before .before .args .enabled) (ltb 0 (c .before .before .args .points .count)) (c .if1 .taken)))
+bounds-of-times-requires : tie.Need-bounds-of-times-requires
+bounds-of-times-requires c κs = (c .before .before .pre, ltb-true 0 (c .before .before .args .points .count) (and-right (c .before .before .args .enabled) (ltb 0 (c .before .before .args .points .count)) (c .if1 .taken)))
 
-nowhere-requires : tie.Need-nowhere-requires
-nowhere-requires c κs = search needs
+no-values-requires : tie.Need-no-values-requires
+no-values-requires c κs = search needs
 
 returns : tie.Need-returns
 returns c =
     let a = c .before .before .before .args in
-    c .hear-times .ensures ∙ ap (λ (b : Bool). foldl widen nowhere (timesHeard (a .points) b (a .limits) (a .start) (a .end) 101)) (sym (and-left (a .enabled) (ltb 0 (a .points .count)) (c .before .if1 .taken)))
+    c .bounds-of-times .ensures ∙ ap (λ (b : Bool). foldl widen noValues (valuesAtTimes (a .points) b (a .limits) (a .start) (a .end) 101)) (sym (and-left (a .enabled) (ltb 0 (a .points .count)) (c .before .if1 .taken)))
 
 returns-2 : tie.Need-returns-2
 returns-2 c =
     let a = c .before .before .before .args in
     let ps = a .points in
-    c .nowhere .ensures
-    ∙ ap (foldl widen nowhere)
-    (sym (heard-none (λ k. valueAt ps (a .enabled) (a .limits) (rangeTime (a .start) (a .end) k)) 0 101
-    (λ k. silent-heard (a .enabled) (ps .count) (a .limits) (rawAt (listOf ps) (rangeTime (a .start) (a .end) k)) (c .before .if1 .left) (raw-none (ps .places) (ps .count) (rangeTime (a .start) (a .end) k) (inside ps _ (c .before .before .before .good .0) (c .before .before .before .pre))))))
+    c .no-values .ensures
+    ∙ ap (foldl widen noValues)
+    (sym (given-none (λ k. valueAt ps (a .enabled) (a .limits) (rangeTime (a .start) (a .end) k)) 0 101
+    (λ k. silent-gives (a .enabled) (ps .count) (a .limits) (rawAt (listOf ps) (rangeTime (a .start) (a .end) k)) (c .before .if1 .left) (raw-none (ps .places) (ps .count) (rangeTime (a .start) (a .end) k) (inside ps _ (c .before .before .before .good .0) (c .before .before .before .pre))))))
 
 pub times-range-spec : {M : Type 1} → statement M
-times-range-spec = tie.close (tie.spec hear-times-requires nowhere-requires returns returns-2)
+times-range-spec = tie.close (tie.spec bounds-of-times-requires no-values-requires returns returns-2)

@@ -1,7 +1,7 @@
--- `analysis::Bounds::hear` meets its contract. Assumes nothing.
+-- `analysis::Bounds::add_lookup` meets its contract. Assumes nothing.
 use borrow.Author.Needs.{needs}
-use Rattle.analysis.proofs.Bounds.hear.Statement.{statement}
-use Rattle.analysis.proofs.Bounds.hear.Tie as tie
+use Rattle.analysis.proofs.Bounds.add_lookup.Statement.{statement}
+use Rattle.analysis.proofs.Bounds.add_lookup.Tie as tie
 
 enum-told : tie.Need-enum-told
 enum-told c = search needs
@@ -24,7 +24,7 @@ returns-2 c = rw (c .before .before .answer .given .1) (c .widen .ensures)
 returns-3 : tie.Need-returns-3
 returns-3 c = search needs
 
-pub hear-spec : {M : Type 1} → statement M
-hear-spec =
+pub add-lookup-spec : {M : Type 1} → statement M
+add-lookup-spec =
     tie.close
     (tie.spec enum-told enum-known-answer widen-requires enum-told-2 returns returns-2 returns-3)

@@ -1,4 +1,4 @@
--- `analysis::hear_samples` meets its contract. Assumes nothing.
+-- `analysis::bounds_of_samples` meets its contract. Assumes nothing.
 use Prim.Native.Nat.{ℕ, _+_, _*_, _≤_, _-_}
 use mathlib.Core.Path.{_≡_, refl, ap, _∙_}
 use mathlib.Core.Bool.{true}
@@ -8,17 +8,17 @@ use native.Mathlib.Omega.{arith}
 use Rattle.points.specs.Refusal.{gives}
 use Rattle.lookup.specs.Lookup.{sampleKey, valueAtSample, told}
 use Rattle.lookup.specs.LookupLaws.{valid-count}
-use Rattle.analysis.specs.Analysis.{heardOf}
+use Rattle.analysis.specs.Analysis.{givenValues}
 use Rattle.lookup.specs.Runs.{run}
-use Rattle.analysis.specs.Ranges.{nowhere, widen, samplesHeard}
+use Rattle.analysis.specs.Ranges.{noValues, widen, valuesAtSamples}
 use Rattle.lookup.proofs.Good.{inside}
 use Rattle.lookup.specs.KeyLaws.{keys-place}
-use Rattle.analysis.proofs.Ranges.{hear-turn, sample-early, sample-late, sample-within, stop-within}
-use Rattle.analysis.proofs.hear_samples.Statement.{statement}
-use Rattle.analysis.proofs.hear_samples.Tie as tie
+use Rattle.analysis.proofs.Ranges.{lookup-turn, sample-early, sample-late, sample-within, stop-within}
+use Rattle.analysis.proofs.bounds_of_samples.Statement.{statement}
+use Rattle.analysis.proofs.bounds_of_samples.Tie as tie
 
 abbrev Inv-loop : tie.InvT-loop
-Inv-loop limits start step stops points n one early late first-key last-key keys bounds₀ k₀ bounds k = (k ≤ stops) × (bounds ≡ foldl widen nowhere (samplesHeard points true limits start step k))
+Inv-loop limits start step stops points n one early late first-key last-key keys bounds₀ k₀ bounds k = (k ≤ stops) × (bounds ≡ foldl widen noValues (valuesAtSamples points true limits start step k))
 
 abbrev μ-loop : tie.MeasureT-loop
 μ-loop limits start step stops points n one early late first-key last-key keys bounds₀ k₀ bounds k = stops - k
@@ -50,12 +50,12 @@ sample-key-requires c κs = tt
 keys-requires : tie.Need-keys-requires Inv-loop μ-loop
 keys-requires c κs = tt
 
-nowhere-requires : tie.Need-nowhere-requires Inv-loop μ-loop
-nowhere-requires c κs = tt
+no-values-requires : tie.Need-no-values-requires Inv-loop μ-loop
+no-values-requires c κs = tt
 
 loop-holds : tie.Need-loop-holds Inv-loop μ-loop
-unfolding run heardOf
-loop-holds c = (omega arith, c .nowhere .ensures)
+unfolding run givenValues
+loop-holds c = (omega arith, c .no-values .ensures)
 
 mul-sample : tie.Need-mul-sample Inv-loop μ-loop
 mul-sample c = omega (arith, stop-within (c .before .loop .k) (c .before .before .before .before .before .before .before .before .before .before .args .stops) (c .before .before .before .before .before .before .before .before .before .before .args .step) (c .before .loop .inv .0))
@@ -77,7 +77,7 @@ loop-again c =
     let a = c .before .before .before .before .before .before .before .before .before .before .before .before .args in
     let h = c .before .before .before .loop in (
       omega arith,
-      hear-turn (λ k. valueAtSample (a .t1) true (a .limits) (a .start + k * a .step)) (h .k) (h .bounds) (c .widen .result) (gives (some (c .before .before .before .before .before .before .before .before .before .apply-constraints .result))) (h .inv .1) (c .widen .ensures)
+      lookup-turn (λ k. valueAtSample (a .t1) true (a .limits) (a .start + k * a .step)) (h .k) (h .bounds) (c .widen .result) (gives (some (c .before .before .before .before .before .before .before .before .before .apply-constraints .result))) (h .inv .1) (c .widen .ensures)
           (sample-early (a .t1) (inside (a .t1) _ (c .before .before .before .before .before .before .before .before .before .before .before .before .good .0) (c .before .before .before .before .before .before .before .before .before .before .before .before .pre .0)) (c .before .before .before .before .before .before .before .before .before .before .before .before .pre .1) (a .limits) (a .start + h .k * a .step) (c .before .before .before .before .before .before .before .start-key .result) (c .before .before .before .before .before .before .before .start-key .ensures) (c .before .if1 .taken) (c .before .before .before .before .before .before .before .before .before .apply-constraints .result) (c .before .before .before .before .before .before .before .before .before .apply-constraints .ensures)),
     )
 
@@ -92,7 +92,7 @@ loop-again-2 c =
     let a = c .before .before .before .before .before .before .before .before .before .before .before .before .before .args in
     let h = c .before .before .before .before .loop in (
       omega arith,
-      hear-turn (λ k. valueAtSample (a .t1) true (a .limits) (a .start + k * a .step)) (h .k) (h .bounds) (c .widen2 .result) (gives (some (c .before .before .before .before .before .before .before .before .before .apply-constraints2 .result))) (h .inv .1) (c .widen2 .ensures)
+      lookup-turn (λ k. valueAtSample (a .t1) true (a .limits) (a .start + k * a .step)) (h .k) (h .bounds) (c .widen2 .result) (gives (some (c .before .before .before .before .before .before .before .before .before .apply-constraints2 .result))) (h .inv .1) (c .widen2 .ensures)
           (sample-late (a .t1) (inside (a .t1) _ (c .before .before .before .before .before .before .before .before .before .before .before .before .before .good .0) (c .before .before .before .before .before .before .before .before .before .before .before .before .before .pre .0)) (c .before .before .before .before .before .before .before .before .before .before .before .before .before .pre .1) (a .limits) (a .start + h .k * a .step) (c .before .before .before .before .before .before .before .before .start-key .result) (c .before .before .before .before .before .before .before .before .start-key .ensures) (c .before .before .if1 .left) (c .before .before .before .before .before .before .before .sample-key .result) (c .before .before .before .before .before .before .before .sample-key .ensures) (c .before .if2 .taken) (c .before .before .before .before .before .before .before .before .before .apply-constraints2 .result) (c .before .before .before .before .before .before .before .before .before .apply-constraints2 .ensures)),
     )
 
@@ -123,8 +123,8 @@ around-requires c κs = tt
 constrain-requires : tie.Need-constrain-requires Inv-loop μ-loop
 constrain-requires c κs = tt
 
-hear-requires : tie.Need-hear-requires Inv-loop μ-loop
-hear-requires c κs = tt
+add-lookup-requires : tie.Need-add-lookup-requires Inv-loop μ-loop
+add-lookup-requires c κs = tt
 
 loop-less-3 : tie.Need-loop-less-3 Inv-loop μ-loop
 loop-less-3 c = omega arith
@@ -137,7 +137,7 @@ loop-again-3 c =
     let sample = a .start + h .k * a .step in
     let j = keys-place sampleKey (a .t1 .places) (c .before .before .before .before .before .before .before .before .before .before .before .before .before .before .keys .result) (a .t1 .count) f (valid-count (a .t1) (c .before .before .before .before .before .before .before .before .before .before .before .before .before .before .before .before .before .before .before .before .before .pre .0)) (c .before .before .before .before .before .before .before .before .before .before .before .before .before .before .keys .ensures) (c .before .before .before .before .before .before .before .before .before .before .before .before .before .before .before .before .before .before .before .before .before .pre .2) sample sample (c .before .before .before .before .before .before .before .search .result) refl (c .before .before .before .before .before .before .before .search .ensures) in (
       omega arith,
-      hear-turn (λ k. valueAtSample (a .t1) true (a .limits) (a .start + k * a .step)) (h .k) (h .bounds) (c .hear .result) (told (c .before .constrain .result)) (h .inv .1) (c .hear .ensures)
+      lookup-turn (λ k. valueAtSample (a .t1) true (a .limits) (a .start + k * a .step)) (h .k) (h .bounds) (c .add-lookup .result) (told (c .before .constrain .result)) (h .inv .1) (c .add-lookup .ensures)
           (sample-within (a .t1) f (c .before .before .before .before .before .before .before .before .before .before .before .before .before .before .before .before .before .before .before .before .before .pre .1) (a .limits) sample (c .before .before .before .before .before .before .before .before .before .before .before .before .before .before .before .before .start-key .result) (c .before .before .before .before .before .before .before .before .before .before .before .before .before .before .before .before .start-key .ensures) (c .before .before .before .before .before .before .before .before .before .before .if1 .left) (c .before .before .before .before .before .before .before .before .before .before .before .before .before .before .before .sample-key .result) (c .before .before .before .before .before .before .before .before .before .before .before .before .before .before .before .sample-key .ensures) (c .before .before .before .before .before .before .before .before .before .if2 .left) (valid-count (a .t1) (c .before .before .before .before .before .before .before .before .before .before .before .before .before .before .before .before .before .before .before .before .before .pre .0)) (c .before .before .before .before .before .before .before .search .result) (c .before .before .before .before .before .before .previous .result) (c .before .before .before .before .before .within .result) j (c .before .before .before .before .before .before .previous .ensures) (c .before .before .before .before .before .within .ensures) (c .before .before .around .result) (c .before .constrain .result) (c .before .before .around .ensures) (c .before .constrain .ensures)),
     )
 
@@ -145,10 +145,10 @@ returns : tie.Need-returns Inv-loop μ-loop
 returns c =
     let a = c .before .before .before .before .before .before .before .before .before .before .args in
     let at : c .before .loop .k ≡ a .stops = omega arith in
-    c .before .loop .inv .1 ∙ ap (λ (k : ℕ). foldl widen nowhere (samplesHeard (a .t1) true (a .limits) (a .start) (a .step) k)) at
+    c .before .loop .inv .1 ∙ ap (λ (k : ℕ). foldl widen noValues (valuesAtSamples (a .t1) true (a .limits) (a .start) (a .step) k)) at
 
-pub hear-samples-spec : {M : Type 1} → statement M
-hear-samples-spec =
+pub bounds-of-samples-spec : {M : Type 1} → statement M
+bounds-of-samples-spec =
     tie.close
     (tie.spec
     Inv-loop
@@ -162,7 +162,7 @@ hear-samples-spec =
     start-key-requires
     sample-key-requires
     keys-requires
-    nowhere-requires
+    no-values-requires
     loop-holds
     mul-sample
     add-sample
@@ -182,7 +182,7 @@ hear-samples-spec =
     element-copy-out-q
     around-requires
     constrain-requires
-    hear-requires
+    add-lookup-requires
     loop-less-3
     loop-again-3
     returns)

@@ -1,4 +1,4 @@
--- `analysis::hear_times` meets its contract. Assumes nothing.
+-- `analysis::bounds_of_times` meets its contract. Assumes nothing.
 use Prim.Native.Nat.{ℕ, _≤_, _-_}
 use mathlib.Core.Path.{_≡_, ap, _∙_}
 use mathlib.Core.Bool.{true}
@@ -10,17 +10,17 @@ use Rattle.points.specs.Points.{timeKey}
 use Rattle.points.specs.Refusal.{gives}
 use Rattle.lookup.specs.Lookup.{valueAt, told}
 use Rattle.lookup.specs.LookupLaws.{valid-count, valid-rising}
-use Rattle.analysis.specs.Analysis.{heardOf, rangeTime}
+use Rattle.analysis.specs.Analysis.{givenValues, rangeTime}
 use Rattle.lookup.specs.Runs.{run}
-use Rattle.analysis.specs.Ranges.{nowhere, widen, timesHeard}
+use Rattle.analysis.specs.Ranges.{noValues, widen, valuesAtTimes}
 use Rattle.lookup.proofs.Good.{inside}
 use Rattle.lookup.specs.KeyLaws.{keys-place}
-use Rattle.analysis.proofs.Ranges.{hear-turn, time-early, time-late, time-inner}
-use Rattle.analysis.proofs.hear_times.Statement.{statement}
-use Rattle.analysis.proofs.hear_times.Tie as tie
+use Rattle.analysis.proofs.Ranges.{lookup-turn, time-early, time-late, time-inner}
+use Rattle.analysis.proofs.bounds_of_times.Statement.{statement}
+use Rattle.analysis.proofs.bounds_of_times.Tie as tie
 
 abbrev Inv-loop : tie.InvT-loop
-Inv-loop limits start end points n one first last early late keys step bounds₀ i₀ bounds i = (i ≤ 101) × (bounds ≡ foldl widen nowhere (timesHeard points true limits start end i))
+Inv-loop limits start end points n one first last early late keys step bounds₀ i₀ bounds i = (i ≤ 101) × (bounds ≡ foldl widen noValues (valuesAtTimes points true limits start end i))
 
 abbrev μ-loop : tie.MeasureT-loop
 μ-loop limits start end points n one first last early late keys step bounds₀ i₀ bounds i = 101 - i
@@ -46,12 +46,12 @@ apply-constraints-requires-2 c κs = tt
 keys-requires : tie.Need-keys-requires Inv-loop μ-loop
 keys-requires c κs = tt
 
-nowhere-requires : tie.Need-nowhere-requires Inv-loop μ-loop
-nowhere-requires c κs = tt
+no-values-requires : tie.Need-no-values-requires Inv-loop μ-loop
+no-values-requires c κs = tt
 
 loop-holds : tie.Need-loop-holds Inv-loop μ-loop
-unfolding run heardOf
-loop-holds c = (omega arith, c .nowhere .ensures)
+unfolding run givenValues
+loop-holds c = (omega arith, c .no-values .ensures)
 
 int-to-float-time : tie.Need-int-to-float-time Inv-loop μ-loop
 int-to-float-time c = tt
@@ -70,7 +70,7 @@ loop-again c =
     let a = c .before .before .before .before .before .before .before .before .before .before .before .before .args in
     let h = c .before .before .before .before .before .loop in (
       omega arith,
-      hear-turn (λ k. valueAt (a .t1) true (a .limits) (rangeTime (a .start) (a .end) k)) (h .i) (h .bounds) (c .widen .result) (gives (some (c .before .before .before .before .before .before .before .before .before .apply-constraints .result))) (h .inv .1) (c .widen .ensures)
+      lookup-turn (λ k. valueAt (a .t1) true (a .limits) (rangeTime (a .start) (a .end) k)) (h .i) (h .bounds) (c .widen .result) (gives (some (c .before .before .before .before .before .before .before .before .before .apply-constraints .result))) (h .inv .1) (c .widen .ensures)
           (time-early (a .t1) (inside (a .t1) _ (c .before .before .before .before .before .before .before .before .before .before .before .before .good .0) (c .before .before .before .before .before .before .before .before .before .before .before .before .pre .0)) (c .before .before .before .before .before .before .before .before .before .before .before .before .pre .1) (a .limits) (rangeTime (a .start) (a .end) (h .i)) (c .before .if1 .taken) (c .before .before .before .before .before .before .before .before .before .apply-constraints .result) (c .before .before .before .before .before .before .before .before .before .apply-constraints .ensures)),
     )
 
@@ -85,7 +85,7 @@ loop-again-2 c =
     let a = c .before .before .before .before .before .before .before .before .before .before .before .before .before .before .args in
     let h = c .before .before .before .before .before .before .before .loop in (
       omega arith,
-      hear-turn (λ k. valueAt (a .t1) true (a .limits) (rangeTime (a .start) (a .end) k)) (h .i) (h .bounds) (c .widen2 .result) (gives (some (c .before .before .before .before .before .before .before .before .before .before .apply-constraints2 .result))) (h .inv .1) (c .widen2 .ensures)
+      lookup-turn (λ k. valueAt (a .t1) true (a .limits) (rangeTime (a .start) (a .end) k)) (h .i) (h .bounds) (c .widen2 .result) (gives (some (c .before .before .before .before .before .before .before .before .before .before .apply-constraints2 .result))) (h .inv .1) (c .widen2 .ensures)
           (time-late (a .t1) (inside (a .t1) _ (c .before .before .before .before .before .before .before .before .before .before .before .before .before .before .good .0) (c .before .before .before .before .before .before .before .before .before .before .before .before .before .before .pre .0)) (c .before .before .before .before .before .before .before .before .before .before .before .before .before .before .pre .1) (a .limits) (rangeTime (a .start) (a .end) (h .i)) (c .before .before .before .if1 .left) (c .before .if2 .taken) (c .before .before .before .before .before .before .before .before .before .before .apply-constraints2 .result) (c .before .before .before .before .before .before .before .before .before .before .apply-constraints2 .ensures)),
     )
 
@@ -119,8 +119,8 @@ around-requires c κs = tt
 constrain-requires : tie.Need-constrain-requires Inv-loop μ-loop
 constrain-requires c κs = tt
 
-hear-requires : tie.Need-hear-requires Inv-loop μ-loop
-hear-requires c κs = tt
+add-lookup-requires : tie.Need-add-lookup-requires Inv-loop μ-loop
+add-lookup-requires c κs = tt
 
 loop-less-3 : tie.Need-loop-less-3 Inv-loop μ-loop
 loop-less-3 c = omega arith
@@ -133,7 +133,7 @@ loop-again-3 c =
     let time = rangeTime (a .start) (a .end) (h .i) in
     let j = keys-place timeKey (a .t1 .places) (c .before .before .before .before .before .before .before .before .before .before .before .before .before .before .before .before .before .before .keys .result) (a .t1 .count) f (valid-count (a .t1) (c .before .before .before .before .before .before .before .before .before .before .before .before .before .before .before .before .before .before .before .before .before .before .before .pre .0)) (c .before .before .before .before .before .before .before .before .before .before .before .before .before .before .before .before .before .before .keys .ensures) (valid-rising (a .t1) (c .before .before .before .before .before .before .before .before .before .before .before .before .before .before .before .before .before .before .before .before .before .before .before .pre .0)) (orderKey time) (c .before .before .before .before .before .before .before .before .order-key .result) (c .before .before .before .before .before .before .before .search .result) (c .before .before .before .before .before .before .before .before .order-key .ensures) (c .before .before .before .before .before .before .before .search .ensures) in (
       omega arith,
-      hear-turn (λ k. valueAt (a .t1) true (a .limits) (rangeTime (a .start) (a .end) k)) (h .i) (h .bounds) (c .hear .result) (told (c .before .constrain .result)) (h .inv .1) (c .hear .ensures)
+      lookup-turn (λ k. valueAt (a .t1) true (a .limits) (rangeTime (a .start) (a .end) k)) (h .i) (h .bounds) (c .add-lookup .result) (told (c .before .constrain .result)) (h .inv .1) (c .add-lookup .ensures)
           (time-inner (a .t1) f (c .before .before .before .before .before .before .before .before .before .before .before .before .before .before .before .before .before .before .before .before .before .before .before .pre .1) (a .limits) time (c .before .before .before .before .before .before .before .before .before .before .before .before .if1 .left) (c .before .before .before .before .before .before .before .before .before .before .if2 .left) (valid-count (a .t1) (c .before .before .before .before .before .before .before .before .before .before .before .before .before .before .before .before .before .before .before .before .before .before .before .pre .0)) (c .before .before .before .before .before .before .before .search .result) (c .before .before .before .before .before .before .previous .result) (c .before .before .before .before .before .within .result) j (c .before .before .before .before .before .before .previous .ensures) (c .before .before .before .before .before .within .ensures) (c .before .before .around .result) (c .before .constrain .result) (c .before .before .around .ensures) (c .before .constrain .ensures)),
     )
 
@@ -141,10 +141,10 @@ returns : tie.Need-returns Inv-loop μ-loop
 returns c =
     let a = c .before .before .before .before .before .before .before .before .args in
     let at : c .before .loop .i ≡ 101 = omega arith in
-    c .before .loop .inv .1 ∙ ap (λ (k : ℕ). foldl widen nowhere (timesHeard (a .t1) true (a .limits) (a .start) (a .end) k)) at
+    c .before .loop .inv .1 ∙ ap (λ (k : ℕ). foldl widen noValues (valuesAtTimes (a .t1) true (a .limits) (a .start) (a .end) k)) at
 
-pub hear-times-spec : {M : Type 1} → statement M
-hear-times-spec =
+pub bounds-of-times-spec : {M : Type 1} → statement M
+bounds-of-times-spec =
     tie.close
     (tie.spec
     Inv-loop
@@ -156,7 +156,7 @@ hear-times-spec =
     apply-constraints-requires
     apply-constraints-requires-2
     keys-requires
-    nowhere-requires
+    no-values-requires
     loop-holds
     int-to-float-time
     add-i
@@ -176,7 +176,7 @@ hear-times-spec =
     element-copy-out-q
     around-requires
     constrain-requires
-    hear-requires
+    add-lookup-requires
     loop-less-3
     loop-again-3
     returns)
