@@ -5,6 +5,7 @@ use mathlib.Core.List.{map}
 use lib.Ieee.{Float}
 use Rattle.numbers.specs.Bounds.{finite}
 use Rattle.curve.specs.Curve.{finiteControls}
+use Rattle.curve.specs.F32.{f0, f1}
 use Rattle.points.specs.Refusal.{Said, refuses, gives, said}
 use Rattle.points.specs.Point.{finitePoint}
 use Rattle.points.specs.Points.{listOf}
@@ -14,7 +15,7 @@ use Rattle.points.specs.declared.refusal.Answer.{Answer}
 use Rattle.points.specs.declared.refusal.Answer.the-variants.{Accepted, Refused}
 use Rattle.settle.specs.Settle.{editPoints}
 use Rattle.settle.specs.declared.EditedPoints.{EditedPoints}
-use Rattle.pointwise.specs.Each.{zero32, one32, changed, scaledTime, normalized, clampedEdit, fadedInAll, fadedOutAll}
+use Rattle.pointwise.specs.Each.{changed, scaledTime, normalized, clampedEdit, fadedInAll, fadedOutAll}
 use Rattle.pointwise.specs.declared.Change.the-variants as change
 use Rattle.insert.specs.Insert.{insertPoint, mergedPoints, rampList, pulseList}
 use Rattle.shape.specs.Shape.{keepIf, inside, removeFirst, near, reversed, quantized, simplified}
@@ -44,16 +45,13 @@ pub record EditTold : Type 0 where
 abbrev pub toldEdit : Edited → EditTold
 toldEdit r = record { said = said (r .answer); envelope = r .envelope }
 
--- for the code's own use: a refusal by its name
-abbrev pub refusedEdit : AutomationEnvelope → Refusal → Edited
-refusedEdit e r = record { answer = Refused r; envelope = e }
-
 -- "A refusal returns its number .. and changes nothing."
 abbrev pub declined : AutomationEnvelope → ℕ → EditTold
 declined e n = record { said = refuses n; envelope = e }
 
 -- ---- the edits of the points, as 000 has them; `editPoints` has 1 for the points, argument 3, and the result's 3, 6, 5
 
+-- what each says, and the points it gives
 unfoldable pub pointsEdited : PointsEdit → Points → EditedPoints
 pointsEdited (AddPoint p) ps = editPoints ps (finitePoint p) (insertPoint p (listOf ps))
 pointsEdited (RemovePointAt time) ps = editPoints ps (finite time) (removeFirst (near time) (listOf ps))
@@ -76,8 +74,8 @@ pointsEdited (ApplyCompression threshold ratio) ps = editPoints ps (finite thres
 
 -- the points of fade_in, fade_out, pulse and ramp, with the same refusals
 unfoldable pub replacedPoints : Replacement → Points → EditedPoints
-replacedPoints (FadeIn duration c) ps = editPoints ps (finite duration && finiteControls c) (rampList duration zero32 one32 c)
-replacedPoints (FadeOut duration c) ps = editPoints ps (finite duration && finiteControls c) (rampList duration one32 zero32 c)
+replacedPoints (FadeIn duration c) ps = editPoints ps (finite duration && finiteControls c) (rampList duration f0 f1 c)
+replacedPoints (FadeOut duration c) ps = editPoints ps (finite duration && finiteControls c) (rampList duration f1 f0 c)
 replacedPoints (Pulse fadeIn sustain fadeOut c) ps = editPoints ps (finite fadeIn && finite sustain && finite fadeOut && finiteControls c) (pulseList fadeIn sustain fadeOut c)
 replacedPoints (Ramp duration start end c) ps = editPoints ps (finite duration && finite start && finite end && finiteControls c) (rampList duration start end c)
 
@@ -140,3 +138,9 @@ combineOf op e other = renewed e (combinedPoints op (sideOf e) (sideOf other))
 unfoldable pub joinOf : Join → AutomationEnvelope → AutomationEnvelope → EditTold
 joinOf (Merge offset) e other = mergeOf e other offset
 joinOf (Combine op) e other = combineOf op e other
+
+-- ---- for the code's own use
+
+-- a refusal by its name
+abbrev pub refusedEdit : AutomationEnvelope → Refusal → Edited
+refusedEdit e r = record { answer = Refused r; envelope = e }

@@ -48,6 +48,7 @@ typed e = ltb (e .target) 0x1_0000_0000 && typedLimit (e .«min_value») && type
 
 -- ---- an edit's arguments
 
+-- those of an edit of the points: times are f64, values f32
 unfoldable pub typedPointsEdit : PointsEdit → Bool
 typedPointsEdit (AddPoint p) = typedPoint p
 typedPointsEdit (RemovePointAt time) = fits binary64 time

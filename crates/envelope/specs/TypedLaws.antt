@@ -115,6 +115,7 @@ withSettings-typed : (e : AutomationEnvelope) (on : Bool) (l : Limits) → typed
     → typedLimit (l .«min_value») ≡ true → typedLimit (l .«max_value») ≡ true → typedLimit (l .«step_size») ≡ true → typed (withSettings e on l) ≡ true
 withSettings-typed e on l t a b c = let p = parted e t in joined (withSettings e on l) (record { target = p .target; least = a; greatest = b; step = c; points = p .points })
 
+-- the envelope that comes back is in range of its types
 abbrev TypedTold : EditTold → Type 0
 TypedTold r = typed (r .envelope) ≡ true
 

@@ -12,6 +12,7 @@ use borrow.Author.Tests.{eqb-true, eq-eqb, ne-eqb, lt-ltb, le-ltb, le-leb}
 use Rattle.numbers.specs.Bounds.{finite}
 use Rattle.numbers.specs.OrderLaws.{key-same}
 use Rattle.curve.specs.Curve.{finiteControls, controls}
+use Rattle.curve.specs.F32.{f0, f1}
 use Rattle.curve.specs.declared.CurveType.{CurveType}
 use Rattle.curve.specs.declared.CurveType.the-variants.{Linear}
 use Rattle.points.specs.Point.{finitePoint, pointWith}
@@ -23,7 +24,7 @@ use Rattle.points.specs.declared.Points.{Points}
 use Rattle.points.specs.declared.refusal.Refusal.the-variants.{NotValid, NotFinite, TooManyPoints}
 use Rattle.points.specs.declared.refusal.Answer.the-variants.{Accepted}
 use Rattle.settle.specs.Settle.{refused, settle, editPoints}
-use Rattle.pointwise.specs.Each.{zero64, zero32, one32, changed}
+use Rattle.pointwise.specs.Each.{zero64, changed}
 use Rattle.pointwise.specs.Places.{mappedIn}
 use Rattle.pointwise.specs.declared.Change.the-variants.{Shift}
 use Rattle.pointwise.proofs.Mapped.{mapped-list}
@@ -258,17 +259,17 @@ lost p v c h = sym (fine-only (fine p) (finite (p .value)) (finiteControls (p .c
 
 -- a pulse's two sums: each is finite, or the list isn't
 abbrev third : Float → Float → AutomationPoint
-third fadeIn sustain = pointWith (add binary64 fadeIn sustain) one32 Linear
+third fadeIn sustain = pointWith (add binary64 fadeIn sustain) f1 Linear
 
 abbrev fourth : Float → Float → Float → CurveType → AutomationPoint
-fourth fadeIn sustain fadeOut c = pointWith (add binary64 (add binary64 fadeIn sustain) fadeOut) zero32 c
+fourth fadeIn sustain fadeOut c = pointWith (add binary64 (add binary64 fadeIn sustain) fadeOut) f0 c
 
 module _ (fadeIn sustain fadeOut : Float) (c : CurveType) where
   sums : (x y : Bool) → finite fadeIn ≡ true → finiteControls c ≡ true → finitePoint (third fadeIn sustain) ≡ x → finitePoint (fourth fadeIn sustain fadeOut c) ≡ y
       → every finitePoint (pulseList fadeIn sustain fadeOut c) ≡ (x && y)
   unfolding every finite finiteControls controls ofBits
   sums true true f g p q =
-      every-all finitePoint [] (pointWith zero64 zero32 Linear ∷ (pointWith fadeIn one32 c ∷ (third fadeIn sustain ∷ (fourth fadeIn sustain fadeOut c ∷ [])))) refl
+      every-all finitePoint [] (pointWith zero64 f0 Linear ∷ (pointWith fadeIn f1 c ∷ (third fadeIn sustain ∷ (fourth fadeIn sustain fadeOut c ∷ [])))) refl
       (both (refl {a = true}) (both (both (both f refl) g) (both p (both q refl))))
   sums true false f g p q = unfine (pulseList fadeIn sustain fadeOut c) (bad-new (fourth fadeIn sustain fadeOut c) _ (lost (fourth fadeIn sustain fadeOut c) refl g q))
   sums false y f g p q =

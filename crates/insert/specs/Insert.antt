@@ -4,6 +4,7 @@ use mathlib.Core.List.{List, [], _∷_, foldl}
 use lib.Dec.{ltb, eqb}
 use lib.Ieee.{Float, binary64, add}
 use Rattle.numbers.specs.Bounds.{finite}
+use Rattle.curve.specs.F32.{f0, f1}
 use Rattle.curve.specs.declared.CurveType.{CurveType}
 use Rattle.curve.specs.declared.CurveType.the-variants.{Linear}
 use Rattle.points.specs.Points.{timeKey, listOf, validPoints}
@@ -14,7 +15,7 @@ use Rattle.settle.specs.declared.EditedPoints.{EditedPoints}
 use Rattle.settle.specs.Settle.{refused, editPoints}
 use Rattle.points.specs.Point.{pointWith}
 use Rattle.pointwise.specs.declared.Change.the-variants.{Shift}
-use Rattle.pointwise.specs.Each.{zero64, zero32, one32, changed}
+use Rattle.pointwise.specs.Each.{zero64, changed}
 
 -- "`add_point` replaces only at bit-equal time; otherwise it inserts"
 unfoldable pub insertPoint : AutomationPoint → List AutomationPoint → List AutomationPoint
@@ -43,7 +44,7 @@ rampList duration start end c = insertAll [] (pointWith zero64 start Linear ∷ 
 abbrev pub pulseList : Float → Float → Float → CurveType → List AutomationPoint
 pulseList fadeIn sustain fadeOut c =
     insertAll [] (
-    pointWith zero64 zero32 Linear ∷ (
-    pointWith fadeIn one32 c ∷ (
-    pointWith (add binary64 fadeIn sustain) one32 Linear ∷ (
-    pointWith (add binary64 (add binary64 fadeIn sustain) fadeOut) zero32 c ∷ []))))
+    pointWith zero64 f0 Linear ∷ (
+    pointWith fadeIn f1 c ∷ (
+    pointWith (add binary64 fadeIn sustain) f1 Linear ∷ (
+    pointWith (add binary64 (add binary64 fadeIn sustain) fadeOut) f0 c ∷ []))))

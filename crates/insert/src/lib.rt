@@ -4,10 +4,10 @@ ghost use mathlib.Core.Bool.{true, _&&_};
 ghost use mathlib.Core.List.{[], _∷_};
 ghost use Rattle.numbers.specs.Bounds.{finite};
 ghost use Rattle.curve.specs.Curve.{finiteControls};
+ghost use Rattle.curve.specs.F32.{f0, f1};
 ghost use Rattle.points.specs.Point.{finitePoint};
 ghost use Rattle.points.specs.Points.{every, listOf, holding, validPoints};
 ghost use Rattle.settle.specs.Settle.{settle, editPoints};
-ghost use Rattle.pointwise.specs.Each.{zero32, one32};
 ghost use Rattle.insert.specs.Insert.{insertPoint, insertAll, mergedPoints, rampList, pulseList};
 ghost use Rattle.insert.specs.Inserted.{Sorted, Inserts};
 use curve::CurveType;
@@ -166,7 +166,7 @@ fn four(a: AutomationPoint, b: AutomationPoint, c: AutomationPoint, d: Automatio
     out
 }
 
-// Each in turn into none: as they are where their times rise.
+// The points inserted one by one into an empty list. Where their times rise that gives the points as they are.
 fn in_order(new: Points) -> Points
     requires { ⌜ holding (listOf new) ≡ new ⌝ }
     ensures { λ r. ⌜ r ≡ holding (insertAll [] (listOf new)) ⌝ }
@@ -206,13 +206,13 @@ pub fn ramp(
 }
 
 pub fn fade_in(points: Points, duration: f64, curve: CurveType) -> EditedPoints
-    ensures { λ r. ⌜ r ≡ editPoints points (finite duration && finiteControls curve) (rampList duration zero32 one32 curve) ⌝ }
+    ensures { λ r. ⌜ r ≡ editPoints points (finite duration && finiteControls curve) (rampList duration f0 f1 curve) ⌝ }
 {
     ramp(points, duration, 0.0, 1.0, curve)
 }
 
 pub fn fade_out(points: Points, duration: f64, curve: CurveType) -> EditedPoints
-    ensures { λ r. ⌜ r ≡ editPoints points (finite duration && finiteControls curve) (rampList duration one32 zero32 curve) ⌝ }
+    ensures { λ r. ⌜ r ≡ editPoints points (finite duration && finiteControls curve) (rampList duration f1 f0 curve) ⌝ }
 {
     ramp(points, duration, 1.0, 0.0, curve)
 }

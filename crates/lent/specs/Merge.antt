@@ -30,6 +30,7 @@ mergeListOf e l offset = cond (validList l) (joinOf (Merge offset) e (withPoints
 
 -- ---- for the code's own use: its fold
 
+-- whether an edit was accepted
 abbrev pub isAccepted : Answer → Bool
 isAccepted Accepted = true
 isAccepted (Refused r) = false

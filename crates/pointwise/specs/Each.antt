@@ -1,10 +1,11 @@
 -- The edits that change each point by itself, as 000 has them, operation by operation.
-use mathlib.Core.Bool.{cond, _&&_}
+use mathlib.Core.Bool.{true, false, cond, _&&_}
 use mathlib.Core.List.{List, [], _∷_, map, foldl}
-use lib.Ieee.{Float, binary32, binary64, add, sub, mul, div, lt, le, ofBits}
+use lib.Ieee.{Float, inf, binary32, binary64, add, sub, mul, div, lt, le, ofBits}
 use Rattle.numbers.specs.Narrow.{narrow}
 use Rattle.numbers.specs.Bounds.{maxNum, minNum, finite}
 use Rattle.curve.specs.Curve.{interpolated}
+use Rattle.curve.specs.F32.{f0, f1}
 use Rattle.curve.specs.declared.CurveType.{CurveType}
 use Rattle.points.specs.Points.{listOf, validPoints}
 use Rattle.points.specs.declared.AutomationPoint.{AutomationPoint}
@@ -16,21 +17,13 @@ use Rattle.settle.specs.declared.EditedPoints.{EditedPoints}
 use Rattle.pointwise.specs.declared.Change.{Change}
 use Rattle.pointwise.specs.declared.Change.the-variants.{Shift, ScaleTime, Reflect, Quantize, Invert, Normalize, Scale, Offset, Clamp, FadeIn, FadeOut, Gate, Compress}
 
--- 0.0 and 1.0, of either format
+-- 0.0, an f64
 abbrev pub zero64 : Float
 zero64 = ofBits binary64 0
 
 -- 1.0, an f64
 abbrev pub one64 : Float
 one64 = ofBits binary64 0x3FF0_0000_0000_0000
-
--- 0.0, an f32
-abbrev pub zero32 : Float
-zero32 = ofBits binary32 0
-
--- 1.0, an f32
-abbrev pub one32 : Float
-one32 = ofBits binary32 0x3F80_0000
 
 -- the point at another time
 abbrev pub withTime : AutomationPoint → Float → AutomationPoint
@@ -53,19 +46,19 @@ fadeFraction start duration time = narrow (clampedTo zero64 one64 (div binary64 
 unfoldable pub fadedIn : Float → Float → CurveType → AutomationPoint → Float
 fadedIn start duration c p =
     cond (le (p .time) (add binary64 start duration))
-    (mul binary32 (p .value) (interpolated c zero32 one32 (fadeFraction start duration (p .time))))
+    (mul binary32 (p .value) (interpolated c f0 f1 (fadeFraction start duration (p .time))))
     (p .value)
 
 -- apply_fade_out: points from start on are multiplied by the curve from 1 to 0
 unfoldable pub fadedOut : Float → Float → CurveType → AutomationPoint → Float
 fadedOut start duration c p =
     cond (le start (p .time))
-    (mul binary32 (p .value) (interpolated c one32 zero32 (fadeFraction start duration (p .time))))
+    (mul binary32 (p .value) (interpolated c f1 f0 (fadeFraction start duration (p .time))))
     (p .value)
 
 -- apply_gate: "if point.value < threshold"
 unfoldable pub gated : Float → Float → Float
-gated threshold v = cond (lt v threshold) zero32 v
+gated threshold v = cond (lt v threshold) f0 v
 
 -- apply_compression: "if point.value > threshold"
 unfoldable pub compressed : Float → Float → Float → Float
@@ -89,11 +82,11 @@ changed (Compress threshold ratio) p = withValue p (compressed threshold ratio (
 
 -- normalize: the least and the greatest value, from the infinities
 abbrev pub lowestValue : List AutomationPoint → Float
-lowestValue l = foldl (λ v p. minNum v (p .value)) (ofBits binary32 0x7F80_0000) l
+lowestValue l = foldl (λ v p. minNum v (p .value)) (inf false) l
 
 -- the greatest
 abbrev pub highestValue : List AutomationPoint → Float
-highestValue l = foldl (λ v p. maxNum v (p .value)) (ofBits binary32 0xFF80_0000) l
+highestValue l = foldl (λ v p. maxNum v (p .value)) (inf true) l
 
 -- "Where 000 returns early (grid, factor or duration at most 0) the edit is accepted and changes nothing"
 abbrev pub scaledTime : Float → List AutomationPoint → List AutomationPoint
@@ -104,7 +97,7 @@ abbrev pub normalized : Float → Float → List AutomationPoint → List Automa
 normalized newMin newMax l =
     let low = lowestValue l in
     let range = sub binary32 (highestValue l) low in
-    cond (lt zero32 range) (map (changed (Normalize low range newMin (sub binary32 newMax newMin))) l) l
+    cond (lt f0 range) (map (changed (Normalize low range newMin (sub binary32 newMax newMin))) l) l
 
 -- the first time and the last: the fades and `reverse` take them where there is a point
 abbrev pub firstTime : List AutomationPoint → Float

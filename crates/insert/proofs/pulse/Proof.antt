@@ -6,13 +6,14 @@ use borrow.Author.Tests.{not-true, not-false}
 use lib.Ieee.{add, binary64}
 use Rattle.numbers.specs.Bounds.{finite}
 use Rattle.curve.specs.Curve.{finiteControls}
+use Rattle.curve.specs.F32.{f0, f1}
 use Rattle.points.specs.declared.AutomationPoint.{AutomationPoint}
 use Rattle.curve.specs.declared.CurveType.the-variants.{Linear}
 use Rattle.points.specs.Point.{finitePoint, pointWith}
 use Rattle.points.specs.Points.{listOf, holding, risingBy}
 use Rattle.points.specs.Laws.{and-both}
 use Rattle.points.specs.ValidLaws.{listOf-holding}
-use Rattle.pointwise.specs.Each.{zero64, zero32, one32}
+use Rattle.pointwise.specs.Each.{zero64}
 use Rattle.insert.specs.Insert.{insertAll, pulseList}
 use Rattle.insert.proofs.Inserting.{holding-own, all-few, rising-all}
 use Rattle.insert.proofs.Merging.{not-valid, made-new, any-three, pulse-fine}
@@ -82,7 +83,7 @@ returns-3 : tie.Need-returns-3
 unfolding risingBy
 returns-3 c =
     let t = add binary64 (c .before .before .before .before .before .before .before .before .before .before .before .before .before .before .before .args .fade-in) (c .before .before .before .before .before .before .before .before .before .before .before .before .before .before .before .args .sustain) in
-    let l = pointWith zero64 zero32 Linear ∷ (pointWith (c .before .before .before .before .before .before .before .before .before .before .before .before .before .before .before .args .fade-in) one32 (c .before .before .before .before .before .before .before .before .before .before .before .before .before .before .before .args .curve) ∷ (pointWith t one32 Linear ∷ (pointWith (add binary64 t (c .before .before .before .before .before .before .before .before .before .before .before .before .before .before .before .args .fade-out)) zero32 (c .before .before .before .before .before .before .before .before .before .before .before .before .before .before .before .args .curve) ∷ []))) in
+    let l = pointWith zero64 f0 Linear ∷ (pointWith (c .before .before .before .before .before .before .before .before .before .before .before .before .before .before .before .args .fade-in) f1 (c .before .before .before .before .before .before .before .before .before .before .before .before .before .before .before .args .curve) ∷ (pointWith t f1 Linear ∷ (pointWith (add binary64 t (c .before .before .before .before .before .before .before .before .before .before .before .before .before .before .before .args .fade-out)) f0 (c .before .before .before .before .before .before .before .before .before .before .before .before .before .before .before .args .curve) ∷ []))) in
     let m : listOf (c .before .four .result) ≡ l =
     ap listOf (c .before .four .ensures) ∙ listOf-holding _ ∙ (λ i. c .before .before .before .before .before .before .before .before .before .before .with-curve .ensures i ∷ (c .before .before .before .before .before .before .before .before .before .with-curve2 .ensures i ∷ (c .before .before .before .before .before .before .before .before .with-curve3 .ensures i ∷ (c .before .before .before .before .before .before .before .with-curve4 .ensures i ∷ [])))) in
     let given = and-both (and-both (and-both (c .before .before .before .before .before .before .before .before .before .before .before .before .before .before .is-finite .ensures) (c .before .before .before .before .before .before .before .before .before .before .before .before .before .is-finite2 .ensures)) (c .before .before .before .before .before .before .before .before .before .before .before .before .is-finite3 .ensures)) (c .before .before .before .before .before .before .before .before .before .before .before .is-finite4 .ensures) in

@@ -1,7 +1,8 @@
 use Prim.Native.Nat.{ℕ, _≤_, _-_}
 use mathlib.Core.Path.{_≡_, refl, sym, ap, _∙_}
+use mathlib.Core.Bool.{true, false}
 use native.Mathlib.Omega.{arith}
-use lib.Ieee.{Float, binary32, ofBits, div, neg}
+use lib.Ieee.{Float, inf, ofBits, div, neg}
 use lib.ListN.{take, getD}
 use Rattle.numbers.specs.Bounds.{minNum, maxNum}
 use Rattle.points.specs.Point.{anyPoint}
@@ -50,8 +51,8 @@ loop-again c =
     let h = c .before .before .before .before .loop in
     let x = getD l (h .i) anyPoint .value in (
       omega arith,
-      c .before .min .ensures ∙ ap (λ (v : Float). minNum v x) (h .inv .1) ∙ sym (fold-more (λ v p. minNum v (p .value)) (ofBits binary32 0x7F80_0000) l (h .i) anyPoint (omega arith)),
-      c .max .ensures ∙ ap (λ (v : Float). maxNum v x) (h .inv .2) ∙ sym (fold-more (λ v p. maxNum v (p .value)) (ofBits binary32 0xFF80_0000) l (h .i) anyPoint (omega arith)),
+      c .before .min .ensures ∙ ap (λ (v : Float). minNum v x) (h .inv .1) ∙ sym (fold-more (λ v p. minNum v (p .value)) (inf false) l (h .i) anyPoint (omega arith)),
+      c .max .ensures ∙ ap (λ (v : Float). maxNum v x) (h .inv .2) ∙ sym (fold-more (λ v p. maxNum v (p .value)) (inf true) l (h .i) anyPoint (omega arith)),
     )
 
 returns : tie.Need-returns Inv-loop μ-loop
