@@ -1,8 +1,9 @@
 -- What demand 3 says of a session and its memory after a list of calls.
 use Prim.Native.Nat.{ℕ, _+_, _-_, _/_, _%_, _≤_, _<_}
 use mathlib.Core.Path.{_≡_}
-use mathlib.Core.Bool.{cond, _&&_}
+use mathlib.Core.Bool.{true, cond, _&&_}
 use mathlib.Core.List.{List}
+use lib.Dec.{eqb}
 use lib.ListN.{length, getD, replicate}
 use lib.Ieee.{Float}
 use Rattle.numbers.specs.Bounds.{finite}
@@ -12,7 +13,7 @@ use Rattle.render.specs.Pieces.{total}
 use Rattle.envelope.specs.Envelope.{limitsOf}
 use Rattle.envelope.specs.declared.AutomationEnvelope.{AutomationEnvelope}
 use Rattle.state.specs.State.{stateWords, pack}
-use Rattle.session.specs.Session.{statesIn, stateAt}
+use Rattle.session.specs.Session.{statesIn, stateAt, validSession}
 use Rattle.session.specs.Calls.{Call, callOf}
 use Rattle.session.specs.Play.{sessionRender, sessionToBuffer, sessionPieces}
 use Rattle.session.specs.declared.Session.{Session}
@@ -26,6 +27,10 @@ pub record Holds (start : AutomationEnvelope) (d : ℕ) (h : Hist) (m : List ℕ
 -- word i is in none of these states
 abbrev pub Outside : ℕ → Hist → ℕ → Type 0
 Outside d h i = (k : ℕ) → h .mark - h .kept ≤ k → k < length (h .edits) → i / stateWords ≡ k % d → ⊥
+
+-- the place of the next edit's state: the mark modulo D, "0 where D is 0"
+abbrev pub placeOf : ℕ → Hist → ℕ
+placeOf d h = cond (eqb d 0) 0 (h .mark % d)
 
 -- the samples of an envelope
 abbrev pub samplesOf : AutomationEnvelope → Float → ℕ → Float
@@ -52,6 +57,14 @@ pub record After (start : AutomationEnvelope) (m₀ : List ℕ) (cs : List Call)
   pub envelope : s .envelope ≡ envelopeOf start (historyOf start m₀ cs)
   pub kept : s .kept ≡ historyOf start m₀ cs .kept
   pub ahead : s .ahead ≡ aheadOf (historyOf start m₀ cs)
+  -- "A session is valid if .."; so no later call gives 1 for it
+  pub valid : validSession s ≡ true
+  -- it holds "the u64 length lent at opening", of which D is made
+  pub words : s .length ≡ length m₀
+  -- the step memory has that length still, so lending it again gives no 11
+  pub lent : length m ≡ length m₀
+  -- the "place of a state that it holds" is that of the edit to come
+  pub place : s .at ≡ placeOf (statesIn (length m₀)) (historyOf start m₀ cs)
   pub holds : Holds start (statesIn (length m₀)) (historyOf start m₀ cs) m
   -- whatever call comes next: "words in none of these states stay"
   pub stay : (c : Call) (i : ℕ) → Outside (statesIn (length m₀)) (ruleOf start (statesIn (length m₀)) (historyOf start m₀ cs) c .hist) i

@@ -49,6 +49,7 @@ module _ (start : AutomationEnvelope) (d : ℕ) (h : Hist) (s : Session) (m : Li
           rule = rule-edit ∙ ap (editHeard d h x) r;
           calls = c;
           inv = λ t. v;
+          lent = refl;
           stays = λ i out. refl;
         }
 
@@ -176,6 +177,7 @@ module _ (start : AutomationEnvelope) (d : ℕ) (h : Hist) (s : Session) (m : Li
             rule = rule-edit ∙ ap (editHeard d h x) z;
             calls = calls′;
             inv = inv′;
+            lent = length-m′;
             stays = stays′;
           }
 

@@ -24,7 +24,7 @@ use Rattle.session.specs.declared.SessionAnswer.{SessionAnswer}
 use Rattle.history.specs.Rule.{Hist, newHist, made, upTo, Heard, ruleOf, histAfter, answersAfter}
 use Rattle.history.specs.Entries.{typedCall}
 use Rattle.history.specs.After.{After}
-use Rattle.history.specs.Steps.{Inv, Stepped}
+use Rattle.history.specs.Steps.{Inv, Stepped, session-valid, place-is}
 use Rattle.history.specs.Edits.{edit-stepped}
 use Rattle.history.specs.Moves.{no-back, yes-back, no-forward, yes-forward}
 use Rattle.history.specs.Played.{runs-of}
@@ -51,17 +51,20 @@ module _ (start : AutomationEnvelope) (d : ℕ) (h : Hist) (s : Session) (m : Li
       carry start d (ruleOf start d h c .hist) (st .hist) (a .session) (st .session) m′ (st .memory) (ap (λ (x : Heard). x .hist) (st .rule))
       (ap (λ (x : Called). x .session) as-stepped) (ap (λ (x : Called). x .memory) as-stepped) (st .inv t)
 
+  next-lent : length m′ ≡ length m
+  next-lent = ap (λ (x : Called). length (x .memory)) as-stepped ∙ st .lent
+
   next-said : said (a .answer) ≡ ruleOf start d h c .said
   next-said = ap (λ (x : Called). x .said) as-stepped ∙ sym (ap (λ (x : Heard). x .said) (st .rule))
 
 keeps : (start : AutomationEnvelope) (d : ℕ) (h : Hist) {s : Session} {m : List ℕ} {cs : List Call} {answers : List (Said (Unit {0}))} {s″ : Session} {m″ : List ℕ}
-    → Ran s m cs answers s″ m″ → every typedCall cs ≡ true → Inv start d h s m → Inv start d (histAfter start d h cs) s″ m″ × (answers ≡ answersAfter start d h cs)
+    → Ran s m cs answers s″ m″ → every typedCall cs ≡ true → Inv start d h s m → Inv start d (histAfter start d h cs) s″ m″ × (answers ≡ answersAfter start d h cs) × (length m″ ≡ length m)
 unfolding histAfter answersAfter every
-keeps start d h done t v = (v, refl)
+keeps start d h done t v = (v, refl, refl)
 keeps start d h (call {s = s} {m = m} {c = c} a {m′ = m′} {cs = cs} ob r) t v =
     let k = keeps start d (ruleOf start d h c .hist) r (and-right (typedCall c) (every typedCall cs) t)
     (next-inv start d h s m v c a m′ ob (and-left (typedCall c) (every typedCall cs) t)) in
-    (k .0, ap₂ (λ (x : Said (Unit {0})) (xs : List (Said (Unit {0}))). x ∷ xs) (next-said start d h s m v c a m′ ob) (k .1))
+    (k .0, ap₂ (λ (x : Said (Unit {0})) (xs : List (Said (Unit {0}))). x ∷ xs) (next-said start d h s m v c a m′ ob) (k .1), k .2 ∙ next-lent start d h s m v c a m′ ob)
 
 begun : (start : AutomationEnvelope) (m : List ℕ) → typed start ≡ true → validEnvelope start ≡ true → Inv start (statesIn (length m)) newHist (opened start (length m)) m
 unfolding upTo made
@@ -93,6 +96,10 @@ history start t f m₀ cs ts answers s m r =
       envelope = v .envelope;
       kept = v .kept;
       ahead = omega (arith, v .ahead);
+      valid = session-valid start d (histAfter start d newHist cs) s m v;
+      words = v .words ∙ k .2;
+      lent = k .2;
+      place = place-is start d (histAfter start d newHist cs) s m v;
       holds = v .holds;
       stay = λ c i out.
           let st = step start d (histAfter start d newHist cs) s m v c in

@@ -60,6 +60,7 @@ module _ (start : AutomationEnvelope) (d : ℕ) (h : Hist) (s : Session) (m : Li
         rule = rw z;
         calls = (passes start d h s m v) _ ∙ rw (v .kept, z);
         inv = λ t. v;
+        lent = refl;
         stays = λ i out. refl;
       }
 
@@ -74,6 +75,7 @@ module _ (start : AutomationEnvelope) (d : ℕ) (h : Hist) (s : Session) (m : Li
         rule = rw (le-ltb (h .mark) (length (h .edits)) (omega arith));
         calls = (passes start d h s m v) _ ∙ rw z;
         inv = λ t. v;
+        lent = refl;
         stays = λ i out. refl;
       }
 
@@ -153,6 +155,7 @@ module _ (start : AutomationEnvelope) (d : ℕ) (h : Hist) (s : Session) (m : Li
           rule = rw (lt-ltb 0 (h .kept) q);
           calls = calls-b;
           inv = λ t. inv-b;
+          lent = put-length (h .mark - 1) pb pos-b slot-b;
           stays = λ i out. put-stays (h .mark - 1) pb pos-b slot-b i (out (h .mark - 1) (omega arith) (omega arith));
         }
 
@@ -227,5 +230,6 @@ module _ (start : AutomationEnvelope) (d : ℕ) (h : Hist) (s : Session) (m : Li
           rule = rw (lt-ltb (h .mark) (length (h .edits)) (omega arith));
           calls = calls-f;
           inv = λ t. inv-f;
+          lent = put-length (h .mark) (s .at) pos-f (v .at-slot pos-f);
           stays = λ i out. put-stays (h .mark) (s .at) pos-f (v .at-slot pos-f) i (out (h .mark) (omega arith) (omega arith));
         }

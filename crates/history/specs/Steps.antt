@@ -22,7 +22,7 @@ use Rattle.session.specs.Calls.{Entry, madeBy, Call, callOf}
 use Rattle.session.specs.declared.Session.{Session}
 use Rattle.history.specs.Rule.{Hist, made, upTo, ruleOf}
 use Rattle.history.specs.Entries.{typedCall}
-use Rattle.history.specs.After.{Holds, Outside}
+use Rattle.history.specs.After.{Holds, Outside, placeOf}
 
 -- the rule's history against the session and the memory that it runs on
 pub record Inv (start : AutomationEnvelope) (d : ℕ) (h : Hist) (s : Session) (m : List ℕ) : Type 0 where
@@ -53,6 +53,7 @@ pub record Stepped (start : AutomationEnvelope) (d : ℕ) (h : Hist) (s : Sessio
   pub rule : ruleOf start d h c ≡ record { said = answer; hist = hist }
   pub calls : callOf c s m ≡ record { said = answer; session = session; memory = memory }
   pub inv : typedCall c ≡ true → Inv start d hist session memory
+  pub lent : length memory ≡ length m
   pub stays : (i : ℕ) → Outside d hist i → getD memory i 0 ≡ getD m i 0
 
 module _ (start : AutomationEnvelope) (d : ℕ) (h : Hist) (s : Session) (m : List ℕ) (v : Inv start d h s m) where
@@ -82,6 +83,10 @@ module _ (start : AutomationEnvelope) (d : ℕ) (h : Hist) (s : Session) (m : Li
 
   pub marks : h .mark ≤ length (h .edits)
   marks = omega arith
+
+  -- the session's place
+  pub place-is : s .at ≡ placeOf d h
+  place-is = ⊎-elim (λ (z : d ≡ 0). v .at-zero z ∙ rw (eq-eqb d 0 z)) (λ (p : 0 < d). v .at-slot p ∙ rw (ne-eqb d 0 (omega arith))) (eq-zero-or-pos d)
 
   -- the slot at the mark lies in the memory
   pub at-fits : 0 < d → s .at * stateWords + stateWords ≤ length m

@@ -71,6 +71,15 @@ replayed kinds xs ys codes = take (length codes) (callsOf kinds xs ys)
 unfoldable pub saidOf : ℕ → Said (Unit {0})
 saidOf n = cond (eqb n 0) (gives tt) (refuses n)
 
+-- what holds after the replay of these calls
+pub record AfterReplay (target : ℕ) (m₀ : List ℕ) (cs : List Call) (codes₀ codes : List ℕ) (s : Session) (m : List ℕ) : Type 0 where
+  -- they ran from a new session, each on the session and the memory "as the last left them", and said what their codes say
+  pub ran : Ran (openSession target m₀) m₀ cs (map saidOf (take (length cs) codes)) s m
+  -- demand 3
+  pub after : After (new target) m₀ cs (map saidOf (take (length cs) codes)) s m
+  -- the places after the codes stay
+  pub rest : drop (length cs) codes ≡ drop (length cs) codes₀
+
 -- a refusal's number says it
 number-said : (r : Refusal) → saidOf (number r) ≡ refuses (number r)
 unfolding saidOf
@@ -213,9 +222,9 @@ module _ (target : ℕ) (m₀ kinds : List ℕ) (xs ys : List Float) (codes₀ c
     unfolding replayed
     long = length-take (length codes₀) (callsOf kinds xs ys) ∙ omega (arith, length-calls kinds xs ys)
 
-    all : take i (callsOf kinds xs ys) ≡ replayed kinds xs ys codes₀
+    all-calls : take i (callsOf kinds xs ys) ≡ replayed kinds xs ys codes₀
     unfolding replayed
-    all =
+    all-calls =
         ⊎-elim
         (λ (l : length codes₀ < length (callsOf kinds xs ys)).
         let e : i ≡ length codes₀ = omega (arith, length-calls kinds xs ys) in
@@ -224,8 +233,13 @@ module _ (target : ℕ) (m₀ kinds : List ℕ) (xs ys : List Float) (codes₀ c
         take-all i (callsOf kinds xs ys) (omega (arith, length-calls kinds xs ys)) ∙ sym (take-all (length codes₀) (callsOf kinds xs ys) l))
         (lt-or-le (length codes₀) (length (callsOf kinds xs ys)))
 
-    pub ended : After (new target) m₀ (replayed kinds xs ys codes₀) (map saidOf (take (length (replayed kinds xs ys codes₀)) codes)) s m
-        × (drop (length (replayed kinds xs ys codes₀)) codes ≡ drop (length (replayed kinds xs ys codes₀)) codes₀)
+    all-ran : Ran (openSession target m₀) m₀ (replayed kinds xs ys codes₀) (map saidOf (take (length (replayed kinds xs ys codes₀)) codes)) s m
+    all-ran = rw (long, ← all-calls) (v .ran)
+
+    pub ended : AfterReplay target m₀ (replayed kinds xs ys codes₀) codes₀ codes s m
     ended =
-        rw long
-        (history-new target f m₀ (replayed kinds xs ys codes₀) (ap (every typedCall) (sym all) ∙ v .in-range) (map saidOf (take i codes)) s m (rw (← all) (v .ran)), v .rest)
+        record {
+          ran = all-ran;
+          after = history-new target f m₀ (replayed kinds xs ys codes₀) (ap (every typedCall) (sym all-calls) ∙ v .in-range) _ s m all-ran;
+          rest = rw long (v .rest);
+        }

@@ -1,15 +1,11 @@
 // Replays a list of calls on a new session, through the session's own functions: what the history theorem says, said of one function.
 ghost use mathlib.Core.Path.{_≡_};
 ghost use mathlib.Core.Bool.{true};
-ghost use mathlib.Core.List.{map};
 ghost use Prim.Native.Nat.{min};
-ghost use lib.ListN.{length, take, drop};
 ghost use Rattle.points.specs.Refusal.{said};
-ghost use Rattle.envelope.specs.Envelope.{new};
 ghost use Rattle.session.specs.Calls.{Obeys};
-ghost use Rattle.history.specs.After.{After};
 ghost use Rattle.history.specs.Entries.{typedCall};
-ghost use Rattle.replay.specs.Replay.{otherFrom, callFrom, replayed, saidOf};
+ghost use Rattle.replay.specs.Replay.{otherFrom, callFrom, replayed, saidOf, AfterReplay};
 use envelope::AutomationEnvelope;
 use envelope::edit::Edit;
 use envelope::edit::Join;
@@ -73,8 +69,7 @@ pub fn replay(
     codes: &mut [u32],
     memory: &mut [u64],
 ) -> Session
-    ensures { λ r. ⌜ After (new target) (now (memory .entry)) (replayed (now (kinds .entry)) (now (xs .entry)) (now (ys .entry)) (now (codes .entry))) (map saidOf (take (length (replayed (now (kinds .entry)) (now (xs .entry)) (now (ys .entry)) (now (codes .entry)))) (now (codes .exit)))) r (now (memory .exit)) ⌝ }
-    ensures { λ _. ⌜ drop (length (replayed (now (kinds .entry)) (now (xs .entry)) (now (ys .entry)) (now (codes .entry)))) (now (codes .exit)) ≡ drop (length (replayed (now (kinds .entry)) (now (xs .entry)) (now (ys .entry)) (now (codes .entry)))) (now (codes .entry)) ⌝ }
+    ensures { λ r. ⌜ AfterReplay target (now (memory .entry)) (replayed (now (kinds .entry)) (now (xs .entry)) (now (ys .entry)) (now (codes .entry))) (now (codes .entry)) (now (codes .exit)) r (now (memory .exit)) ⌝ }
 {
     let n = shorter(
         shorter(kinds.len(), xs.len()),
