@@ -174,13 +174,13 @@ impl Session {
                 let at = self.at;
                 let next = slot_after(depth, at);
                 let kept = one_more(self.kept, depth);
-                let new = r.envelope;
+                let made = r.envelope;
                 if depth == 0 {
-                    self.moved(new, next, kept, 0)
+                    self.moved(made, next, kept, 0)
                 } else {
                     let old = self.envelope;
                     store(at, old, memory);
-                    self.moved(new, next, kept, 0)
+                    self.moved(made, next, kept, 0)
                 }
             }
             Answer::Refused(refusal) => self.refuse(refusal),
