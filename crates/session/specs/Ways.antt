@@ -103,11 +103,11 @@ part-words from m h =
     let e : from + 1028 - from ≡ 1028 = omega arith in
     ap (λ (n : ℕ). length (take n (drop from m))) e ∙ length-take-le 1028 (drop from m) (simp length-drop (omega arith))
 
--- a state written over 1,028 words is all of them
-pub part-written : (e : AutomationEnvelope) (part new : List ℕ) → length part ≡ 1028 → new ≡ writeState e part .words → new ≡ pack e
+-- a valid envelope's state written over 1,028 words is all of them
+pub part-written : (e : AutomationEnvelope) (part new : List ℕ) → validEnvelope e ≡ true → length part ≡ 1028 → new ≡ writeState e part .words → new ≡ pack e
 unfolding writeState
-part-written e part new h p =
-    let w : writeState e part ≡ record { said = gives tt; words = pack e ++ drop stateWords part } = rw (le-ltb (length part) 1028 (omega (arith, h))) in
+part-written e part new v h p =
+    let w : writeState e part ≡ record { said = gives tt; words = pack e ++ drop stateWords part } = rw (v, le-ltb (length part) 1028 (omega (arith, h))) in
     p ∙ ap (λ (w : WordsTold). w .words) w ∙ ap (λ (l : List ℕ). pack e ++ l) (drop-of-length-le part {i = 1028} (omega (arith, h))) ∙ append-nil (pack e)
 
 -- ---- the tests that come first
@@ -160,6 +160,16 @@ module _ (others : Bool) (t : EditTold) (s : Session) (m : List ℕ) where
       go true false one h k = rw h (ap (λ (x : Said (Unit {0})). settled s m x (t .envelope)) (one refl))
       go false o one h k = ap (λ (x : Said (Unit {0})). settled s m x (t .envelope)) (one refl)
 
+isGiven : {A : Type 0} → Said A → Bool
+isGiven (refuses n) = false
+isGiven (gives x) = true
+
+-- an edit that gives 1 where a test fails, and is accepted, has passed the test
+pub accepted-passed : (test : Bool) (a : Answer) → (test ≡ false → said a ≡ refuses 1) → a ≡ Accepted → test ≡ true
+unfolding isGiven
+accepted-passed true a one h = refl
+accepted-passed false a one h = absurd (true≢false (ap (λ (x : Answer). isGiven (said x)) (sym h) ∙ ap isGiven (one refl)))
+
 -- what an edit's result makes of the session
 module _ (s : Session) (m : List ℕ) (r : Edited) (a : SessionAnswer) where
   pub settle-refused : (x : Refusal) → a ≡ refusedBy s x → r .answer ≡ Refused x → called a m ≡ settled s m (said (r .answer)) (r .envelope)
@@ -174,10 +184,6 @@ module _ (s : Session) (m : List ℕ) (r : Edited) (a : SessionAnswer) where
     settle-put z e = ap (λ (y : SessionAnswer). called y m′) is ∙ rw (h, p, q, e, ne-eqb (s .length / 1028) 0 z)
 
 -- ---- a step
-
-isGiven : {A : Type 0} → Said A → Bool
-isGiven (refuses n) = false
-isGiven (gives x) = true
 
 module _ (s : Session) (m : List ℕ) (k at kept ahead : ℕ) (r : Edited) where
   step-done-of : (u : Option AutomationEnvelope) → toldEdit r ≡ readAs u → r .answer ≡ Accepted

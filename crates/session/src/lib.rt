@@ -5,6 +5,8 @@ ghost use Prim.Native.Nat.{_+_, _*_, _/_, _≤_, _<_, min};
 ghost use lib.ListN.{length};
 ghost use Rattle.points.specs.Refusal.{said};
 ghost use Rattle.points.specs.declared.refusal.Refusal.the-variants.{NotValid, MemoryLength};
+ghost use Rattle.points.specs.declared.refusal.Answer.the-variants.{Accepted};
+ghost use Rattle.envelope.specs.Envelope.{validEnvelope};
 ghost use Rattle.envelope.specs.Edit.{toldEdit};
 ghost use Rattle.state.specs.State.{readState};
 ghost use Rattle.session.specs.Session.{stateAt, stored, slotAfter, slotBefore, openSession, placeBelow, inOrder, validSession, called, settled, steppedOver, refusedBy, movedBy};
@@ -39,6 +41,7 @@ pub struct SessionAnswer {
 
 fn store(slot: usize, envelope: AutomationEnvelope, memory: &mut [u64])
     requires { ⌜ slot * 1028 + 1028 ≤ length (now memory) ⌝ }
+    requires { ⌜ validEnvelope envelope ≡ true ⌝ }
     ensures { λ _. ⌜ now (memory .exit) ≡ stored slot envelope (now (memory .entry)) ⌝ }
 {
     let from = slot * 1028;
@@ -165,6 +168,7 @@ impl Session {
     fn settle(mut self, r: Edited, memory: &mut [u64]) -> SessionAnswer
         requires { ⌜ inOrder self ≡ true ⌝ }
         requires { ⌜ length (now memory) ≡ self .length ⌝ }
+        requires { ⌜ (r .answer ≡ Accepted → validEnvelope (self .envelope) ≡ true) ⌝ }
         ensures { λ a. ⌜ called a (now (memory .exit)) ≡ settled self (now (memory .entry)) (said (r .answer)) (r .envelope) ⌝ }
     {
         let answer = r.answer;
@@ -236,6 +240,7 @@ impl Session {
         memory: &mut [u64],
     ) -> SessionAnswer
         requires { ⌜ slot * 1028 + 1028 ≤ length (now memory) ⌝ }
+        requires { ⌜ validEnvelope (self .envelope) ≡ true ⌝ }
         ensures { λ a. ⌜ called a (now (memory .exit)) ≡ steppedOver self (now (memory .entry)) slot at kept ahead ⌝ }
     {
         let r = load(slot, memory);

@@ -23,13 +23,17 @@ use Rattle.state.proofs.Words.{same-state}
 -- ---- writing
 
 module _ (e : AutomationEnvelope) (w : List ℕ) where
-  pub no-room : length w < 1028 → record { said = refuses 8; words = w } ≡ writeState e w
+  pub not-valid : validEnvelope e ≡ false → record { said = refuses 1; words = w } ≡ writeState e w
   unfolding writeState
-  no-room h = rw (lt-ltb (length w) 1028 h)
+  not-valid v = rw v
 
-  pub room : 1028 ≤ length w → record { said = gives tt; words = pack e ++ drop 1028 w } ≡ writeState e w
+  pub no-room : validEnvelope e ≡ true → length w < 1028 → record { said = refuses 8; words = w } ≡ writeState e w
   unfolding writeState
-  room h = rw (le-ltb (length w) 1028 h)
+  no-room v h = rw (v, lt-ltb (length w) 1028 h)
+
+  pub room : validEnvelope e ≡ true → 1028 ≤ length w → record { said = gives tt; words = pack e ++ drop 1028 w } ≡ writeState e w
+  unfolding writeState
+  room v h = rw (v, le-ltb (length w) 1028 h)
 
 -- ---- reading
 

@@ -26,6 +26,7 @@ stateWords = 1028
 
 -- ---- a word of two halves of 32 bits
 
+-- the word of its halves
 abbrev pub halves : ℕ → ℕ → ℕ
 halves high low = high * 0x1_0000_0000 + low
 
@@ -39,6 +40,7 @@ low w = w % 0x1_0000_0000
 
 -- ---- a flag, and the bit of worth d in a number
 
+-- 1 where it holds
 abbrev pub flag : Bool → ℕ
 flag b = cond b 1 0
 
@@ -48,6 +50,7 @@ bit d n = eqb (n / d % 2) 1
 
 -- ---- a number or none: a flag, and the number's bits or 0
 
+-- whether there is a number
 abbrev pub hasLimit : Limit → Bool
 hasLimit limit.None = false
 hasLimit (limit.Number x) = true
@@ -77,6 +80,7 @@ positionOf has n = cond has (position.At n) position.None
 
 -- ---- "4 of settings": the flags and the target; the count; the maximum and the minimum; the step
 
+-- the flags: enabled, and whether there is a minimum, a maximum, a step
 abbrev pub flags : Bool → Limits → ℕ
 flags enabled l = flag enabled + 2 * flag (hasLimit (l .«min_value»)) + 4 * flag (hasLimit (l .«max_value»)) + 8 * flag (hasLimit (l .«step_size»))
 
@@ -123,6 +127,7 @@ pointsOf (suc n) w = pointOf w ∷ pointsOf n (drop 4 w)
 
 -- ---- the whole state; the places past the count are packed too
 
+-- the words of an envelope
 unfoldable pub pack : AutomationEnvelope → List ℕ
 pack e = packSettings e ++ packPoints (e .points .places)
 
@@ -156,14 +161,16 @@ readAs (some e) = record { said = gives tt; envelope = e }
 unfoldable pub readState : List ℕ → EditTold
 readState w = readAs (unpacked w)
 
--- the answer of writing, and the lent words after it: 8, "the answer needs more places than the lent part has"; else the state from the start, and the words after it stay
+-- the answer of writing, and the lent words after it
 pub record WordsTold : Type 0 where
   pub said : Said (Unit {0})
   pub words : List ℕ
 
--- writing a state into lent words
+-- writing a state into lent words: 1, then 8, "the answer needs more places than the lent part has". Else the state stands from the start, and the words after it stay.
 unfoldable pub writeState : AutomationEnvelope → List ℕ → WordsTold
 writeState e w =
-    cond (ltb (length w) stateWords)
+    cond (validEnvelope e)
+    (cond (ltb (length w) stateWords)
     (record { said = refuses 8; words = w })
-    (record { said = gives tt; words = pack e ++ drop stateWords w })
+    (record { said = gives tt; words = pack e ++ drop stateWords w }))
+    (record { said = refuses 1; words = w })

@@ -174,6 +174,9 @@ pub fn write_state(envelope: AutomationEnvelope, words: &mut [u64]) -> Answer
     ensures { λ r. ⌜ said r ≡ writeState envelope (now (words .entry)) .said ⌝ }
     ensures { λ _. ⌜ now (words .exit) ≡ writeState envelope (now (words .entry)) .words ⌝ }
 {
+    if !envelope.is_valid() {
+        return Answer::Refused(Refusal::NotValid);
+    }
     if words.len() < 1028 {
         return Answer::Refused(Refusal::NoRoom);
     }

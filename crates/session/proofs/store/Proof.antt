@@ -53,7 +53,7 @@ unfolding stored
 returns c =
     let a = c .before .before .before .before .before .args in
     ap (λ (l : List ℕ). take (a .slot * 1028) (now (a .memory)) ++ (l ++ postOf (a .slot * 1028) (a .slot * 1028 + 1028 - a .slot * 1028) (now (a .memory))))
-    (part-written (a .envelope) _ _ (part-words (a .slot * 1028) (now (a .memory)) (c .before .before .before .before .before .pre)) (c .before .before .write-state .ensures .1))
+    (part-written (a .envelope) _ _ (c .before .before .before .before .before .pre .1) (part-words (a .slot * 1028) (now (a .memory)) (c .before .before .before .before .before .pre .0)) (c .before .before .write-state .ensures .1))
     ∙ ap (λ (l : List ℕ). take (a .slot * 1028) (now (a .memory)) ++ (pack (a .envelope) ++ l)) (post-is (a .slot * 1028) (a .slot * 1028 + 1028) (now (a .memory)) (omega arith))
 
 pub store-spec : {M : Type 1} → statement M

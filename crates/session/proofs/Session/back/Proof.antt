@@ -1,7 +1,7 @@
 use mathlib.Core.Path.{ap, sym, _∙_}
 use denote.Ref.{now}
 use native.Mathlib.Omega.{arith}
-use Rattle.points.specs.Laws.{and-right}
+use Rattle.points.specs.Laws.{and-left, and-right}
 use Rattle.envelope.specs.Envelope.{validEnvelope}
 use Rattle.session.specs.Session.{inOrder, called, backCall}
 use Rattle.session.specs.Ways.{in-order, before-below, gate-one, gate-eleven, back-none, back-over}
@@ -40,9 +40,10 @@ add-step-over c = let o = in-order (c .before .before .before .before .before .b
 step-over-requires : tie.Need-step-over-requires
 step-over-requires c κs =
     let s = c .before .before .before .before .before .before .before .before .before .before .args .self in
-    let o = in-order s (and-right (validEnvelope (s .envelope)) (inOrder s) (sym (c .before .before .before .before .before .before .before .before .is-valid .ensures) ∙ c .before .before .before .before .before .before .before .if1 .taken)) in
+    let v = sym (c .before .before .before .before .before .before .before .before .is-valid .ensures) ∙ c .before .before .before .before .before .before .before .if1 .taken in
+    let o = in-order s (and-right (validEnvelope (s .envelope)) (inOrder s) v) in
     let l = before-below s (c .before .before .slot-before .result) o (omega (arith, c .before .before .before .before .if3 .left)) (c .before .before .slot-before .ensures) in
-    omega (arith, l, c .before .before .before .before .before .if2 .taken)
+    (omega (arith, l, c .before .before .before .before .before .if2 .taken), and-left (validEnvelope (s .envelope)) (inOrder s) v)
 
 -- src/lib.rt:239:17
 refuse-requires-2 : tie.Need-refuse-requires-2

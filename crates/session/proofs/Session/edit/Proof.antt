@@ -6,7 +6,7 @@ use Rattle.envelope.specs.Envelope.{validEnvelope}
 use Rattle.envelope.specs.Edit.{EditTold, editOf}
 use Rattle.session.specs.Session.{called, settled}
 use Rattle.session.specs.One.{edit-one}
-use Rattle.session.specs.Ways.{edit-order, edit-length, edit-own}
+use Rattle.session.specs.Ways.{edit-order, edit-length, edit-own, accepted-passed}
 use Rattle.session.specs.declared.SessionAnswer.{SessionAnswer}
 use borrow.Author.Needs.{needs}
 use Rattle.session.proofs.Session.edit.Statement.{statement}
@@ -30,7 +30,12 @@ edit-requires c κs = search needs
 
 -- src/lib.rt:190:17
 settle-requires : tie.Need-settle-requires
-settle-requires c κs = (sym (c .before .before .before .before .before .in-order .ensures) ∙ c .before .before .before .before .if1 .taken, c .before .before .if2 .taken)
+settle-requires c κs =
+    let a = c .before .before .before .before .before .before .before .before .args in (
+      sym (c .before .before .before .before .before .in-order .ensures) ∙ c .before .before .before .before .if1 .taken,
+      (c .before .before .if2 .taken,
+      accepted-passed (validEnvelope (a .self .envelope)) (c .before .edit .result .answer) (λ f. ap (λ (t : EditTold). t .said) (c .before .edit .ensures) ∙ edit-one (a .e) (a .self .envelope) f)),
+    )
 
 -- src/lib.rt:192:36
 is-valid-requires : tie.Need-is-valid-requires

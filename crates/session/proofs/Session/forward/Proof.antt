@@ -1,7 +1,7 @@
 use mathlib.Core.Path.{ap, sym, _∙_}
 use denote.Ref.{now}
 use native.Mathlib.Omega.{arith}
-use Rattle.points.specs.Laws.{and-right}
+use Rattle.points.specs.Laws.{and-left, and-right}
 use Rattle.envelope.specs.Envelope.{validEnvelope}
 use Rattle.session.specs.Session.{inOrder, called, forwardCall}
 use Rattle.session.specs.Ways.{in-order, gate-one, gate-eleven, forward-none, forward-over}
@@ -40,10 +40,11 @@ sub-step-over c = search needs
 step-over-requires : tie.Need-step-over-requires
 step-over-requires c κs =
     let s = c .before .before .before .before .before .before .before .before .before .before .args .self in
-    let o = in-order s (and-right (validEnvelope (s .envelope)) (inOrder s) (sym (c .before .before .before .before .before .before .before .before .is-valid .ensures) ∙ c .before .before .before .before .before .before .before .if1 .taken)) in
+    let v = sym (c .before .before .before .before .before .before .before .before .is-valid .ensures) ∙ c .before .before .before .before .before .before .before .if1 .taken in
+    let o = in-order s (and-right (validEnvelope (s .envelope)) (inOrder s) v) in
     let r = o .room in
     let l = o .below (omega (arith, r, c .before .before .before .before .if3 .left)) in
-    omega (arith, l, c .before .before .before .before .before .if2 .taken)
+    (omega (arith, l, c .before .before .before .before .before .if2 .taken), and-left (validEnvelope (s .envelope)) (inOrder s) v)
 
 -- src/lib.rt:260:17
 refuse-requires-2 : tie.Need-refuse-requires-2

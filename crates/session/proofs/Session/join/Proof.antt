@@ -1,11 +1,12 @@
 use mathlib.Core.Path.{ap, sym, _∙_}
 use denote.Ref.{now}
 use mathlib.Core.Bool.{_&&_}
+use Rattle.points.specs.Laws.{and-left}
 use Rattle.envelope.specs.Envelope.{validEnvelope}
 use Rattle.envelope.specs.Edit.{EditTold, joinOf}
 use Rattle.session.specs.Session.{called, settled}
 use Rattle.session.specs.One.{join-one}
-use Rattle.session.specs.Ways.{edit-order, edit-length, edit-own}
+use Rattle.session.specs.Ways.{edit-order, edit-length, edit-own, accepted-passed}
 use Rattle.session.specs.declared.SessionAnswer.{SessionAnswer}
 use borrow.Author.Needs.{needs}
 use Rattle.session.proofs.Session.join.Statement.{statement}
@@ -29,7 +30,13 @@ join-requires c κs = search needs
 
 -- src/lib.rt:207:17
 settle-requires : tie.Need-settle-requires
-settle-requires c κs = (sym (c .before .before .before .before .before .in-order .ensures) ∙ c .before .before .before .before .if1 .taken, c .before .before .if2 .taken)
+settle-requires c κs =
+    let a = c .before .before .before .before .before .before .before .before .args in (
+      sym (c .before .before .before .before .before .in-order .ensures) ∙ c .before .before .before .before .if1 .taken,
+      (c .before .before .if2 .taken,
+      λ h. and-left (validEnvelope (a .self .envelope)) (validEnvelope (a .other))
+          (accepted-passed (validEnvelope (a .self .envelope) && validEnvelope (a .other)) (c .before .join .result .answer) (λ f. ap (λ (t : EditTold). t .said) (c .before .join .ensures) ∙ join-one (a .join) (a .self .envelope) (a .other) f) h)),
+    )
 
 -- src/lib.rt:209:36
 is-valid-requires : tie.Need-is-valid-requires

@@ -31,7 +31,10 @@ moved-requires c κs = search needs
 
 -- src/lib.rt:175:21
 store-requires : tie.Need-store-requires
-store-requires c κs = let o = in-order (c .before .before .before .before .before .before .before .before .before .before .args .self) (c .before .before .before .before .before .before .before .before .before .before .pre .0) in let l = o .below (omega (arith, c .before .before .if1 .left)) in omega (arith, c .before .before .before .before .before .before .before .before .before .before .pre .1)
+store-requires c κs =
+    let o = in-order (c .before .before .before .before .before .before .before .before .before .before .args .self) (c .before .before .before .before .before .before .before .before .before .before .pre .0) in
+    let l = o .below (omega (arith, c .before .before .if1 .left)) in
+    (omega (arith, c .before .before .before .before .before .before .before .before .before .before .pre .1 .0), c .before .before .before .before .before .before .before .before .before .before .pre .1 .1 (c .before .before .before .before .before .before .before .enum-told .given .1))
 
 -- src/lib.rt:176:21
 moved-requires-2 : tie.Need-moved-requires-2

@@ -1,32 +1,43 @@
-use mathlib.Core.Path.{ap, _∙_}
+use mathlib.Core.Path.{sym, ap, _∙_}
+use borrow.Author.Tests.{not-true, not-false}
 use Rattle.state.specs.State.{WordsTold}
-use Rattle.state.proofs.Calls.{no-room, room}
+use Rattle.state.proofs.Calls.{not-valid, no-room, room}
 use borrow.Author.Needs.{needs}
 use Rattle.state.proofs.write.write_state.Statement.{statement}
 use Rattle.state.proofs.write.write_state.Tie as tie
 use Rattle.state.proofs.write.write_state.Reads as reads
 use Rattle.state.proofs.write.write_state.Lts as lts
+use Rattle.envelope.proofs.AutomationEnvelope.is_valid.Reads as is-valid-reads
 use Rattle.state.proofs.write.put_state.Reads as put-state-reads
 
--- src/write.rt:175:9
+-- src/write.rt:177:9
+is-valid-requires : tie.Need-is-valid-requires
+is-valid-requires c κs = search needs
+
+-- src/write.rt:178:9
 returns : tie.Need-returns
-returns c =
-    let told = no-room (c .before .before .args .envelope) (c .before .before .args .words .now) (c .if1 .taken) in
+returns c = let told = not-valid (c .before .before .before .args .envelope) (c .before .before .before .args .words .now) (sym (c .before .is-valid .ensures) ∙ not-true _ (c .if1 .taken)) in
     (ap (λ (t : WordsTold). t .said) told, ap (λ (t : WordsTold). t .words) told)
 
--- src/write.rt:177:5
+-- src/write.rt:181:9
+returns-2 : tie.Need-returns-2
+returns-2 c = let told = no-room (c .before .before .before .before .args .envelope) (c .before .before .before .before .args .words .now) (sym (c .before .before .is-valid .ensures) ∙ not-false _ (c .before .if1 .left)) (c .if2 .taken) in
+    (ap (λ (t : WordsTold). t .said) told, ap (λ (t : WordsTold). t .words) told)
+
+-- src/write.rt:183:5
 put-state-requires : tie.Need-put-state-requires
 put-state-requires c κs = search needs
 
--- src/write.rt:170:1
+-- src/write.rt:173:1
 same-length : tie.Need-same-length
 same-length c = search needs
 
--- src/write.rt:170:1
-returns-2 : tie.Need-returns-2
-returns-2 c =
-    let told = room (c .before .before .before .before .before .before .args .envelope) (c .before .before .before .before .before .before .args .words .now) (c .before .before .before .before .if1 .left) in
+-- src/write.rt:173:1
+returns-3 : tie.Need-returns-3
+returns-3 c = let told = room (c .before .before .before .before .before .before .before .before .args .envelope) (c .before .before .before .before .before .before .before .before .args .words .now) (sym (c .before .before .before .before .before .before .is-valid .ensures) ∙ not-false _ (c .before .before .before .before .before .if1 .left)) (c .before .before .before .before .if2 .left) in
     (ap (λ (t : WordsTold). t .said) told, c .before .before .put-state .ensures ∙ ap (λ (t : WordsTold). t .words) told)
 
 pub write-state-spec : {M : Type 1} → statement M
-write-state-spec = tie.close (tie.spec returns put-state-requires same-length returns-2)
+write-state-spec =
+    tie.close
+    (tie.spec is-valid-requires returns returns-2 put-state-requires same-length returns-3)
