@@ -12,7 +12,7 @@ use Rattle.points.specs.Refusal.{refuses, gives}
 use Rattle.envelope.specs.declared.AutomationEnvelope.{AutomationEnvelope}
 use Rattle.state.specs.State.{stateWords, pack, unpacked}
 use Rattle.state.specs.StateLaws.{unpacked-pack}
-use Rattle.session.specs.Session.{statesIn, stateAt, stored, slotAfter, slotBefore, movedTo, changed, steppedOver, backCall, forwardCall, accepted}
+use Rattle.session.specs.Session.{statesIn, stateAt, stored, slotAfter, slotBefore, movedTo, exchanged, steppedOver, backCall, forwardCall, accepted}
 use Rattle.session.specs.Session as session
 use Rattle.session.specs.Slots.{lt-or-le, length-stored, stored-same, stored-other, word-other, slot-fits, slots-differ, after-slot, before-slot}
 use Rattle.session.specs.Calls.{edit, back, forward, callOf}
@@ -47,7 +47,7 @@ module _ (start : AutomationEnvelope) (d : ℕ) (h : Hist) (s : Session) (m : Li
 
     stepped : (k at kept ahead : ℕ) → unpacked (stateAt m p) ≡ some (upTo start h k)
         → steppedOver s m p at kept ahead ≡ accepted (movedTo s (upTo start h k) at kept ahead) (stored p (s .envelope) m)
-    stepped k at kept ahead e = ap (changed s m p (λ f. movedTo s f at kept ahead)) e
+    stepped k at kept ahead e = ap (exchanged s m p (λ f. movedTo s f at kept ahead)) e
 
   pub no-back : h .kept ≡ 0 → Stepped start d h s m back
   unfolding ruleOf backCall

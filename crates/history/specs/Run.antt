@@ -23,7 +23,7 @@ use Rattle.settle.specs.declared.EditedPoints.{EditedPoints}
 use Rattle.insert.specs.Insert.{mergedPoints}
 use Rattle.combine.specs.Combine.{combinedPoints}
 use Rattle.state.specs.State.{unpacked}
-use Rattle.session.specs.Session.{stateAt, validSession, Called, gate, settled, changed, editCall, backCall, forwardCall}
+use Rattle.session.specs.Session.{stateAt, validSession, Called, gate, settled, exchanged, editCall, backCall, forwardCall}
 use Rattle.session.specs.Calls.{Entry, alone, joined, madeBy, othersValid, Call, edit, back, forward, callOf, Obeys, Ran, done, call}
 use Rattle.session.specs.declared.Session.{Session}
 use Rattle.session.specs.declared.SessionAnswer.{SessionAnswer}
@@ -89,15 +89,15 @@ module _ (s : Session) (m : List ℕ) where
   settled-answered (refuses n) e p = p
   settled-answered (gives u) e p = by Accepted
 
-  changed-answered : (k : ℕ) (to : AutomationEnvelope → Session) (u : Option AutomationEnvelope) → Answered (changed s m k to u .said)
-  changed-answered k to none = by (Refused StoredState)
-  changed-answered k to (some e) = by Accepted
+  exchanged-answered : (k : ℕ) (to : AutomationEnvelope → Session) (u : Option AutomationEnvelope) → Answered (exchanged s m k to u .said)
+  exchanged-answered k to none = by (Refused StoredState)
+  exchanged-answered k to (some e) = by Accepted
 
   call-answered : (c : Call) → Answered (callOf c s m .said)
   unfolding editCall backCall forwardCall
   call-answered (edit x) = gate-answered (othersValid x) _ (settled-answered (madeBy x (s .envelope) .said) _ (made-answered x (s .envelope)))
-  call-answered back = gate-answered true _ (if-called (ltb 0 (s .kept)) _ _ (changed-answered _ _ (unpacked (stateAt m _))) (by (Refused NoStep)))
-  call-answered forward = gate-answered true _ (if-called (ltb 0 (s .ahead)) _ _ (changed-answered _ _ (unpacked (stateAt m _))) (by (Refused NoStep)))
+  call-answered back = gate-answered true _ (if-called (ltb 0 (s .kept)) _ _ (exchanged-answered _ _ (unpacked (stateAt m _))) (by (Refused NoStep)))
+  call-answered forward = gate-answered true _ (if-called (ltb 0 (s .ahead)) _ _ (exchanged-answered _ _ (unpacked (stateAt m _))) (by (Refused NoStep)))
 
   -- the answer of a call that obeys
   abbrev answerOf : Call → SessionAnswer

@@ -6,3 +6,4 @@ pub mod Play
 pub mod Slots
 pub mod One
 pub mod Ways
+pub mod Refusals

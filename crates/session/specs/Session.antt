@@ -33,11 +33,11 @@ stateAt m k = take stateWords (drop (k * stateWords) m)
 unfoldable pub stored : ℕ → AutomationEnvelope → List ℕ → List ℕ
 stored k e m = take (k * stateWords) m ++ (pack e ++ drop (k * stateWords + stateWords) m)
 
--- the slot after one, and the slot before it, of d
+-- the slot after one, of d: after the last comes the first
 unfoldable pub slotAfter : ℕ → ℕ → ℕ
 slotAfter d at = cond (ltb (at + 1) d) (at + 1) 0
 
--- the slot before one, of d
+-- the slot before one, of d: before the first comes the last
 unfoldable pub slotBefore : ℕ → ℕ → ℕ
 slotBefore d at = cond (eqb at 0) (d - 1) (at - 1)
 
@@ -63,8 +63,9 @@ inOrder s = leb (s .kept + s .ahead) (depth s) && placeBelow (s .at) (depth s)
 abbrev pub validSession : Session → Bool
 validSession s = validEnvelope (s .envelope) && inOrder s
 
--- ---- what a call says, and the session and the memory that it leaves
+-- ---- a call's two ends
 
+-- what a call says, and the session and the memory that it leaves
 pub record Called : Type 0 where
   pub said : Said (Unit {0})
   pub session : Session
@@ -110,13 +111,13 @@ editCall others told s m = gate others s m (settled s m (told .said) (told .enve
 -- ---- the steps
 
 -- over slot k the envelope and the state there change places; 12, "stored state doesn't pack a valid envelope"
-abbrev pub changed : Session → List ℕ → ℕ → (AutomationEnvelope → Session) → Option AutomationEnvelope → Called
-changed s m k to none = declined 12 s m
-changed s m k to (some e) = accepted (to e) (stored k (s .envelope) m)
+abbrev pub exchanged : Session → List ℕ → ℕ → (AutomationEnvelope → Session) → Option AutomationEnvelope → Called
+exchanged s m k to none = declined 12 s m
+exchanged s m k to (some e) = accepted (to e) (stored k (s .envelope) m)
 
 -- a step over slot k that leaves these numbers
 abbrev pub steppedOver : Session → List ℕ → ℕ → ℕ → ℕ → ℕ → Called
-steppedOver s m k at kept ahead = changed s m k (λ e. movedTo s e at kept ahead) (unpacked (stateAt m k))
+steppedOver s m k at kept ahead = exchanged s m k (λ e. movedTo s e at kept ahead) (unpacked (stateAt m k))
 
 -- "Step back, if kept > 0: mark − 1, kept − 1." Else 10, "no step that way". It is over the slot of the edit before the mark.
 unfoldable pub backCall : Session → List ℕ → Called
@@ -134,8 +135,9 @@ forwardCall s m =
     (steppedOver s m (s .at) (slotAfter (depth s) (s .at)) (s .kept + 1) (s .ahead - 1))
     (declined 10 s m))
 
--- ---- for the code's own use: the two ends of a call
+-- ---- for the code's own use: the same two ends as answers
 
+-- a refused call's answer
 abbrev pub refusedBy : Session → Refusal → SessionAnswer
 refusedBy s r = record { answer = Refused r; session = s }
 

@@ -1,7 +1,7 @@
 -- The ways out of the session's functions, each as a law over plain variables: the functions' proofs cite these. Assumes nothing.
 use Prim.Native.Nat.{ℕ, _+_, _-_, _/_, _≤_, _<_, min}
 use mathlib.Core.Path.{_≡_, refl, ap, sym, _∙_}
-use mathlib.Core.Bool.{Bool, true, false, cond, _&&_, false≢true, true≢false}
+use mathlib.Core.Bool.{Bool, true, false, cond, _&&_}
 use mathlib.Core.List.{List, _++_, append-nil}
 use mathlib.Core.Option.{Option, none, some}
 use native.Mathlib.Omega.{arith}
@@ -20,7 +20,7 @@ use Rattle.envelope.specs.Edit.{EditTold, toldEdit}
 use Rattle.envelope.specs.declared.AutomationEnvelope.{AutomationEnvelope}
 use Rattle.envelope.specs.declared.Edited.{Edited}
 use Rattle.state.specs.State.{stateWords, pack, unpacked, readAs, readState, WordsTold, writeState}
-use Rattle.session.specs.Session.{depth, stateAt, stored, slotAfter, slotBefore, placeBelow, inOrder, validSession, Called, called, declined, accepted, gate, movedTo, settled, editCall, changed, steppedOver, backCall, forwardCall, refusedBy, movedBy}
+use Rattle.session.specs.Session.{depth, stateAt, stored, slotAfter, slotBefore, placeBelow, inOrder, validSession, Called, called, declined, gate, movedTo, settled, editCall, exchanged, steppedOver, backCall, forwardCall, refusedBy, movedBy}
 use Rattle.session.specs.declared.Session.{Session}
 use Rattle.session.specs.declared.SessionAnswer.{SessionAnswer}
 
@@ -160,15 +160,14 @@ module _ (others : Bool) (t : EditTold) (s : Session) (m : List ℕ) where
       go true false one h k = rw h (ap (λ (x : Said (Unit {0})). settled s m x (t .envelope)) (one refl))
       go false o one h k = ap (λ (x : Said (Unit {0})). settled s m x (t .envelope)) (one refl)
 
-isGiven : {A : Type 0} → Said A → Bool
-isGiven (refuses n) = false
-isGiven (gives x) = true
+-- no answer both gives and refuses
+pub not-both : {n : ℕ} → _≡_ {A = Said (Unit {0})} (gives tt) (refuses n) → ⊥
+not-both h = let z : _≡_ {A = ℕ} 0 1 = cc in omega arith
 
 -- an edit that gives 1 where a test fails, and is accepted, has passed the test
 pub accepted-passed : (test : Bool) (a : Answer) → (test ≡ false → said a ≡ refuses 1) → a ≡ Accepted → test ≡ true
-unfolding isGiven
 accepted-passed true a one h = refl
-accepted-passed false a one h = absurd (true≢false (ap (λ (x : Answer). isGiven (said x)) (sym h) ∙ ap isGiven (one refl)))
+accepted-passed false a one h = absurd (not-both (sym (ap said h) ∙ one refl))
 
 -- what an edit's result makes of the session
 module _ (s : Session) (m : List ℕ) (r : Edited) (a : SessionAnswer) where
@@ -187,16 +186,14 @@ module _ (s : Session) (m : List ℕ) (r : Edited) (a : SessionAnswer) where
 
 module _ (s : Session) (m : List ℕ) (k at kept ahead : ℕ) (r : Edited) where
   step-done-of : (u : Option AutomationEnvelope) → toldEdit r ≡ readAs u → r .answer ≡ Accepted
-      → called (movedBy s (r .envelope) at kept ahead) (stored k (s .envelope) m) ≡ changed s m k (λ e. movedTo s e at kept ahead) u
-  unfolding isGiven
-  step-done-of none p h = absurd (true≢false (ap (λ (a : Answer). isGiven (said a)) (sym h) ∙ ap (λ (t : EditTold). isGiven (t .said)) p))
+      → called (movedBy s (r .envelope) at kept ahead) (stored k (s .envelope) m) ≡ exchanged s m k (λ e. movedTo s e at kept ahead) u
+  step-done-of none p h = absurd (not-both (sym (ap said h) ∙ ap (λ (t : EditTold). t .said) p))
   step-done-of (some e) p h = ap (λ (t : EditTold). called (movedBy s (t .envelope) at kept ahead) (stored k (s .envelope) m)) p
 
   step-bad-of : (u : Option AutomationEnvelope) (x : Refusal) → toldEdit r ≡ readAs u → r .answer ≡ Refused x
-      → called (refusedBy s StoredState) m ≡ changed s m k (λ e. movedTo s e at kept ahead) u
-  unfolding isGiven
+      → called (refusedBy s StoredState) m ≡ exchanged s m k (λ e. movedTo s e at kept ahead) u
   step-bad-of none x p h = refl
-  step-bad-of (some e) x p h = absurd (false≢true (ap (λ (a : Answer). isGiven (said a)) (sym h) ∙ ap (λ (t : EditTold). isGiven (t .said)) p))
+  step-bad-of (some e) x p h = absurd (not-both (sym (sym (ap said h) ∙ ap (λ (t : EditTold). t .said) p)))
 
   pub step-done : (a : SessionAnswer) (m′ : List ℕ) → a ≡ movedBy s (r .envelope) at kept ahead → toldEdit r ≡ readState (stateAt m k) → r .answer ≡ Accepted → m′ ≡ stored k (s .envelope) m
       → called a m′ ≡ steppedOver s m k at kept ahead
@@ -224,45 +221,3 @@ module _ (s : Session) (m : List ℕ) (v : validSession s ≡ true) (l : length 
   pub forward-over : (at : ℕ) → 0 < s .ahead → at ≡ slotAfter (s .length / 1028) (s .at) → x ≡ steppedOver s m (s .at) at (s .kept + 1) (s .ahead - 1) → x ≡ forwardCall s m
   unfolding forwardCall
   forward-over at z p e = e ∙ rw (p, lt-ltb 0 (s .ahead) z) (gate-open s m (steppedOver s m (s .at) (slotAfter (depth s) (s .at)) (s .kept + 1) (s .ahead - 1)) v l)
-
--- ---- "A refusal returns its number .. and changes nothing."
-
-abbrev Quiet : Session → List ℕ → Called → Type 0
-Quiet s m x = (n : ℕ) → x .said ≡ refuses n → x ≡ declined n s m
-
-module _ (s : Session) (m : List ℕ) where
-  declined-quiet : (k : ℕ) → Quiet s m (declined k s m)
-  declined-quiet k n h = ap (λ (x : Said (Unit {0})). record { said = x; session = s; memory = m }) h
-
-  accepted-quiet : (s′ : Session) (m′ : List ℕ) → Quiet s m (accepted s′ m′)
-  unfolding isGiven
-  accepted-quiet s′ m′ n h = absurd (true≢false (ap isGiven h))
-
-  cond-quiet : (b : Bool) (x y : Called) → Quiet s m x → Quiet s m y → Quiet s m (cond b x y)
-  cond-quiet true x y p q = p
-  cond-quiet false x y p q = q
-
-  gate-quiet : (others : Bool) (own : Called) → Quiet s m own → Quiet s m (gate others s m own)
-  unfolding gate
-  gate-quiet others own q =
-      cond-quiet (validSession s && others) _ _ (cond-quiet (eqb (length m) (s .length)) _ _ q (declined-quiet 11)) (declined-quiet 1)
-
-  settled-quiet : (x : Said (Unit {0})) (e : AutomationEnvelope) → Quiet s m (settled s m x e)
-  settled-quiet (refuses n) e = declined-quiet n
-  settled-quiet (gives u) e = accepted-quiet _ _
-
-  changed-quiet : (k : ℕ) (to : AutomationEnvelope → Session) (u : Option AutomationEnvelope) → Quiet s m (changed s m k to u)
-  changed-quiet k to none = declined-quiet 12
-  changed-quiet k to (some e) = accepted-quiet _ _
-
-  pub edit-quiet : (others : Bool) (t : EditTold) → Quiet s m (editCall others t s m)
-  unfolding editCall
-  edit-quiet others t = gate-quiet others _ (settled-quiet (t .said) (t .envelope))
-
-  pub back-quiet : Quiet s m (backCall s m)
-  unfolding backCall
-  back-quiet = gate-quiet true _ (cond-quiet (ltb 0 (s .kept)) _ _ (changed-quiet _ _ (unpacked (stateAt m _))) (declined-quiet 10))
-
-  pub forward-quiet : Quiet s m (forwardCall s m)
-  unfolding forwardCall
-  forward-quiet = gate-quiet true _ (cond-quiet (ltb 0 (s .ahead)) _ _ (changed-quiet _ _ (unpacked (stateAt m _))) (declined-quiet 10))

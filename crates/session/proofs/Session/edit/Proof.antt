@@ -33,8 +33,10 @@ settle-requires : tie.Need-settle-requires
 settle-requires c κs =
     let a = c .before .before .before .before .before .before .before .before .args in (
       sym (c .before .before .before .before .before .in-order .ensures) ∙ c .before .before .before .before .if1 .taken,
-      (c .before .before .if2 .taken,
-      accepted-passed (validEnvelope (a .self .envelope)) (c .before .edit .result .answer) (λ f. ap (λ (t : EditTold). t .said) (c .before .edit .ensures) ∙ edit-one (a .e) (a .self .envelope) f)),
+      (
+        c .before .before .if2 .taken,
+        accepted-passed (validEnvelope (a .self .envelope)) (c .before .edit .result .answer) (λ f. ap (λ (t : EditTold). t .said) (c .before .edit .ensures) ∙ edit-one (a .e) (a .self .envelope) f),
+      ),
     )
 
 -- src/lib.rt:192:36

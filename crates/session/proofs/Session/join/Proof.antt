@@ -33,9 +33,11 @@ settle-requires : tie.Need-settle-requires
 settle-requires c κs =
     let a = c .before .before .before .before .before .before .before .before .args in (
       sym (c .before .before .before .before .before .in-order .ensures) ∙ c .before .before .before .before .if1 .taken,
-      (c .before .before .if2 .taken,
-      λ h. and-left (validEnvelope (a .self .envelope)) (validEnvelope (a .other))
-          (accepted-passed (validEnvelope (a .self .envelope) && validEnvelope (a .other)) (c .before .join .result .answer) (λ f. ap (λ (t : EditTold). t .said) (c .before .join .ensures) ∙ join-one (a .join) (a .self .envelope) (a .other) f) h)),
+      (
+        c .before .before .if2 .taken,
+        λ h. and-left (validEnvelope (a .self .envelope)) (validEnvelope (a .other))
+            (accepted-passed (validEnvelope (a .self .envelope) && validEnvelope (a .other)) (c .before .join .result .answer) (λ f. ap (λ (t : EditTold). t .said) (c .before .join .ensures) ∙ join-one (a .join) (a .self .envelope) (a .other) f) h),
+      ),
     )
 
 -- src/lib.rt:209:36
