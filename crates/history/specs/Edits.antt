@@ -20,9 +20,9 @@ use Rattle.session.specs.Session as session
 use Rattle.session.specs.Slots.{lt-or-le, length-stored, stored-same, stored-other, word-other, slots-differ, after-slot}
 use Rattle.session.specs.Calls.{Entry, madeBy, othersValid, edit, callOf}
 use Rattle.session.specs.declared.Session.{Session}
-use Rattle.history.specs.Rule.{Hist, made, upTo, joinedBy, editHeard, ruleOf}
-use Rattle.history.specs.Entries.{typedEntry, entry-valid, entry-typed, others-one}
-use Rattle.history.specs.After.{Holds, Outside}
+use Rattle.history.specs.Rule.{Hist, made, upTo, joinedBy, ruledBy, editRuled, ruleOf}
+use Rattle.history.specs.Entries.{entry-valid, entry-typed, others-one}
+use Rattle.history.specs.After.{Holds, Outside, typedEntry}
 use Rattle.history.specs.Steps.{Inv, Stepped, made-snoc, states, envelope-typed, envelope-words, session-valid, marks, at-fits, passes}
 
 module _ (start : AutomationEnvelope) (d : ℕ) (h : Hist) (s : Session) (m : List ℕ) (v : Inv start d h s m) where
@@ -35,9 +35,9 @@ module _ (start : AutomationEnvelope) (d : ℕ) (h : Hist) (s : Session) (m : Li
     unfolding editCall gate
     edit-stopped o = rw (o, (session-valid start d h s m v))
 
-    rule-edit : ruleOf start d h (edit x) ≡ editHeard d h x (madeBy x (s .envelope) .said)
+    rule-edit : ruleOf start d h (edit x) ≡ editRuled d h x (madeBy x (s .envelope))
     unfolding ruleOf
-    rule-edit = ap (λ (e : AutomationEnvelope). editHeard d h x (madeBy x e .said)) (sym (v .envelope))
+    rule-edit = ap (λ (e : AutomationEnvelope). editRuled d h x (madeBy x e)) (sym (v .envelope))
 
     refused-edit : (n : ℕ) → madeBy x (s .envelope) .said ≡ refuses n → callOf (edit x) s m ≡ session.declined n s m → Stepped start d h s m (edit x)
     refused-edit n r c =
@@ -46,7 +46,7 @@ module _ (start : AutomationEnvelope) (d : ℕ) (h : Hist) (s : Session) (m : Li
           hist = h;
           session = s;
           memory = m;
-          rule = rule-edit ∙ ap (editHeard d h x) r;
+          rule = rule-edit ∙ ap (λ (y : Said (Unit {0})). ruledBy y h (joinedBy d h x)) r;
           calls = c;
           inv = λ t. v;
           lent = refl;
@@ -157,7 +157,7 @@ module _ (start : AutomationEnvelope) (d : ℕ) (h : Hist) (s : Session) (m : Li
             holds = holds′;
           }
 
-      -- words in none of the (states start d h s m v) stay
+      -- words in none of the states stay
       stays′ : (i : ℕ) → Outside d h′ i → getD m′ i 0 ≡ getD m i 0
       stays′ i out =
           ⊎-elim (λ (e : d ≡ 0). ap (λ (l : List ℕ). getD l i 0) (m′-none e))
@@ -174,7 +174,7 @@ module _ (start : AutomationEnvelope) (d : ℕ) (h : Hist) (s : Session) (m : Li
             hist = h′;
             session = s′;
             memory = m′;
-            rule = rule-edit ∙ ap (editHeard d h x) z;
+            rule = rule-edit ∙ ap (λ (y : Said (Unit {0})). ruledBy y h h′) z;
             calls = calls′;
             inv = inv′;
             lent = length-m′;

@@ -1,26 +1,17 @@
 -- The laws of an edit, alone or with another envelope, that the history rests on. Assumes nothing.
 use mathlib.Core.Path.{_≡_, sym}
-use mathlib.Core.Bool.{Bool, true, false, false≢true}
+use mathlib.Core.Bool.{true, false, false≢true}
 use Rattle.points.specs.Refusal.{refuses, gives}
 use Rattle.points.specs.Laws.{and-false}
 use Rattle.envelope.specs.Envelope.{validEnvelope}
 use Rattle.envelope.specs.EditLaws.{edit-valid}
-use Rattle.envelope.specs.Typed.{typed, typedEdit}
+use Rattle.envelope.specs.Typed.{typed}
 use Rattle.envelope.specs.TypedLaws.{edit-typed}
 use Rattle.envelope.specs.JoinLaws.{join-valid, join-typed}
 use Rattle.envelope.specs.declared.AutomationEnvelope.{AutomationEnvelope}
 use Rattle.session.specs.One.{join-one}
-use Rattle.session.specs.Calls.{Entry, alone, joined, madeBy, othersValid, Call, edit, back, forward}
-
--- numbers in range of their types, as every call's of a program are
-abbrev pub typedEntry : Entry → Bool
-typedEntry (alone d) = typedEdit d
-typedEntry (joined j other) = typed other
-
-abbrev pub typedCall : Call → Bool
-typedCall (edit x) = typedEntry x
-typedCall back = true
-typedCall forward = true
+use Rattle.session.specs.Calls.{Entry, alone, joined, madeBy, othersValid}
+use Rattle.history.specs.After.{typedEntry}
 
 -- an accepted edit gives a valid envelope
 pub entry-valid : (x : Entry) (e : AutomationEnvelope) → madeBy x e .said ≡ gives tt → validEnvelope (madeBy x e .envelope) ≡ true

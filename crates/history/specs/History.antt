@@ -21,9 +21,8 @@ use Rattle.session.specs.Session as session
 use Rattle.session.specs.Calls.{Entry, madeBy, othersValid, Call, edit, back, forward, Obeys, Ran, done, call}
 use Rattle.session.specs.declared.Session.{Session}
 use Rattle.session.specs.declared.SessionAnswer.{SessionAnswer}
-use Rattle.history.specs.Rule.{Hist, newHist, made, upTo, Heard, ruleOf, histAfter, answersAfter}
-use Rattle.history.specs.Entries.{typedCall}
-use Rattle.history.specs.After.{After}
+use Rattle.history.specs.Rule.{Hist, newHist, made, upTo, Ruled, ruleOf, histAfter, answersAfter}
+use Rattle.history.specs.After.{typedCall, After}
 use Rattle.history.specs.Steps.{Inv, Stepped, session-valid, place-is}
 use Rattle.history.specs.Edits.{edit-stepped}
 use Rattle.history.specs.Moves.{no-back, yes-back, no-forward, yes-forward}
@@ -48,14 +47,14 @@ module _ (start : AutomationEnvelope) (d : ℕ) (h : Hist) (s : Session) (m : Li
 
   next-inv : typedCall c ≡ true → Inv start d (ruleOf start d h c .hist) (a .session) m′
   next-inv t =
-      carry start d (ruleOf start d h c .hist) (st .hist) (a .session) (st .session) m′ (st .memory) (ap (λ (x : Heard). x .hist) (st .rule))
+      carry start d (ruleOf start d h c .hist) (st .hist) (a .session) (st .session) m′ (st .memory) (ap (λ (x : Ruled). x .hist) (st .rule))
       (ap (λ (x : Called). x .session) as-stepped) (ap (λ (x : Called). x .memory) as-stepped) (st .inv t)
 
   next-lent : length m′ ≡ length m
   next-lent = ap (λ (x : Called). length (x .memory)) as-stepped ∙ st .lent
 
   next-said : said (a .answer) ≡ ruleOf start d h c .said
-  next-said = ap (λ (x : Called). x .said) as-stepped ∙ sym (ap (λ (x : Heard). x .said) (st .rule))
+  next-said = ap (λ (x : Called). x .said) as-stepped ∙ sym (ap (λ (x : Ruled). x .said) (st .rule))
 
 keeps : (start : AutomationEnvelope) (d : ℕ) (h : Hist) {s : Session} {m : List ℕ} {cs : List Call} {answers : List (Said (Unit {0}))} {s″ : Session} {m″ : List ℕ}
     → Ran s m cs answers s″ m″ → every typedCall cs ≡ true → Inv start d h s m → Inv start d (histAfter start d h cs) s″ m″ × (answers ≡ answersAfter start d h cs) × (length m″ ≡ length m)

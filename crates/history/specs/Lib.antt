@@ -1,12 +1,14 @@
 -- 01's rule of the session over a list of calls, and demand 3: the history theorem.
 pub mod Rule
 pub mod After
+-- The theorem, that every list has its run, and 01's examples.
+pub mod History
+pub mod Run
+pub mod Examples
+pub mod Table
+-- Laws that the theorem cites.
 pub mod Entries
 pub mod Steps
 pub mod Edits
 pub mod Moves
 pub mod Played
-pub mod History
-pub mod Run
-pub mod Examples
-pub mod Table

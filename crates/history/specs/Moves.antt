@@ -17,7 +17,7 @@ use Rattle.session.specs.Session as session
 use Rattle.session.specs.Slots.{lt-or-le, length-stored, stored-same, stored-other, word-other, slot-fits, slots-differ, after-slot, before-slot}
 use Rattle.session.specs.Calls.{edit, back, forward, callOf}
 use Rattle.session.specs.declared.Session.{Session}
-use Rattle.history.specs.Rule.{Hist, upTo, ruleOf}
+use Rattle.history.specs.Rule.{Hist, upTo, steppedBack, steppedForward, ruleOf}
 use Rattle.history.specs.After.{Holds}
 use Rattle.history.specs.Steps.{Inv, Stepped, states, envelope-words, passes}
 
@@ -84,7 +84,7 @@ module _ (start : AutomationEnvelope) (d : ℕ) (h : Hist) (s : Session) (m : Li
     pos-b = omega arith
 
     abbrev hb : Hist
-    hb = record { edits = h .edits; mark = h .mark - 1; kept = h .kept - 1 }
+    hb = steppedBack h
 
     abbrev pb : ℕ
     pb = slotBefore d (s .at)
@@ -164,7 +164,7 @@ module _ (start : AutomationEnvelope) (d : ℕ) (h : Hist) (s : Session) (m : Li
     pos-f = omega arith
 
     abbrev hf : Hist
-    hf = record { edits = h .edits; mark = h .mark + 1; kept = h .kept + 1 }
+    hf = steppedForward h
 
     read-f : unpacked (stateAt m (s .at)) ≡ some (upTo start h (h .mark + 1))
     read-f =

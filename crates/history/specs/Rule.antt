@@ -5,6 +5,7 @@ use mathlib.Core.List.{List, [], _∷_, _++_}
 use lib.ListN.{length, take}
 use lib.Dec.{ltb}
 use Rattle.points.specs.Refusal.{Said, refuses, gives}
+use Rattle.envelope.specs.Edit.{EditTold}
 use Rattle.envelope.specs.declared.AutomationEnvelope.{AutomationEnvelope}
 use Rattle.session.specs.Calls.{Entry, madeBy, Call, edit, back, forward}
 
@@ -36,40 +37,46 @@ abbrev pub aheadOf : Hist → ℕ
 aheadOf h = length (h .edits) - h .mark
 
 -- what a call says, and the history that it leaves
-pub record Heard : Type 0 where
+pub record Ruled : Type 0 where
   pub said : Said (Unit {0})
   pub hist : Hist
 
 -- "Lookups and refusals alter none of it."
-abbrev pub unheard : ℕ → Hist → Heard
-unheard n h = record { said = refuses n; hist = h }
+abbrev pub ruleRefuses : ℕ → Hist → Ruled
+ruleRefuses n h = record { said = refuses n; hist = h }
 
 -- an accepted call's history
-abbrev pub heard : Hist → Heard
-heard h = record { said = gives tt; hist = h }
+abbrev pub ruleAccepts : Hist → Ruled
+ruleAccepts h = record { said = gives tt; hist = h }
 
 -- "Accepted edit: entries after the mark go, the edit joins, mark + 1, kept + 1 but at most D. It counts even if it changed nothing."
 abbrev pub joinedBy : ℕ → Hist → Entry → Hist
 joinedBy d h x = record { edits = take (h .mark) (h .edits) ++ (x ∷ []); mark = h .mark + 1; kept = min (h .kept + 1) d }
 
--- an edit by what it says
-abbrev pub editHeard : ℕ → Hist → Entry → Said (Unit {0}) → Heard
-editHeard d h x (refuses n) = unheard n h
-editHeard d h x (gives u) = heard (joinedBy d h x)
+-- by what a call says: the history as it was, or another
+abbrev pub ruledBy : Said (Unit {0}) → Hist → Hist → Ruled
+ruledBy (refuses n) old new = ruleRefuses n old
+ruledBy (gives u) old new = ruleAccepts new
 
--- the rule for one call, from this start and with a memory for d states
-unfoldable pub ruleOf : AutomationEnvelope → ℕ → Hist → Call → Heard
-ruleOf start d h (edit x) = editHeard d h x (madeBy x (envelopeOf start h) .said)
-ruleOf start d h back =
-    cond (ltb 0 (h .kept))
-    (heard (record { edits = h .edits; mark = h .mark - 1; kept = h .kept - 1 }))
-    (unheard 10 h)
-ruleOf start d h forward =
-    cond (ltb (h .mark) (length (h .edits)))
-    (heard (record { edits = h .edits; mark = h .mark + 1; kept = h .kept + 1 }))
-    (unheard 10 h)
+-- an edit by what it says and makes of the envelope
+abbrev pub editRuled : ℕ → Hist → Entry → EditTold → Ruled
+editRuled d h x told = ruledBy (told .said) h (joinedBy d h x)
 
--- the history after a list of calls, and what they say
+-- a step back: "mark − 1, kept − 1"
+abbrev pub steppedBack : Hist → Hist
+steppedBack h = record { edits = h .edits; mark = h .mark - 1; kept = h .kept - 1 }
+
+-- a step forward: "both + 1"
+abbrev pub steppedForward : Hist → Hist
+steppedForward h = record { edits = h .edits; mark = h .mark + 1; kept = h .kept + 1 }
+
+-- the rule for one call, from this start and with a memory for d states: "Step back, if kept > 0", "Step forward, if an entry stands after the mark", else 10
+unfoldable pub ruleOf : AutomationEnvelope → ℕ → Hist → Call → Ruled
+ruleOf start d h (edit x) = editRuled d h x (madeBy x (envelopeOf start h))
+ruleOf start d h back = cond (ltb 0 (h .kept)) (ruleAccepts (steppedBack h)) (ruleRefuses 10 h)
+ruleOf start d h forward = cond (ltb (h .mark) (length (h .edits))) (ruleAccepts (steppedForward h)) (ruleRefuses 10 h)
+
+-- the history after a list of calls
 unfoldable pub histAfter : AutomationEnvelope → ℕ → Hist → List Call → Hist
 histAfter start d h [] = h
 histAfter start d h (c ∷ cs) = histAfter start d (ruleOf start d h c .hist) cs

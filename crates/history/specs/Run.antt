@@ -1,7 +1,7 @@
 -- Every list of calls has its run, so the history theorem speaks of all of them. Assumes nothing.
 use Prim.Native.Nat.{ℕ}
 use mathlib.Core.Path.{_≡_, refl, ap}
-use mathlib.Core.Bool.{Bool, true, false, cond, _&&_}
+use mathlib.Core.Bool.{Bool, true, _&&_}
 use mathlib.Core.List.{List, [], _∷_}
 use mathlib.Core.Option.{Option, none, some}
 use lib.ListN.{length}
@@ -12,6 +12,7 @@ use Rattle.points.specs.declared.refusal.Answer.{Answer}
 use Rattle.points.specs.declared.refusal.Answer.the-variants.{Accepted, Refused}
 use Rattle.lookup.specs.Limits.{finiteLimits}
 use Rattle.envelope.specs.Envelope.{limitsOf, validEnvelope}
+use Rattle.envelope.specs.EditLaws.{either}
 use Rattle.envelope.specs.Edit.{EditTold, editOf, edited, replaced, setting, mergeOf, sideOf, combineOf, joinOf}
 use Rattle.envelope.specs.declared.AutomationEnvelope.{AutomationEnvelope}
 use Rattle.envelope.specs.declared.edit.Join.{Join}
@@ -36,21 +37,25 @@ pub record Answered (x : Said (Unit {0})) : Type 0 where
 by : (a : Answer) → Answered (said a)
 by a = record { answer = a; says = refl }
 
-if-answered : (b : Bool) (x y : EditTold) → Answered (x .said) → Answered (y .said) → Answered (cond b x y .said)
-if-answered true x y p q = p
-if-answered false x y p q = q
+-- of an edit, whatever it makes
+abbrev EditAnswered : EditTold → Type 0
+EditAnswered t = Answered (t .said)
+
+-- of a call, whatever it leaves
+abbrev CallAnswered : Called → Type 0
+CallAnswered x = Answered (x .said)
 
 edited-answered : (e : AutomationEnvelope) (r : EditedPoints) → Answered (edited e r .said)
 unfolding edited
-edited-answered e r = if-answered (finiteLimits (limitsOf e)) _ _ (by (r .answer)) (by (Refused NotValid))
+edited-answered e r = either EditAnswered (finiteLimits (limitsOf e)) (λ f. by (r .answer)) (by (Refused NotValid))
 
 replaced-answered : (e : AutomationEnvelope) (r : EditedPoints) → Answered (replaced e r .said)
 unfolding replaced
-replaced-answered e r = if-answered (finiteLimits (limitsOf e)) _ _ (by (r .answer)) (by (Refused NotValid))
+replaced-answered e r = either EditAnswered (finiteLimits (limitsOf e)) (λ f. by (r .answer)) (by (Refused NotValid))
 
 setting-answered : (e : AutomationEnvelope) (ok : Bool) (new : AutomationEnvelope) → Answered (setting e ok new .said)
 unfolding setting
-setting-answered e ok new = if-answered (validEnvelope e) _ _ (if-answered ok _ _ (by Accepted) (by (Refused NotFinite))) (by (Refused NotValid))
+setting-answered e ok new = either EditAnswered (validEnvelope e) (λ v. either EditAnswered ok (λ f. by Accepted) (by (Refused NotFinite))) (by (Refused NotValid))
 
 edit-answered : (d : Edit) (e : AutomationEnvelope) → Answered (editOf d e .said)
 unfolding editOf
@@ -63,7 +68,7 @@ edit-answered (SetStep l) e = setting-answered e _ _
 
 merge-answered : (e o : AutomationEnvelope) (offset : Float) → Answered (mergeOf e o offset .said)
 unfolding mergeOf
-merge-answered e o offset = if-answered (finiteLimits (limitsOf o)) _ _ (edited-answered e (mergedPoints (e .points) (o .points) offset)) (by (Refused NotValid))
+merge-answered e o offset = either EditAnswered (finiteLimits (limitsOf o)) (λ f. edited-answered e (mergedPoints (e .points) (o .points) offset)) (by (Refused NotValid))
 
 join-answered : (j : Join) (e o : AutomationEnvelope) → Answered (joinOf j e o .said)
 unfolding joinOf combineOf
@@ -76,14 +81,10 @@ made-answered (joined j o) e = join-answered j e o
 
 -- ---- and so is what a call says
 
-if-called : (b : Bool) (x y : Called) → Answered (x .said) → Answered (y .said) → Answered (cond b x y .said)
-if-called true x y p q = p
-if-called false x y p q = q
-
 module _ (s : Session) (m : List ℕ) where
   gate-answered : (others : Bool) (own : Called) → Answered (own .said) → Answered (gate others s m own .said)
   unfolding gate
-  gate-answered others own p = if-called (validSession s && others) _ _ (if-called (eqb (length m) (s .length)) _ _ p (by (Refused MemoryLength))) (by (Refused NotValid))
+  gate-answered others own p = either CallAnswered (validSession s && others) (λ v. either CallAnswered (eqb (length m) (s .length)) (λ l. p) (by (Refused MemoryLength))) (by (Refused NotValid))
 
   settled-answered : (x : Said (Unit {0})) (e : AutomationEnvelope) → Answered x → Answered (settled s m x e .said)
   settled-answered (refuses n) e p = p
@@ -96,8 +97,8 @@ module _ (s : Session) (m : List ℕ) where
   call-answered : (c : Call) → Answered (callOf c s m .said)
   unfolding editCall backCall forwardCall
   call-answered (edit x) = gate-answered (othersValid x) _ (settled-answered (madeBy x (s .envelope) .said) _ (made-answered x (s .envelope)))
-  call-answered back = gate-answered true _ (if-called (ltb 0 (s .kept)) _ _ (exchanged-answered _ _ (unpacked (stateAt m _))) (by (Refused NoStep)))
-  call-answered forward = gate-answered true _ (if-called (ltb 0 (s .ahead)) _ _ (exchanged-answered _ _ (unpacked (stateAt m _))) (by (Refused NoStep)))
+  call-answered back = gate-answered true _ (either CallAnswered (ltb 0 (s .kept)) (λ k. exchanged-answered _ _ (unpacked (stateAt m _))) (by (Refused NoStep)))
+  call-answered forward = gate-answered true _ (either CallAnswered (ltb 0 (s .ahead)) (λ k. exchanged-answered _ _ (unpacked (stateAt m _))) (by (Refused NoStep)))
 
   -- the answer of a call that obeys
   abbrev answerOf : Call → SessionAnswer
@@ -113,6 +114,7 @@ pub record RunOf (s : Session) (m : List ℕ) (cs : List Call) : Type 0 where
   pub memory : List ℕ
   pub ran : Ran s m cs answers session memory
 
+-- every list has one
 pub every-list-runs : (s : Session) (m : List ℕ) (cs : List Call) → RunOf s m cs
 every-list-runs s m [] = record { answers = []; session = s; memory = m; ran = done }
 every-list-runs s m (c ∷ cs) =

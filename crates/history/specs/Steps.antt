@@ -21,8 +21,7 @@ use Rattle.session.specs.Ways.{gate-open}
 use Rattle.session.specs.Calls.{Entry, madeBy, Call, callOf}
 use Rattle.session.specs.declared.Session.{Session}
 use Rattle.history.specs.Rule.{Hist, made, upTo, ruleOf}
-use Rattle.history.specs.Entries.{typedCall}
-use Rattle.history.specs.After.{Holds, Outside, placeOf}
+use Rattle.history.specs.After.{Holds, Outside, placeOf, typedCall}
 
 -- the rule's history against the session and the memory that it runs on
 pub record Inv (start : AutomationEnvelope) (d : ℕ) (h : Hist) (s : Session) (m : List ℕ) : Type 0 where

@@ -37,6 +37,7 @@ use Rattle.history.specs.Examples.{p13-calls}
 
 -- ---- envelopes: 000's `new` with points and limits
 
+-- `new` with these points
 abbrev holds : List AutomationPoint → AutomationEnvelope
 holds l = withPoints (new 0) (holding l)
 
@@ -52,17 +53,21 @@ limited max step v =
 
 -- ---- the calls
 
+-- the lookup by time
 abbrev byTime : AutomationEnvelope → Float → Said (Option Float)
 byTime e time = getValueAt (e .points) (e .enabled) (limitsOf e) time
 
+-- the lookup by sample
 abbrev bySample : AutomationEnvelope → ℕ → Said (Option Float)
 bySample e sample = getValueAtSample (e .points) (e .enabled) (limitsOf e) sample
 
+-- the range between two times
 abbrev range : AutomationEnvelope → Float → Float → Said (Option (Float × Float))
 range e start end = getRange (e .points) (e .enabled) (limitsOf e) start end
 
 -- ---- the table
 
+-- P1 to P14
 pub record Table : Type 0 where
   -- "P1 empty: silent."
   pub p1 : byTime (new 0) t1 ≡ gives none

@@ -36,8 +36,7 @@ use Rattle.session.specs.Slots.{lt-or-le}
 use Rattle.session.specs.Calls.{alone, joined, Call, edit, back, forward, Obeys, Ran, done, call}
 use Rattle.session.specs.declared.Session.{Session}
 use Rattle.session.specs.declared.SessionAnswer.{SessionAnswer}
-use Rattle.history.specs.Entries.{typedCall}
-use Rattle.history.specs.After.{After}
+use Rattle.history.specs.After.{typedCall, After}
 use Rattle.history.specs.History.{history-new}
 
 -- the envelope with one point: what a merge takes
@@ -131,12 +130,11 @@ module _ (k : ℕ) (x y : Float) where
   unfolding callFrom
   is-add a b c d e f g = rw (ne-eqb k 0 a, ne-eqb k 1 b, ne-eqb k 2 c, ne-eqb k 3 d, ne-eqb k 4 e, ne-eqb k 5 f, ne-eqb k 6 g)
 
-  -- the envelope to merge with
   pub is-merge : k ≡ 6 → callFrom k x y ≡ edit (joined (Merge x) (otherFrom x y))
   unfolding callFrom
   is-merge h = rw h
 
-  -- its numbers are of their types if these are
+  -- a call's numbers are in range of their types if these are
   pub call-typed : fits binary64 x ≡ true → fits binary32 y ≡ true → typedCall (callFrom k x y) ≡ true
   unfolding callFrom otherFrom typedEdit typedPointsEdit
   call-typed f g =
@@ -173,8 +171,9 @@ ran-snoc : {s : Session} {m : List ℕ} {cs : List Call} {answers : List (Said (
 ran-snoc c a m″ done ob = call a ob done
 ran-snoc c a m″ (call b o r) ob = call b o (ran-snoc c a m″ r ob)
 
--- ---- the replay's loop: i calls have run, and their codes stand in the first i places
+-- ---- the replay's loop
 
+-- i calls have run, and their codes stand in the first i places
 pub record Replaying (target : ℕ) (m₀ kinds : List ℕ) (xs ys : List Float) (codes₀ codes : List ℕ) (i : ℕ) (s : Session) (m : List ℕ) : Type 0 where
   pub ran : Ran (openSession target m₀) m₀ (take i (callsOf kinds xs ys)) (map saidOf (take i codes)) s m
   pub in-range : every typedCall (take i (callsOf kinds xs ys)) ≡ true

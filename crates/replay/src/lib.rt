@@ -4,7 +4,7 @@ ghost use mathlib.Core.Bool.{true};
 ghost use Prim.Native.Nat.{min};
 ghost use Rattle.points.specs.Refusal.{said};
 ghost use Rattle.session.specs.Calls.{Obeys};
-ghost use Rattle.history.specs.Entries.{typedCall};
+ghost use Rattle.history.specs.After.{typedCall};
 ghost use Rattle.replay.specs.Replay.{otherFrom, callFrom, replayed, saidOf, AfterReplay};
 use envelope::AutomationEnvelope;
 use envelope::edit::Edit;
