@@ -30,7 +30,7 @@ next-is-requires c κs = search needs
 
 -- src/field.rt:146:34
 add-t10 : tie.Need-add-t10
-add-t10 c = omega (arith, next-inside 32 (c .before .before .before .before .before .args .s .now) (c .before .before .before .before .before .args .at + 1) (sym (c .before .next-is .ensures) ∙ c .if2 .taken), c .before .before .before .before .before .good)
+add-t10 c = omega (arith, next-inside _ (c .before .before .before .before .before .args .s .now) (c .before .before .before .before .before .args .at + 1) (sym (c .before .next-is .ensures) ∙ c .if2 .taken), c .before .before .before .before .before .good)
 
 -- src/field.rt:146:13
 returns : tie.Need-returns
