@@ -24,3 +24,7 @@ module _ (s : List ℕ) (at : ℕ) where
       go : (t : Bool) → leb (length s) at ≡ t → t ≡ isEmpty (drop at s)
       go true e = sym (empty-out (leb-true _ _ e))
       go false e = sym (empty-in (leb-false _ _ e))
+
+-- ---- the place in a call's answer, as far as the call ensures it
+pub reached : {A : Type 0} (f : A → ℕ) {r q : A} {n : ℕ} → f r ≤ n → r ≡ q → f q ≤ n
+reached f h e = rw e at h

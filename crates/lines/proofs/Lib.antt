@@ -1,4 +1,5 @@
 pub mod Bounds
 pub mod Ends
 pub mod Floats
+pub mod Held
 pub mod Reading

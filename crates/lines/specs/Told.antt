@@ -1,8 +1,9 @@
 -- What the code's answers say, in the terms of the definitions. In the answers a place of the slice s stands for the bytes from there on.
-use Prim.Native.Nat.{ℕ}
-use mathlib.Core.List.{List}
-use lib.ListN.{drop}
+use Prim.Native.Nat.{ℕ, _-_}
+use mathlib.Core.List.{List, []}
+use lib.ListN.{length, drop}
 use Rattle.points.specs.Refusal.{number, Said, refuses, gives}
+use Rattle.points.specs.Points.{holding}
 use Rattle.points.specs.declared.AutomationPoint.{AutomationPoint}
 use Rattle.points.specs.declared.Points.{Points}
 use Rattle.points.specs.declared.refusal.Answer.{Answer}
@@ -108,3 +109,40 @@ linesBy (Refused r) k a rest = stop (number r) k
 
 unfoldable pub toldPointLines : List ℕ → PointLines → Lines Points
 toldPointLines s r = linesBy (r .answer) (r .line) (r .points) (drop (r .next) s)
+
+-- the result with this answer: beside an acceptance line 0, the points and the place at which the bytes after them start; beside a refusal its line, no points and place 0
+abbrev pub pointLinesHeld : List ℕ → Answer → Lines Points → PointLines
+pointLinesHeld s a (stop n k) = record { answer = a; line = k; points = holding []; next = 0 }
+pointLinesHeld s a (lines ps rest) = record { answer = a; line = 0; points = ps; next = length s - length rest }
+
+-- ---- the place after what was read, 0 where nothing was: at most the bytes' length, so that the bytes from it on fix it
+
+-- after a number
+unfoldable pub numberEnd : Number → ℕ
+numberEnd number.Bad = 0
+numberEnd (number.Is v next) = next
+
+-- after a number or a dash
+unfoldable pub optionalEnd : OptionalAt → ℕ
+optionalEnd optionalAt.Bad = 0
+optionalEnd (optionalAt.Is v next) = next
+
+-- after the settings line's fields
+unfoldable pub settingsFormEnd : SettingsForm → ℕ
+settingsFormEnd settingsForm.Bad = 0
+settingsFormEnd (settingsForm.Is r next) = next
+
+-- after the settings line
+unfoldable pub settingsEnd : SettingsLine → ℕ
+settingsEnd (settingsLine.Refused r) = 0
+settingsEnd (settingsLine.Is e next) = next
+
+-- after the fields of the line of rate and duration
+unfoldable pub blockFormEnd : BlockForm → ℕ
+blockFormEnd blockForm.Bad = 0
+blockFormEnd (blockForm.Is r next) = next
+
+-- after the line of rate and duration
+unfoldable pub blockEnd : BlockLine → ℕ
+blockEnd (blockLine.Refused r) = 0
+blockEnd (blockLine.Is b next) = next

@@ -1,9 +1,10 @@
 // The line of rate and duration.
 ghost use mathlib.Core.Path.{_≡_};
-ghost use lib.ListN.{drop};
+ghost use Prim.Native.Nat.{_≤_};
+ghost use lib.ListN.{length, drop};
 ghost use Rattle.fields.specs.Told.{DigitTable};
 ghost use Rattle.lines.specs.Lines.{blockForm, blockMeaning, blockLine};
-ghost use Rattle.lines.specs.Told.{toldBlockForm, toldBlock, toldBlockLine};
+ghost use Rattle.lines.specs.Told.{toldBlockForm, toldBlock, toldBlockLine, blockFormEnd, blockEnd};
 use crate::field::Number;
 use points::refusal::Refusal;
 
@@ -36,6 +37,7 @@ pub enum BlockLine {
 fn block_form(t: &[u8; 256], s: &[u8], at: usize) -> BlockForm
     requires { ⌜ DigitTable (now t) ⌝ }
     ensures { λ r. ⌜ toldBlockForm (now (s .entry)) r ≡ blockForm (drop at (now (s .entry))) ⌝ }
+    ensures { λ r. ⌜ blockFormEnd r ≤ length (now (s .entry)) ⌝ }
 {
     let Number::Is(rate, at2) = crate::field::number_at(t, s, at, 16, 16, b' ') else {
         return BlockForm::Bad;
@@ -64,6 +66,7 @@ fn block_of(r: RawBlock) -> BlockSaid
 // The line at the place: its form, then its meaning.
 pub fn block_line(s: &[u8], at: usize) -> BlockLine
     ensures { λ r. ⌜ toldBlockLine (now (s .entry)) r ≡ blockLine (drop at (now (s .entry))) ⌝ }
+    ensures { λ r. ⌜ blockEnd r ≤ length (now (s .entry)) ⌝ }
 {
     let t = fields::digits::table();
     let BlockForm::Is(raw, next) = block_form(&t, s, at) else {

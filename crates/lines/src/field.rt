@@ -1,10 +1,10 @@
 // The fields of a line. In each answer stands the place after the field and the byte that ends it.
 ghost use mathlib.Core.Path.{_≡_};
 ghost use Prim.Native.Nat.{_^_, _<_, _≤_};
-ghost use lib.ListN.{drop};
+ghost use lib.ListN.{length, drop};
 ghost use Rattle.fields.specs.Form.{numberForm, optionalForm, decimals, nextDigit, targetForm};
 ghost use Rattle.fields.specs.Told.{DigitTable};
-ghost use Rattle.lines.specs.Told.{toldNumber, toldSingle, toldOptional};
+ghost use Rattle.lines.specs.Told.{toldNumber, toldSingle, toldOptional, numberEnd, optionalEnd};
 use fields::Optional;
 
 pub enum Number {
@@ -34,6 +34,7 @@ pub(crate) fn number_at(
     requires { ⌜ DigitTable (now t) ⌝ }
     requires { ⌜ (0 < width) × (base ^ width ≤ 2 ^ 64) ⌝ }
     ensures { λ r. ⌜ toldNumber (now (s .entry)) r ≡ numberForm base width end (drop at (now (s .entry))) ⌝ }
+    ensures { λ r. ⌜ numberEnd r ≤ length (now (s .entry)) ⌝ }
 {
     let Number::Is(v, next) = crate::digits::digits_at(t, s, at, base, width) else {
         return Number::Bad;
@@ -69,6 +70,7 @@ pub(crate) fn optional_at(t: &[u8; 256], s: &[u8], at: usize, width: usize, end:
     requires { ⌜ DigitTable (now t) ⌝ }
     requires { ⌜ (0 < width) × (width ≤ 16) ⌝ }
     ensures { λ r. ⌜ toldOptional (now (s .entry)) r ≡ optionalForm width end (drop at (now (s .entry))) ⌝ }
+    ensures { λ r. ⌜ optionalEnd r ≤ length (now (s .entry)) ⌝ }
 {
     if fields::bytes::next_is(s, at, b'-') {
         let next = at + 1;

@@ -2,18 +2,18 @@
 ghost use mathlib.Core.Path.{_≡_};
 ghost use mathlib.Core.Bool.{cond};
 ghost use mathlib.Core.List.{List, []};
-ghost use Prim.Native.Nat.{ℕ};
-ghost use lib.ListN.{drop};
+ghost use Prim.Native.Nat.{ℕ, min};
+ghost use lib.ListN.{length, drop};
 ghost use Rattle.points.specs.Refusal.{number};
 ghost use Rattle.fields.specs.Told.{DigitTable};
 ghost use Rattle.lines.specs.PointLines.{stop, isEmpty, pointsEnd, pointLines};
-ghost use Rattle.lines.specs.Told.{toldPointLines};
+ghost use Rattle.lines.specs.Told.{toldPointLines, pointLinesHeld};
 use crate::point::PointLine;
 use points::Points;
 use points::refusal::Answer;
 use points::refusal::Refusal;
 
-// The points of the lines, and the place after them. A refusal has its line.
+// The points of the lines, and the place after them; beside a refusal its line, no points and 0.
 pub struct PointLines {
     pub answer: Answer,
     pub line: u64,
@@ -45,6 +45,7 @@ fn after_last(s: &[u8], at: usize) -> Refusal
 
 fn no_points(refusal: Refusal, line: u64) -> PointLines
     ensures { λ r. ⌜ ((s : List ℕ) → toldPointLines s r ≡ stop (number refusal) line) ⌝ }
+    ensures { λ r. ⌜ ((s : List ℕ) → r ≡ pointLinesHeld s (r .answer) (stop (number refusal) line)) ⌝ }
 {
     let points = points::list::none();
     PointLines {
@@ -55,10 +56,18 @@ fn no_points(refusal: Refusal, line: u64) -> PointLines
     }
 }
 
+// The place, or the end of the bytes for one past it.
+fn place_within(s: &[u8], at: usize) -> usize
+    ensures { λ r. ⌜ r ≡ min at (length (now (s .entry))) ⌝ }
+{
+    if at < s.len() { at } else { s.len() }
+}
+
 // The point lines from the place on, through the table.
 fn lines_from(t: &[u8; 256], s: &[u8], start: usize, program: bool) -> PointLines
     requires { ⌜ DigitTable (now t) ⌝ }
     ensures { λ r. ⌜ toldPointLines (now (s .entry)) r ≡ pointLines program 256 [] (drop start (now (s .entry))) ⌝ }
+    ensures { λ r. ⌜ r ≡ pointLinesHeld (now (s .entry)) (r .answer) (pointLines program 256 [] (drop start (now (s .entry)))) ⌝ }
 {
     let unused = points::point::unused();
     let mut places = [unused; 256];
@@ -90,13 +99,14 @@ fn lines_from(t: &[u8; 256], s: &[u8], start: usize, program: bool) -> PointLine
         answer: Answer::Accepted,
         line: 0,
         points: Points { count, places },
-        next: at,
+        next: place_within(s, at),
     }
 }
 
 // The point lines from the place on.
 pub fn point_lines(s: &[u8], start: usize, program: bool) -> PointLines
     ensures { λ r. ⌜ toldPointLines (now (s .entry)) r ≡ pointLines program 256 [] (drop start (now (s .entry))) ⌝ }
+    ensures { λ r. ⌜ r ≡ pointLinesHeld (now (s .entry)) (r .answer) (pointLines program 256 [] (drop start (now (s .entry)))) ⌝ }
 {
     let t = fields::digits::table();
     lines_from(&t, s, start, program)

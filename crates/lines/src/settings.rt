@@ -1,11 +1,11 @@
 // The settings line.
 ghost use mathlib.Core.Path.{_≡_};
 ghost use mathlib.Core.Bool.{true};
-ghost use Prim.Native.Nat.{_^_};
-ghost use lib.ListN.{drop};
+ghost use Prim.Native.Nat.{_^_, _≤_};
+ghost use lib.ListN.{length, drop};
 ghost use Rattle.fields.specs.Told.{DigitTable, Below};
 ghost use Rattle.lines.specs.Lines.{settingsForm, limitOf, finiteBits, settingsMeaning, settingsLine};
-ghost use Rattle.lines.specs.Told.{toldSettingsForm, toldSettings, toldSettingsLine};
+ghost use Rattle.lines.specs.Told.{toldSettingsForm, toldSettings, toldSettingsLine, settingsFormEnd, settingsEnd};
 use crate::field::OptionalAt;
 use crate::field::Single;
 use fields::Optional;
@@ -47,6 +47,7 @@ pub enum SettingsLine {
 fn settings_form(t: &[u8; 256], s: &[u8], at: usize) -> SettingsForm
     requires { ⌜ DigitTable (now t) ⌝ }
     ensures { λ r. ⌜ toldSettingsForm (now (s .entry)) r ≡ settingsForm (drop at (now (s .entry))) ⌝ }
+    ensures { λ r. ⌜ settingsFormEnd r ≤ length (now (s .entry)) ⌝ }
 {
     let Single::Is(target, at2) = crate::field::target_at(t, s, at) else {
         return SettingsForm::Bad;
@@ -128,6 +129,7 @@ fn settings_of(r: RawSettings) -> SettingsSaid
 // The line at the place: its form, then its meaning.
 pub fn settings_line(s: &[u8], at: usize) -> SettingsLine
     ensures { λ r. ⌜ toldSettingsLine (now (s .entry)) r ≡ settingsLine (drop at (now (s .entry))) ⌝ }
+    ensures { λ r. ⌜ settingsEnd r ≤ length (now (s .entry)) ⌝ }
 {
     let t = fields::digits::table();
     let SettingsForm::Is(raw, next) = settings_form(&t, s, at) else {

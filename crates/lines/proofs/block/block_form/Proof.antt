@@ -1,6 +1,8 @@
+use native.Mathlib.Omega.{arith}
 use Rattle.lines.specs.Lines.{blockForm}
-use Rattle.lines.specs.Told.{toldNumber, toldBlockForm}
+use Rattle.lines.specs.Told.{toldNumber, toldBlockForm, numberEnd, blockFormEnd}
 use Rattle.fields.proofs.Fields.{told}
+use Rattle.lines.proofs.Ends.{reached}
 use borrow.Author.Needs.{needs}
 use Rattle.lines.proofs.block.block_form.Statement.{statement}
 use Rattle.lines.proofs.block.block_form.Tie as tie
@@ -22,8 +24,8 @@ enum-told c = search needs
 
 -- src/block.rt:50:9
 returns : tie.Need-returns
-unfolding blockForm toldNumber toldBlockForm
-returns c = rw (told (toldNumber _) (c .before .before .number-at .ensures) (c .enum-told .given .1))
+unfolding blockForm toldNumber toldBlockForm blockFormEnd
+returns c = (rw (told (toldNumber _) (c .before .before .number-at .ensures .0) (c .enum-told .given .1)), omega arith)
 
 -- src/block.rt:52:38
 number-at-requires-2 : tie.Need-number-at-requires-2
@@ -39,13 +41,13 @@ enum-told-2 c = search needs
 
 -- src/block.rt:53:9
 returns-2 : tie.Need-returns-2
-unfolding blockForm toldNumber toldBlockForm
-returns-2 c = rw (told (toldNumber _) (c .before .before .before .before .before .before .number-at .ensures) (c .before .before .before .before .rate .given .1), told (toldNumber _) (c .before .before .number-at2 .ensures) (c .enum-told2 .given .1))
+unfolding blockForm toldNumber toldBlockForm blockFormEnd
+returns-2 c = (rw (told (toldNumber _) (c .before .before .before .before .before .before .number-at .ensures .0) (c .before .before .before .before .rate .given .1), told (toldNumber _) (c .before .before .number-at2 .ensures .0) (c .enum-told2 .given .1)), omega arith)
 
 -- src/block.rt:45:1
 returns-3 : tie.Need-returns-3
-unfolding blockForm toldNumber toldBlockForm
-returns-3 c = rw (told (toldNumber _) (c .before .before .before .before .before .before .before .number-at .ensures) (c .before .before .before .before .before .rate .given .1), told (toldNumber _) (c .before .before .before .number-at2 .ensures) (c .before .duration .given .1))
+unfolding blockForm toldNumber toldBlockForm numberEnd blockFormEnd
+returns-3 c = (rw (told (toldNumber _) (c .before .before .before .before .before .before .before .number-at .ensures .0) (c .before .before .before .before .before .rate .given .1), told (toldNumber _) (c .before .before .before .number-at2 .ensures .0) (c .before .duration .given .1)), reached numberEnd (c .before .before .before .number-at2 .ensures .1) (c .before .duration .given .1))
 
 pub block-form-spec : {M : Type 1} → statement M
 block-form-spec =

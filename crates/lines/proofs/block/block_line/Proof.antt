@@ -1,6 +1,8 @@
+use native.Mathlib.Omega.{arith}
 use Rattle.fields.proofs.Fields.{told}
 use Rattle.lines.specs.Lines.{blockLine}
-use Rattle.lines.specs.Told.{toldBlockForm, toldBlock, toldBlockLine}
+use Rattle.lines.specs.Told.{toldBlockForm, toldBlock, toldBlockLine, blockFormEnd, blockEnd}
+use Rattle.lines.proofs.Ends.{reached}
 use borrow.Author.Needs.{needs}
 use Rattle.lines.proofs.block.block_line.Statement.{statement}
 use Rattle.lines.proofs.block.block_line.Tie as tie
@@ -28,8 +30,8 @@ enum-told c = search needs
 
 -- src/block.rt:70:9
 returns : tie.Need-returns
-unfolding blockLine toldBlockForm toldBlockLine
-returns c = rw (told (toldBlockForm _) (c .before .before .block-form .ensures) (c .enum-told .given .1))
+unfolding blockLine toldBlockForm toldBlockLine blockEnd
+returns c = (rw (told (toldBlockForm _) (c .before .before .block-form .ensures .0) (c .enum-told .given .1)), omega arith)
 
 -- src/block.rt:72:11
 block-of-requires : tie.Need-block-of-requires
@@ -45,13 +47,13 @@ enum-known-b c = search needs
 
 -- src/block.rt:65:1
 returns-2 : tie.Need-returns-2
-unfolding blockLine toldBlockForm toldBlock toldBlockLine
-returns-2 c = rw (told (toldBlockForm _) (c .before .before .before .before .before .before .before .block-form .ensures) (c .before .before .before .before .before .raw .given .1), told toldBlock (c .before .before .before .block-of .ensures) (c .before .r .given .1))
+unfolding blockLine toldBlockForm toldBlock toldBlockLine blockEnd
+returns-2 c = (rw (told (toldBlockForm _) (c .before .before .before .before .before .before .before .block-form .ensures .0) (c .before .before .before .before .before .raw .given .1), told toldBlock (c .before .before .before .block-of .ensures) (c .before .r .given .1)), omega arith)
 
 -- src/block.rt:65:1
 returns-3 : tie.Need-returns-3
-unfolding blockLine toldBlockForm toldBlock toldBlockLine
-returns-3 c = rw (told (toldBlockForm _) (c .before .before .before .before .before .before .before .block-form .ensures) (c .before .before .before .before .before .raw .given .1), told toldBlock (c .before .before .before .block-of .ensures) (c .before .b .given .1))
+unfolding blockLine toldBlockForm toldBlock toldBlockLine blockFormEnd blockEnd
+returns-3 c = (rw (told (toldBlockForm _) (c .before .before .before .before .before .before .before .block-form .ensures .0) (c .before .before .before .before .before .raw .given .1), told toldBlock (c .before .before .before .block-of .ensures) (c .before .b .given .1)), reached blockFormEnd (c .before .before .before .before .before .before .before .block-form .ensures .1) (c .before .before .before .before .before .raw .given .1))
 
 pub block-line-spec : {M : Type 1} → statement M
 block-line-spec =

@@ -1,7 +1,7 @@
 use mathlib.Core.Path.{sym, _∙_}
 use native.Mathlib.Omega.{arith}
 use Rattle.fields.specs.Form.{numberForm}
-use Rattle.lines.specs.Told.{toldNumber}
+use Rattle.lines.specs.Told.{toldNumber, numberEnd}
 use Rattle.fields.proofs.Fields.{tail-drop, next-inside, told}
 use borrow.Author.Needs.{needs}
 use Rattle.lines.proofs.field.number_at.Statement.{statement}
@@ -25,8 +25,8 @@ enum-told c = search needs
 
 -- src/field.rt:64:9
 returns : tie.Need-returns
-unfolding numberForm toldNumber
-returns c = rw (told (toldNumber _) (c .before .before .digits-at .ensures) (c .enum-told .given .1))
+unfolding numberForm toldNumber numberEnd
+returns c = (rw (told (toldNumber _) (c .before .before .digits-at .ensures) (c .enum-told .given .1)), omega arith)
 
 -- src/field.rt:66:8
 next-is-requires : tie.Need-next-is-requires
@@ -38,13 +38,13 @@ add-t12 c = omega (arith, next-inside (c .before .before .before .before .before
 
 -- src/field.rt:58:1
 returns-2 : tie.Need-returns-2
-unfolding numberForm toldNumber
-returns-2 c = rw (told (toldNumber _) (c .before .before .before .before .before .digits-at .ensures) (c .before .before .before .v .given .1), sym (c .before .next-is .ensures) ∙ c .if1 .taken, tail-drop)
+unfolding numberForm toldNumber numberEnd
+returns-2 c = (rw (told (toldNumber _) (c .before .before .before .before .before .digits-at .ensures) (c .before .before .before .v .given .1), sym (c .before .next-is .ensures) ∙ c .if1 .taken, tail-drop), omega (arith, next-inside (c .before .before .before .before .before .before .before .args .end) (c .before .before .before .before .before .before .before .args .s .now) (c .before .before .before .v .given .0 .1 .0) (sym (c .before .next-is .ensures) ∙ c .if1 .taken)))
 
 -- src/field.rt:58:1
 returns-3 : tie.Need-returns-3
-unfolding numberForm toldNumber
-returns-3 c = rw (told (toldNumber _) (c .before .before .before .before .before .digits-at .ensures) (c .before .before .before .v .given .1), sym (c .before .next-is .ensures) ∙ c .if1 .left)
+unfolding numberForm toldNumber numberEnd
+returns-3 c = (rw (told (toldNumber _) (c .before .before .before .before .before .digits-at .ensures) (c .before .before .before .v .given .1), sym (c .before .next-is .ensures) ∙ c .if1 .left), omega arith)
 
 pub number-at-spec : {M : Type 1} → statement M
 number-at-spec =

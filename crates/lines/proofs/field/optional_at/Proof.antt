@@ -3,8 +3,9 @@ use mathlib.Core.Path.{sym, _∙_}
 use native.Mathlib.Nat.{pow-le-pow-right}
 use native.Mathlib.Omega.{arith}
 use Rattle.fields.specs.Form.{optionalForm}
-use Rattle.lines.specs.Told.{toldNumber, toldOptional}
+use Rattle.lines.specs.Told.{toldNumber, toldOptional, numberEnd, optionalEnd}
 use Rattle.fields.proofs.Fields.{tail-drop, next-inside, told}
+use Rattle.lines.proofs.Ends.{reached}
 use borrow.Author.Needs.{needs}
 use Rattle.lines.proofs.field.optional_at.Statement.{statement}
 use Rattle.lines.proofs.field.optional_at.Tie as tie
@@ -31,13 +32,13 @@ add-t12 c = omega (arith, next-inside (c .before .before .before .before .before
 
 -- src/field.rt:94:13
 returns : tie.Need-returns
-unfolding optionalForm toldOptional
-returns c = rw (sym (c .before .before .before .next-is .ensures) ∙ c .before .before .if1 .taken, tail-drop, sym (c .before .next-is2 .ensures) ∙ c .if2 .taken, tail-drop)
+unfolding optionalForm toldOptional optionalEnd
+returns c = (rw (sym (c .before .before .before .next-is .ensures) ∙ c .before .before .if1 .taken, tail-drop, sym (c .before .next-is2 .ensures) ∙ c .if2 .taken, tail-drop), omega (arith, next-inside (c .before .before .before .before .before .args .end) (c .before .before .before .before .before .args .s .now) (c .before .before .before .before .before .args .at + 1) (sym (c .before .next-is2 .ensures) ∙ c .if2 .taken)))
 
 -- src/field.rt:96:9
 returns-2 : tie.Need-returns-2
-unfolding optionalForm toldOptional
-returns-2 c = rw (sym (c .before .before .before .next-is .ensures) ∙ c .before .before .if1 .taken, tail-drop, sym (c .before .next-is2 .ensures) ∙ c .if2 .left)
+unfolding optionalForm toldOptional optionalEnd
+returns-2 c = (rw (sym (c .before .before .before .next-is .ensures) ∙ c .before .before .if1 .taken, tail-drop, sym (c .before .next-is2 .ensures) ∙ c .if2 .left), omega arith)
 
 -- src/field.rt:98:11
 number-at-requires : tie.Need-number-at-requires
@@ -53,13 +54,13 @@ enum-told c = search needs
 
 -- src/field.rt:86:1
 returns-3 : tie.Need-returns-3
-unfolding optionalForm toldOptional toldNumber
-returns-3 c = rw (sym (c .before .before .before .before .before .next-is .ensures) ∙ c .before .before .before .before .if1 .left, told (toldNumber _) (c .before .before .before .number-at .ensures) (c .before .v .given .1))
+unfolding optionalForm toldOptional toldNumber optionalEnd numberEnd
+returns-3 c = (rw (sym (c .before .before .before .before .before .next-is .ensures) ∙ c .before .before .before .before .if1 .left, told (toldNumber _) (c .before .before .before .number-at .ensures .0) (c .before .v .given .1)), reached numberEnd (c .before .before .before .number-at .ensures .1) (c .before .v .given .1))
 
 -- src/field.rt:86:1
 returns-4 : tie.Need-returns-4
-unfolding optionalForm toldOptional toldNumber
-returns-4 c = rw (sym (c .before .before .before .before .next-is .ensures) ∙ c .before .before .before .if1 .left, told (toldNumber _) (c .before .before .number-at .ensures) (c .enum-told .given .1))
+unfolding optionalForm toldOptional toldNumber optionalEnd
+returns-4 c = (rw (sym (c .before .before .before .before .next-is .ensures) ∙ c .before .before .before .if1 .left, told (toldNumber _) (c .before .before .number-at .ensures .0) (c .enum-told .given .1)), omega arith)
 
 pub optional-at-spec : {M : Type 1} → statement M
 optional-at-spec =

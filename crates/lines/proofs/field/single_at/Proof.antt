@@ -21,7 +21,7 @@ enum-known-v c = search needs
 -- src/field.rt:80:43
 cast-t11 : tie.Need-cast-t11
 unfolding toldNumber
-cast-t11 c = omega (arith, number-lt (c .before .before .before .before .before .args .base) (c .before .before .before .before .before .args .width) (c .before .before .before .before .before .args .end) _ _ _ (told (toldNumber _) (c .before .before .before .number-at .ensures) (c .before .v .given .1)), c .before .before .before .before .before .pre .1 .1)
+cast-t11 c = omega (arith, number-lt (c .before .before .before .before .before .args .base) (c .before .before .before .before .before .args .width) (c .before .before .before .before .before .args .end) _ _ _ (told (toldNumber _) (c .before .before .before .number-at .ensures .0) (c .before .v .given .1)), c .before .before .before .before .before .pre .1 .1)
 
 -- src/field.rt:81:24
 enum-told : tie.Need-enum-told
@@ -30,12 +30,12 @@ enum-told c = search needs
 -- src/field.rt:74:1
 returns : tie.Need-returns
 unfolding toldNumber toldSingle
-returns c = sym (told (toldNumber _) (c .before .before .before .number-at .ensures) (c .before .v .given .1))
+returns c = sym (told (toldNumber _) (c .before .before .before .number-at .ensures .0) (c .before .v .given .1))
 
 -- src/field.rt:74:1
 returns-2 : tie.Need-returns-2
 unfolding toldNumber toldSingle
-returns-2 c = sym (told (toldNumber _) (c .before .before .number-at .ensures) (c .enum-told .given .1))
+returns-2 c = sym (told (toldNumber _) (c .before .before .number-at .ensures .0) (c .enum-told .given .1))
 
 pub single-at-spec : {M : Type 1} → statement M
 single-at-spec =

@@ -6,6 +6,7 @@ use borrow.Author.Tests.{not-true, not-false}
 use lib.ListN.{drop}
 use Rattle.lines.specs.Told.{toldPointLine, toldPointLines}
 use Rattle.fields.proofs.Fields.{told}
+use Rattle.lines.proofs.Held.{handed, held-lines}
 use Rattle.lines.proofs.Reading.{Reading, begun, ended, full, refuses, falls, goes-on}
 use Rattle.lines.proofs.point_lines.lines_from.Statement.{statement}
 use Rattle.lines.proofs.point_lines.lines_from.Tie as tie
@@ -16,6 +17,7 @@ use Rattle.points.proofs.point.unused.Reads as unused-reads
 use Rattle.lines.proofs.point.point_line.Reads as point-line-reads
 use Rattle.lines.proofs.point_lines.after_last.Reads as after-last-reads
 use Rattle.lines.proofs.point_lines.no_points.Reads as no-points-reads
+use Rattle.lines.proofs.point_lines.place_within.Reads as place-within-reads
 use Rattle.lines.proofs.point_lines.points_end.Reads as points-end-reads
 
 abbrev Inv-loop : tie.InvT-loop
@@ -50,7 +52,7 @@ no-points-requires c κs = tt
 
 -- src/point_lines.rt:84:13
 returns : tie.Need-returns Inv-loop μ-loop
-returns c = c .no-points .ensures _ ∙ full (c .before .before .before .before .before .loop .inv) (sym (c .before .before .before .before .points-end .ensures) ∙ not-true _ (c .before .before .before .if1 .taken)) _ (c .before .after-last .ensures) (c .before .before .if2 .taken)
+returns c = handed (c .no-points .ensures .0) (c .no-points .ensures .1) _ (full (c .before .before .before .before .before .loop .inv) (sym (c .before .before .before .before .points-end .ensures) ∙ not-true _ (c .before .before .before .if1 .taken)) _ (c .before .after-last .ensures) (c .before .before .if2 .taken))
 
 -- src/point_lines.rt:86:15
 point-line-requires : tie.Need-point-line-requires Inv-loop μ-loop
@@ -67,7 +69,7 @@ no-points-requires-2 c κs = tt
 -- src/point_lines.rt:88:17
 returns-2 : tie.Need-returns-2 Inv-loop μ-loop
 unfolding toldPointLine
-returns-2 c = c .no-points2 .ensures _ ∙ refuses (c .before .before .before .before .before .before .before .before .loop .inv) (sym (c .before .before .before .before .before .before .before .points-end .ensures) ∙ not-true _ (c .before .before .before .before .before .before .if1 .taken)) (omega (arith, c .before .before .before .before .before .before .before .before .loop .inv .few, c .before .before .before .before .before .if2 .left)) _ (told (toldPointLine _) (c .before .before .before .before .point-line .ensures) (c .before .before .refusal .given .1))
+returns-2 c = handed (c .no-points2 .ensures .0) (c .no-points2 .ensures .1) _ (refuses (c .before .before .before .before .before .before .before .before .loop .inv) (sym (c .before .before .before .before .before .before .before .points-end .ensures) ∙ not-true _ (c .before .before .before .before .before .before .if1 .taken)) (omega (arith, c .before .before .before .before .before .before .before .before .loop .inv .few, c .before .before .before .before .before .if2 .left)) _ (told (toldPointLine _) (c .before .before .before .before .point-line .ensures) (c .before .before .refusal .given .1)))
 
 -- src/point_lines.rt:90:27
 enum-known-p : tie.Need-enum-known-p Inv-loop μ-loop
@@ -84,7 +86,7 @@ no-points-requires-3 c κs = tt
 -- src/point_lines.rt:93:21
 returns-3 : tie.Need-returns-3 Inv-loop μ-loop
 unfolding toldPointLine
-returns-3 c = c .no-points3 .ensures _ ∙ falls (c .before .before .before .before .before .before .before .before .before .before .loop .inv) (sym (c .before .before .before .before .before .before .before .before .before .points-end .ensures) ∙ not-true _ (c .before .before .before .before .before .before .before .before .if1 .taken)) (omega (arith, c .before .before .before .before .before .before .before .before .before .before .loop .inv .few, c .before .before .before .before .before .before .before .if2 .left)) _ (c .before .before .before .before .p .given .0 .1 .0) (told (toldPointLine _) (c .before .before .before .before .before .before .point-line .ensures) (c .before .before .before .before .p .given .1)) (rw (← c .before .before .order-key .ensures) (c .before .if3 .taken))
+returns-3 c = handed (c .no-points3 .ensures .0) (c .no-points3 .ensures .1) _ (falls (c .before .before .before .before .before .before .before .before .before .before .loop .inv) (sym (c .before .before .before .before .before .before .before .before .before .points-end .ensures) ∙ not-true _ (c .before .before .before .before .before .before .before .before .if1 .taken)) (omega (arith, c .before .before .before .before .before .before .before .before .before .before .loop .inv .few, c .before .before .before .before .before .before .before .if2 .left)) _ (c .before .before .before .before .p .given .0 .1 .0) (told (toldPointLine _) (c .before .before .before .before .before .before .point-line .ensures) (c .before .before .before .before .p .given .1)) (rw (← c .before .before .order-key .ensures) (c .before .if3 .taken)))
 
 -- src/point_lines.rt:95:17
 mul-places : tie.Need-mul-places Inv-loop μ-loop
@@ -107,10 +109,14 @@ loop-again : tie.Need-loop-again Inv-loop μ-loop
 unfolding toldPointLine
 loop-again c = rw (c .before .order-key .ensures) (goes-on (c .before .before .before .before .before .before .before .before .before .loop .inv) (sym (c .before .before .before .before .before .before .before .before .points-end .ensures) ∙ not-true _ (c .before .before .before .before .before .before .before .if1 .taken)) (omega (arith, c .before .before .before .before .before .before .before .before .before .loop .inv .few, c .before .before .before .before .before .before .if2 .left)) _ _ (told (toldPointLine _) (c .before .before .before .before .before .point-line .ensures) (c .before .before .before .p .given .1)) (rw (← c .before .order-key .ensures) (c .if3 .left)))
 
+-- src/point_lines.rt:100:15
+place-within-requires : tie.Need-place-within-requires Inv-loop μ-loop
+place-within-requires c κs = tt
+
 -- src/point_lines.rt:72:1
 returns-4 : tie.Need-returns-4 Inv-loop μ-loop
 unfolding toldPointLines
-returns-4 c = ended (c .before .before .loop .inv) (sym (c .before .points-end .ensures) ∙ not-false _ (c .if1 .left))
+returns-4 c = held-lines _ _ _ _ _ (c .place-within .ensures) (ended (c .before .before .before .loop .inv) (sym (c .before .before .points-end .ensures) ∙ not-false _ (c .before .if1 .left)))
 
 pub lines-from-spec : {M : Type 1} → statement M
 lines-from-spec =
@@ -138,4 +144,5 @@ lines-from-spec =
     add-count
     loop-less
     loop-again
+    place-within-requires
     returns-4)

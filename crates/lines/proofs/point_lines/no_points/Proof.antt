@@ -14,7 +14,7 @@ none-requires c κs = search needs
 -- src/point_lines.rt:60:1
 returns : tie.Need-returns
 unfolding toldPointLines
-returns c = λ s. refl
+returns c = (λ s. refl, λ s. rw (c .none .ensures))
 
 pub no-points-spec : {M : Type 1} → statement M
 no-points-spec = tie.close (tie.spec none-requires returns)

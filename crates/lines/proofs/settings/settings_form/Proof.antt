@@ -1,6 +1,8 @@
+use native.Mathlib.Omega.{arith}
 use Rattle.lines.specs.Lines.{settingsForm}
-use Rattle.lines.specs.Told.{toldSingle, toldOptional, toldSettingsForm}
+use Rattle.lines.specs.Told.{toldSingle, toldOptional, toldSettingsForm, optionalEnd, settingsFormEnd}
 use Rattle.fields.proofs.Fields.{told}
+use Rattle.lines.proofs.Ends.{reached}
 use borrow.Author.Needs.{needs}
 use Rattle.lines.proofs.settings.settings_form.Statement.{statement}
 use Rattle.lines.proofs.settings.settings_form.Tie as tie
@@ -24,8 +26,8 @@ enum-told c = search needs
 
 -- src/settings.rt:46:9
 returns : tie.Need-returns
-unfolding settingsForm toldSingle toldOptional toldSettingsForm
-returns c = rw (told (toldSingle _) (c .before .before .target-at .ensures) (c .enum-told .given .1))
+unfolding settingsForm toldSingle toldOptional toldSettingsForm settingsFormEnd
+returns c = (rw (told (toldSingle _) (c .before .before .target-at .ensures) (c .enum-told .given .1)), omega arith)
 
 -- src/settings.rt:48:36
 single-at-requires : tie.Need-single-at-requires
@@ -41,8 +43,8 @@ enum-told-2 c = search needs
 
 -- src/settings.rt:49:9
 returns-2 : tie.Need-returns-2
-unfolding settingsForm toldSingle toldOptional toldSettingsForm
-returns-2 c = rw (told (toldSingle _) (c .before .before .before .before .before .before .target-at .ensures) (c .before .before .before .before .target .given .1), told (toldSingle _) (c .before .before .single-at .ensures) (c .enum-told2 .given .1))
+unfolding settingsForm toldSingle toldOptional toldSettingsForm settingsFormEnd
+returns-2 c = (rw (told (toldSingle _) (c .before .before .before .before .before .before .target-at .ensures) (c .before .before .before .before .target .given .1), told (toldSingle _) (c .before .before .single-at .ensures) (c .enum-told2 .given .1)), omega arith)
 
 -- src/settings.rt:51:36
 optional-at-requires : tie.Need-optional-at-requires
@@ -58,8 +60,8 @@ enum-told-3 c = search needs
 
 -- src/settings.rt:52:9
 returns-3 : tie.Need-returns-3
-unfolding settingsForm toldSingle toldOptional toldSettingsForm
-returns-3 c = rw (told (toldSingle _) (c .before .before .before .before .before .before .before .before .before .before .target-at .ensures) (c .before .before .before .before .before .before .before .before .target .given .1), told (toldSingle _) (c .before .before .before .before .before .before .single-at .ensures) (c .before .before .before .before .enabled .given .1), told (toldOptional _) (c .before .before .optional-at .ensures) (c .enum-told3 .given .1))
+unfolding settingsForm toldSingle toldOptional toldSettingsForm settingsFormEnd
+returns-3 c = (rw (told (toldSingle _) (c .before .before .before .before .before .before .before .before .before .before .target-at .ensures) (c .before .before .before .before .before .before .before .before .target .given .1), told (toldSingle _) (c .before .before .before .before .before .before .single-at .ensures) (c .before .before .before .before .enabled .given .1), told (toldOptional _) (c .before .before .optional-at .ensures .0) (c .enum-told3 .given .1)), omega arith)
 
 -- src/settings.rt:54:36
 optional-at-requires-2 : tie.Need-optional-at-requires-2
@@ -75,8 +77,8 @@ enum-told-4 c = search needs
 
 -- src/settings.rt:55:9
 returns-4 : tie.Need-returns-4
-unfolding settingsForm toldSingle toldOptional toldSettingsForm
-returns-4 c = rw (told (toldSingle _) (c .before .before .before .before .before .before .before .before .before .before .before .before .before .before .target-at .ensures) (c .before .before .before .before .before .before .before .before .before .before .before .before .target .given .1), told (toldSingle _) (c .before .before .before .before .before .before .before .before .before .before .single-at .ensures) (c .before .before .before .before .before .before .before .before .enabled .given .1), told (toldOptional _) (c .before .before .before .before .before .before .optional-at .ensures) (c .before .before .before .before .min .given .1), told (toldOptional _) (c .before .before .optional-at2 .ensures) (c .enum-told4 .given .1))
+unfolding settingsForm toldSingle toldOptional toldSettingsForm settingsFormEnd
+returns-4 c = (rw (told (toldSingle _) (c .before .before .before .before .before .before .before .before .before .before .before .before .before .before .target-at .ensures) (c .before .before .before .before .before .before .before .before .before .before .before .before .target .given .1), told (toldSingle _) (c .before .before .before .before .before .before .before .before .before .before .single-at .ensures) (c .before .before .before .before .before .before .before .before .enabled .given .1), told (toldOptional _) (c .before .before .before .before .before .before .optional-at .ensures .0) (c .before .before .before .before .min .given .1), told (toldOptional _) (c .before .before .optional-at2 .ensures .0) (c .enum-told4 .given .1)), omega arith)
 
 -- src/settings.rt:57:38
 optional-at-requires-3 : tie.Need-optional-at-requires-3
@@ -92,13 +94,13 @@ enum-told-5 c = search needs
 
 -- src/settings.rt:58:9
 returns-5 : tie.Need-returns-5
-unfolding settingsForm toldSingle toldOptional toldSettingsForm
-returns-5 c = rw (told (toldSingle _) (c .before .before .before .before .before .before .before .before .before .before .before .before .before .before .before .before .before .before .target-at .ensures) (c .before .before .before .before .before .before .before .before .before .before .before .before .before .before .before .before .target .given .1), told (toldSingle _) (c .before .before .before .before .before .before .before .before .before .before .before .before .before .before .single-at .ensures) (c .before .before .before .before .before .before .before .before .before .before .before .before .enabled .given .1), told (toldOptional _) (c .before .before .before .before .before .before .before .before .before .before .optional-at .ensures) (c .before .before .before .before .before .before .before .before .min .given .1), told (toldOptional _) (c .before .before .before .before .before .before .optional-at2 .ensures) (c .before .before .before .before .max .given .1), told (toldOptional _) (c .before .before .optional-at3 .ensures) (c .enum-told5 .given .1))
+unfolding settingsForm toldSingle toldOptional toldSettingsForm settingsFormEnd
+returns-5 c = (rw (told (toldSingle _) (c .before .before .before .before .before .before .before .before .before .before .before .before .before .before .before .before .before .before .target-at .ensures) (c .before .before .before .before .before .before .before .before .before .before .before .before .before .before .before .before .target .given .1), told (toldSingle _) (c .before .before .before .before .before .before .before .before .before .before .before .before .before .before .single-at .ensures) (c .before .before .before .before .before .before .before .before .before .before .before .before .enabled .given .1), told (toldOptional _) (c .before .before .before .before .before .before .before .before .before .before .optional-at .ensures .0) (c .before .before .before .before .before .before .before .before .min .given .1), told (toldOptional _) (c .before .before .before .before .before .before .optional-at2 .ensures .0) (c .before .before .before .before .max .given .1), told (toldOptional _) (c .before .before .optional-at3 .ensures .0) (c .enum-told5 .given .1)), omega arith)
 
 -- src/settings.rt:41:1
 returns-6 : tie.Need-returns-6
-unfolding settingsForm toldSingle toldOptional toldSettingsForm
-returns-6 c = rw (told (toldSingle _) (c .before .before .before .before .before .before .before .before .before .before .before .before .before .before .before .before .before .before .before .target-at .ensures) (c .before .before .before .before .before .before .before .before .before .before .before .before .before .before .before .before .before .target .given .1), told (toldSingle _) (c .before .before .before .before .before .before .before .before .before .before .before .before .before .before .before .single-at .ensures) (c .before .before .before .before .before .before .before .before .before .before .before .before .before .enabled .given .1), told (toldOptional _) (c .before .before .before .before .before .before .before .before .before .before .before .optional-at .ensures) (c .before .before .before .before .before .before .before .before .before .min .given .1), told (toldOptional _) (c .before .before .before .before .before .before .before .optional-at2 .ensures) (c .before .before .before .before .before .max .given .1), told (toldOptional _) (c .before .before .before .optional-at3 .ensures) (c .before .step .given .1))
+unfolding settingsForm toldSingle toldOptional toldSettingsForm optionalEnd settingsFormEnd
+returns-6 c = (rw (told (toldSingle _) (c .before .before .before .before .before .before .before .before .before .before .before .before .before .before .before .before .before .before .before .target-at .ensures) (c .before .before .before .before .before .before .before .before .before .before .before .before .before .before .before .before .before .target .given .1), told (toldSingle _) (c .before .before .before .before .before .before .before .before .before .before .before .before .before .before .before .single-at .ensures) (c .before .before .before .before .before .before .before .before .before .before .before .before .before .enabled .given .1), told (toldOptional _) (c .before .before .before .before .before .before .before .before .before .before .before .optional-at .ensures .0) (c .before .before .before .before .before .before .before .before .before .min .given .1), told (toldOptional _) (c .before .before .before .before .before .before .before .optional-at2 .ensures .0) (c .before .before .before .before .before .max .given .1), told (toldOptional _) (c .before .before .before .optional-at3 .ensures .0) (c .before .step .given .1)), reached optionalEnd (c .before .before .before .optional-at3 .ensures .1) (c .before .step .given .1))
 
 pub settings-form-spec : {M : Type 1} → statement M
 settings-form-spec =

@@ -1,7 +1,9 @@
+use native.Mathlib.Omega.{arith}
 use Rattle.fields.proofs.Fields.{told}
 use Rattle.lines.specs.Lines.{settingsLine}
-use Rattle.lines.specs.Told.{toldSettingsForm, toldSettings, toldSettingsLine}
+use Rattle.lines.specs.Told.{toldSettingsForm, toldSettings, toldSettingsLine, settingsFormEnd, settingsEnd}
 use Rattle.lines.proofs.Bounds.{settings-below}
+use Rattle.lines.proofs.Ends.{reached}
 use borrow.Author.Needs.{needs}
 use Rattle.lines.proofs.settings.settings_line.Statement.{statement}
 use Rattle.lines.proofs.settings.settings_line.Tie as tie
@@ -29,13 +31,13 @@ enum-told c = search needs
 
 -- src/settings.rt:134:9
 returns : tie.Need-returns
-unfolding settingsLine toldSettingsForm toldSettingsLine
-returns c = rw (told (toldSettingsForm _) (c .before .before .settings-form .ensures) (c .enum-told .given .1))
+unfolding settingsLine toldSettingsForm toldSettingsLine settingsEnd
+returns c = (rw (told (toldSettingsForm _) (c .before .before .settings-form .ensures .0) (c .enum-told .given .1)), omega arith)
 
 -- src/settings.rt:136:11
 settings-of-requires : tie.Need-settings-of-requires
 unfolding toldSettingsForm
-settings-of-requires c κs = settings-below _ _ _ (told (toldSettingsForm _) (c .before .before .before .settings-form .ensures) (c .before .raw .given .1))
+settings-of-requires c κs = settings-below _ _ _ (told (toldSettingsForm _) (c .before .before .before .settings-form .ensures .0) (c .before .raw .given .1))
 
 -- src/settings.rt:137:31
 enum-known-r : tie.Need-enum-known-r
@@ -47,13 +49,13 @@ enum-known-e c = search needs
 
 -- src/settings.rt:129:1
 returns-2 : tie.Need-returns-2
-unfolding settingsLine toldSettingsForm toldSettings toldSettingsLine
-returns-2 c = rw (told (toldSettingsForm _) (c .before .before .before .before .before .before .before .settings-form .ensures) (c .before .before .before .before .before .raw .given .1), told toldSettings (c .before .before .before .settings-of .ensures) (c .before .r .given .1))
+unfolding settingsLine toldSettingsForm toldSettings toldSettingsLine settingsEnd
+returns-2 c = (rw (told (toldSettingsForm _) (c .before .before .before .before .before .before .before .settings-form .ensures .0) (c .before .before .before .before .before .raw .given .1), told toldSettings (c .before .before .before .settings-of .ensures) (c .before .r .given .1)), omega arith)
 
 -- src/settings.rt:129:1
 returns-3 : tie.Need-returns-3
-unfolding settingsLine toldSettingsForm toldSettings toldSettingsLine
-returns-3 c = rw (told (toldSettingsForm _) (c .before .before .before .before .before .before .before .settings-form .ensures) (c .before .before .before .before .before .raw .given .1), told toldSettings (c .before .before .before .settings-of .ensures) (c .before .e .given .1))
+unfolding settingsLine toldSettingsForm toldSettings toldSettingsLine settingsFormEnd settingsEnd
+returns-3 c = (rw (told (toldSettingsForm _) (c .before .before .before .before .before .before .before .settings-form .ensures .0) (c .before .before .before .before .before .raw .given .1), told toldSettings (c .before .before .before .settings-of .ensures) (c .before .e .given .1)), reached settingsFormEnd (c .before .before .before .before .before .before .before .settings-form .ensures .1) (c .before .before .before .before .before .raw .given .1))
 
 pub settings-line-spec : {M : Type 1} → statement M
 settings-line-spec =

@@ -50,17 +50,17 @@ no-input-requires-2 c κs = search needs
 -- src/play.rt:49:17
 returns : tie.Need-returns
 unfolding toldBlockLine
-returns c = rw (drop-drop 14 (c .before .before .before .before .before .before .before .before .before .args .at) (c .before .before .before .before .before .before .before .before .before .args .s .now), told (toldBlockLine _) (c .before .before .before .before .before .block-line .ensures) (c .before .before .before .block .given .1), empty-in (c .before .before .before .before .before .before .before .before .before .args .s .now) (c .before .before .before .block .given .0 .1 .0) (c .before .if1 .taken)) (c .no-input2 .ensures)
+returns c = rw (drop-drop 14 (c .before .before .before .before .before .before .before .before .before .args .at) (c .before .before .before .before .before .before .before .before .before .args .s .now), told (toldBlockLine _) (c .before .before .before .before .before .block-line .ensures .0) (c .before .before .before .block .given .1), empty-in (c .before .before .before .before .before .before .before .before .before .args .s .now) (c .before .before .before .block .given .0 .1 .0) (c .before .if1 .taken)) (c .no-input2 .ensures)
 
 -- src/play.rt:39:1
 returns-2 : tie.Need-returns-2
 unfolding toldBlockLine
-returns-2 c = rw (drop-drop 14 (c .before .before .before .before .before .before .before .before .args .at) (c .before .before .before .before .before .before .before .before .args .s .now), told (toldBlockLine _) (c .before .before .before .before .block-line .ensures) (c .before .before .refusal .given .1)) (c .no-input .ensures)
+returns-2 c = rw (drop-drop 14 (c .before .before .before .before .before .before .before .before .args .at) (c .before .before .before .before .before .before .before .before .args .s .now), told (toldBlockLine _) (c .before .before .before .before .block-line .ensures .0) (c .before .before .refusal .given .1)) (c .no-input .ensures)
 
 -- src/play.rt:39:1
 returns-3 : tie.Need-returns-3
 unfolding toldBlockLine toldInput
-returns-3 c = rw (drop-drop 14 (c .before .before .before .before .before .before .before .before .args .at) (c .before .before .before .before .before .before .before .before .args .s .now), told (toldBlockLine _) (c .before .before .before .before .block-line .ensures) (c .before .before .block .given .1), empty-out (c .before .before .before .before .before .before .before .before .args .s .now) (c .before .before .block .given .0 .1 .0) (c .if1 .left)) (refl, refl)
+returns-3 c = rw (drop-drop 14 (c .before .before .before .before .before .before .before .before .args .at) (c .before .before .before .before .before .before .before .before .args .s .now), told (toldBlockLine _) (c .before .before .before .before .block-line .ensures .0) (c .before .before .block .given .1), empty-out (c .before .before .before .before .before .before .before .before .args .s .now) (c .before .before .block .given .0 .1 .0) (c .if1 .left)) (refl, refl)
 
 pub block-at-spec : {M : Type 1} → statement M
 block-at-spec =

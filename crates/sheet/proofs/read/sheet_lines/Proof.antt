@@ -69,7 +69,7 @@ no-sheet-requires-3 c κs = search needs
 -- src/read.rt:83:17
 returns-2 : tie.Need-returns-2
 unfolding sheetLines toldSettingsLine
-returns-2 c = rw (sym (c .before .before .before .before .before .before .before .before .before .starts-with .ensures) ∙ not-false _ (c .before .before .before .before .before .before .before .before .if1 .left), told (toldSettingsLine _) (c .before .before .before .before .before .before .before .settings-line .ensures) (c .before .before .before .before .before .settings .given .1), sym (c .before .before .starts-with2 .ensures) ∙ not-true _ (c .before .if2 .taken)) (c .no-sheet3 .ensures _)
+returns-2 c = rw (sym (c .before .before .before .before .before .before .before .before .before .starts-with .ensures) ∙ not-false _ (c .before .before .before .before .before .before .before .before .if1 .left), told (toldSettingsLine _) (c .before .before .before .before .before .before .before .settings-line .ensures .0) (c .before .before .before .before .before .settings .given .1), sym (c .before .before .starts-with2 .ensures) ∙ not-true _ (c .before .if2 .taken)) (c .no-sheet3 .ensures _)
 
 -- src/read.rt:87:52
 add-point-lines : tie.Need-add-point-lines
@@ -86,12 +86,12 @@ with-settings-requires c κs = search needs
 -- src/read.rt:73:1
 returns-3 : tie.Need-returns-3
 unfolding sheetLines toldSettingsLine
-returns-3 c = rw (sym (c .before .before .before .before .before .before .starts-with .ensures) ∙ not-false _ (c .before .before .before .before .before .if1 .left), told (toldSettingsLine _) (c .before .before .before .before .settings-line .ensures) (c .before .before .refusal .given .1)) (c .no-sheet2 .ensures _)
+returns-3 c = rw (sym (c .before .before .before .before .before .before .starts-with .ensures) ∙ not-false _ (c .before .before .before .before .before .if1 .left), told (toldSettingsLine _) (c .before .before .before .before .settings-line .ensures .0) (c .before .before .refusal .given .1)) (c .no-sheet2 .ensures _)
 
 -- src/read.rt:73:1
 returns-4 : tie.Need-returns-4
 unfolding sheetLines toldSettingsLine
-returns-4 c = rw (sym (c .before .before .before .before .before .before .before .before .before .before .starts-with .ensures) ∙ not-false _ (c .before .before .before .before .before .before .before .before .before .if1 .left), told (toldSettingsLine _) (c .before .before .before .before .before .before .before .before .settings-line .ensures) (c .before .before .before .before .before .before .settings .given .1), sym (c .before .before .before .starts-with2 .ensures) ∙ not-false _ (c .before .before .if2 .left)) (c .with-settings .ensures _ ∙ ap (λ (x : Lines Points). withSettings (c .before .before .before .before .before .before .settings .given .0 .0) x) (c .before .point-lines .ensures ∙ ap (λ (l : List ℕ). pointLines (c .before .before .before .before .before .before .before .before .before .before .before .before .before .args .program) 256 [] l) (sym (drop-drop 34 (c .before .before .before .before .before .before .settings .given .0 .1 .0) (c .before .before .before .before .before .before .before .before .before .before .before .before .before .args .s .now)))))
+returns-4 c = rw (sym (c .before .before .before .before .before .before .before .before .before .before .starts-with .ensures) ∙ not-false _ (c .before .before .before .before .before .before .before .before .before .if1 .left), told (toldSettingsLine _) (c .before .before .before .before .before .before .before .before .settings-line .ensures .0) (c .before .before .before .before .before .before .settings .given .1), sym (c .before .before .before .starts-with2 .ensures) ∙ not-false _ (c .before .before .if2 .left)) (c .with-settings .ensures _ ∙ ap (λ (x : Lines Points). withSettings (c .before .before .before .before .before .before .settings .given .0 .0) x) (c .before .point-lines .ensures .0 ∙ ap (λ (l : List ℕ). pointLines (c .before .before .before .before .before .before .before .before .before .before .before .before .before .args .program) 256 [] l) (sym (drop-drop 34 (c .before .before .before .before .before .before .settings .given .0 .1 .0) (c .before .before .before .before .before .before .before .before .before .before .before .before .before .args .s .now)))))
 
 pub sheet-lines-spec : {M : Type 1} → statement M
 sheet-lines-spec =
