@@ -44,7 +44,7 @@ pub extern "C" fn rattle_read_sheet(
     match answer {
         SheetAnswer::Accepted => shown(Answer::Accepted, envelope, out_times, out_values),
         SheetAnswer::Refused(why, line) => std::num::wrapping_add_u64(
-            line % 1024 * 16,
+            line as u64 % 1024 * 16,
             number(why),
         ),
     }

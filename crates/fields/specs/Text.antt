@@ -21,6 +21,7 @@ digitsOf base (suc width) v = digitsOf base width (v / base) ++ (digitByte (v % 
 abbrev pub numberText : ℕ → ℕ → ℕ → ℕ → List ℕ
 numberText base width e v = digitsOf base width v ++ (e ∷ [])
 
+-- "`-` is none", or the number in so many hexadecimal digits; and the byte after it
 unfoldable pub optionalText : ℕ → ℕ → Optional → List ℕ
 unfolding digitsOf
 optionalText width e optional.None = dash ∷ e ∷ []
@@ -31,6 +32,6 @@ unfoldable pub placesOf : ℕ → ℕ → ℕ
 placesOf zero v = 0
 placesOf (suc most) v = cond (ltb v 10) 1 (suc (placesOf most (v / 10)))
 
--- "decimal without leading zeros": as many digits as the number has, at most ten: 2^32 − 1 has ten
+-- "decimal without leading zeros": as many digits as the number has. Every number that is written so is below 2^32, which has ten.
 abbrev pub decimalText : ℕ → ℕ → List ℕ
 decimalText e v = numberText 10 (placesOf 10 v) e v

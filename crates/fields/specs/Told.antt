@@ -26,10 +26,11 @@ pub record Put (l : List ℕ) (at : ℕ) (w : List ℕ) (m : List ℕ) (after : 
   pub next : after ≡ at + length w
   pub bytes : m ≡ sets l at w
 
--- a text put at a place if it fits there, else nothing
-abbrev pub fits : List ℕ → ℕ → List ℕ → Bool
-fits l at w = leb (at + length w) (length l)
+-- the text fits from the place on
+abbrev pub hasRoom : List ℕ → ℕ → List ℕ → Bool
+hasRoom l at w = leb (at + length w) (length l)
 
+-- a text put at a place if it fits there, else nothing
 pub record Fitted (l : List ℕ) (at : ℕ) (w : List ℕ) (m : List ℕ) (after : ℕ) : Type 0 where
-  pub next : after ≡ cond (fits l at w) (at + length w) at
-  pub bytes : m ≡ cond (fits l at w) (sets l at w) l
+  pub next : after ≡ cond (hasRoom l at w) (at + length w) at
+  pub bytes : m ≡ cond (hasRoom l at w) (sets l at w) l

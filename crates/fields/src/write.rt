@@ -46,8 +46,8 @@ fn put_text(out: &mut [u8], at: usize, w: &[u8]) -> usize
     at + w.len()
 }
 
-// How many decimal digits a number has, ten at most.
-pub fn places_of(v: u64) -> usize
+// How many decimal digits a number has.
+pub fn places_of(v: u32) -> usize
     ensures { λ r. ⌜ r ≡ placesOf 10 v ⌝ }
 {
     let mut left = v;
@@ -85,10 +85,10 @@ fn fit_number(out: &mut [u8], at: usize, v: u64, base: u64, width: usize, end: u
 }
 
 // A number in decimal, and the byte `end`.
-pub fn fit_decimal(out: &mut [u8], at: usize, v: u64, end: u8) -> usize
+pub fn fit_decimal(out: &mut [u8], at: usize, v: u32, end: u8) -> usize
     ensures { λ r. ⌜ Fitted (now (out .entry)) at (decimalText end v) (now (out .exit)) r ⌝ }
 {
-    fit_number(out, at, v, 10, places_of(v), end)
+    fit_number(out, at, v as u64, 10, places_of(v), end)
 }
 
 // The bits of an f32 in hexadecimal, and the byte `end`.

@@ -16,7 +16,7 @@ use points::refusal::Refusal;
 // The points of the lines, and the place after them; beside a refusal its line, no points and 0.
 pub struct PointLines {
     pub answer: Answer,
-    pub line: u64,
+    pub line: u32,
     pub points: Points,
     pub next: usize,
 }
@@ -43,7 +43,7 @@ fn after_last(s: &[u8], at: usize) -> Refusal
     }
 }
 
-fn no_points(refusal: Refusal, line: u64) -> PointLines
+fn no_points(refusal: Refusal, line: u32) -> PointLines
     ensures { λ r. ⌜ ((s : List ℕ) → toldPointLines s r ≡ stop (number refusal) line) ⌝ }
     ensures { λ r. ⌜ ((s : List ℕ) → r ≡ pointLinesHeld s (r .answer) (stop (number refusal) line)) ⌝ }
 {
@@ -75,7 +75,7 @@ fn lines_from(t: &[u8; 256], s: &[u8], start: usize, program: bool) -> PointLine
     let mut at = start;
     let mut last: u64 = 0;
     while !points_end(s, at, program) {
-        let line = (count + 4) as u64;
+        let line = (count + 4) as u32;
         if count == 256 {
             return no_points(after_last(s, at), line);
         }

@@ -33,7 +33,7 @@ pub struct Piece {
     pub play: Play,
 }
 
-fn refused(why: Refusal, line: u64, out: &mut [u8; 20480]) -> Opened
+fn refused(why: Refusal, line: u32, out: &mut [u8; 20480]) -> Opened
     ensures { λ r. ⌜ Opens (declined (number why) line) (now (out .entry)) r (now (out .exit)) ⌝ }
 {
     let bytes = text::put_refusal(out, why, line);

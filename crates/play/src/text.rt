@@ -8,19 +8,13 @@ ghost use Rattle.fields.specs.Told.{Put};
 ghost use Rattle.play.specs.Play.{sampleLine, sampleLines, refusalText};
 use points::refusal::Refusal;
 
-fn number_of(why: Refusal) -> u64
-    ensures { λ r. ⌜ r ≡ number why ⌝ }
-{
-    why.number() as u64
-}
-
 // The names above a refusal, and the line of both numbers.
-pub(crate) fn put_refusal(out: &mut [u8], why: Refusal, line: u64) -> usize
+pub(crate) fn put_refusal(out: &mut [u8], why: Refusal, line: u32) -> usize
     requires { ⌜ 35 ≤ length (now out) ⌝ }
     ensures { λ r. ⌜ Put (now (out .entry)) 0 (refusalText (number why) line) (now (out .exit)) r ⌝ }
 {
     let a = fields::write::fit_text(&mut *out, 0, b"refusal line\n");
-    let b = fields::write::fit_decimal(&mut *out, a, number_of(why), b' ');
+    let b = fields::write::fit_decimal(&mut *out, a, why.number(), b' ');
     fields::write::fit_decimal(&mut *out, b, line, b'\n')
 }
 
@@ -34,7 +28,7 @@ fn bits_of(x: f32) -> u32
     f32::to_bits(x)
 }
 
-fn put_line(out: &mut [u8], at: usize, number: u64, x: f32) -> usize
+fn put_line(out: &mut [u8], at: usize, number: u32, x: f32) -> usize
     requires { ⌜ at + 20 ≤ length (now out) ⌝ }
     ensures { λ r. ⌜ Put (now (out .entry)) at (sampleLine number x) (now (out .exit)) r ⌝ }
 {
@@ -50,7 +44,7 @@ pub(crate) fn put_lines(out: &mut [u8], samples: &[f32; 1024], first: u64, n: us
     let mut at: usize = 0;
     let mut i: usize = 0;
     while i < n {
-        at = put_line(&mut *out, at, first + i as u64, samples[i]);
+        at = put_line(&mut *out, at, (first + i as u64) as u32, samples[i]);
         i += 1;
     }
     at

@@ -23,7 +23,7 @@ pub struct PlayInput {
     pub duration: f64,
 }
 
-fn no_input(refusal: Refusal, line: u64) -> PlayInput
+fn no_input(refusal: Refusal, line: u32) -> PlayInput
     ensures { λ r. ⌜ toldInput r ≡ declined (number refusal) line ⌝ }
     ensures { λ r. ⌜ r ≡ inputHeld (r .answer) (declined (number refusal) line) ⌝ }
 {
@@ -43,7 +43,8 @@ fn block_at(s: &[u8], at: usize, envelope: AutomationEnvelope) -> PlayInput
     ensures { λ r. ⌜ r ≡ inputHeld (r .answer) (lastLine envelope (envelope .points .count + 5) (blockLine (drop (length blockNames) (drop at (now (s .entry)))))) ⌝ }
 {
     let points = envelope.points;
-    let line = (points.count + 5) as u64;
+    let line = (points.count + 5) as u32;
+    // the block's names have 14 bytes
     match lines::block::block_line(s, at + 14) {
         BlockLine::Refused(refusal) => no_input(refusal, line),
         BlockLine::Is(block, next) => {

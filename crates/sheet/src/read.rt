@@ -17,12 +17,12 @@ use points::refusal::Refusal;
 // A refusal has its line, counted from 1.
 pub enum SheetAnswer {
     Accepted,
-    Refused(Refusal, u64),
+    Refused(Refusal, u32),
 }
 
 pub struct SheetLines {
     pub answer: Answer,
-    pub line: u64,
+    pub line: u32,
     pub envelope: AutomationEnvelope,
     pub next: usize,
 }
@@ -33,7 +33,7 @@ pub struct ReadSheet {
     pub envelope: AutomationEnvelope,
 }
 
-fn no_sheet(refusal: Refusal, line: u64) -> SheetLines
+fn no_sheet(refusal: Refusal, line: u32) -> SheetLines
     ensures { λ r. ⌜ ((s : List ℕ) → toldSheetLines s r ≡ stop (number refusal) line) ⌝ }
 {
     let envelope = AutomationEnvelope::new(0);
@@ -75,12 +75,14 @@ pub(crate) fn sheet_lines(s: &[u8], program: bool) -> SheetLines
     if !fields::bytes::starts_with(s, 0, b"target enabled min max step\n") {
         return no_sheet(Refusal::SheetForm, 1);
     }
+    // the names above have 28 bytes
     match lines::settings::settings_line(s, 28) {
         SettingsLine::Refused(refusal) => no_sheet(refusal, 2),
         SettingsLine::Is(settings, at) => {
             if !fields::bytes::starts_with(s, at, b"time position value curve cp1 cp2\n") {
                 return no_sheet(Refusal::SheetForm, 3);
             }
+            // the names above have 34 bytes
             with_settings(
                 settings,
                 lines::point_lines::point_lines(s, at + 34, program),

@@ -60,7 +60,7 @@ fn put_settings(out: &mut [u8], at: usize, r: RawSettings) -> usize
     let min = r.min;
     let max = r.max;
     let step = r.step;
-    let a = fields::write::fit_decimal(&mut *out, at, r.target as u64, b' ');
+    let a = fields::write::fit_decimal(&mut *out, at, r.target, b' ');
     let b = fields::write::fit_flag(&mut *out, a, r.enabled, b' ');
     let c = fields::write::fit_optional(&mut *out, b, min, 8, b' ');
     let d = fields::write::fit_optional(&mut *out, c, max, 8, b' ');
@@ -149,7 +149,7 @@ fn settings_length(r: RawSettings) -> usize
     let min = r.min;
     let max = r.max;
     let step = r.step;
-    fields::write::places_of(r.target as u64)
+    fields::write::places_of(r.target)
         + 3
         + optional_length(min, 8)
         + optional_length(max, 8)
@@ -189,6 +189,7 @@ fn sheet_length(e: AutomationEnvelope) -> usize
     ensures { λ r. ⌜ r ≡ length (sheetText e) ⌝ }
 {
     let points = e.points;
+    // the names above the settings have 28 bytes, those above the points 34
     28 + settings_length(raw_settings(e)) + 34 + points_length(points)
 }
 

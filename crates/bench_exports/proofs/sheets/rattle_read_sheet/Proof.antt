@@ -38,6 +38,9 @@ shown-requires c κs = tt
 enum-known-answer : tie.Need-enum-known-answer Inv-loop μ-loop
 enum-known-answer c = search needs
 
+cast-wrapping-add-u64 : tie.Need-cast-wrapping-add-u64 Inv-loop μ-loop
+cast-wrapping-add-u64 c = search needs
+
 mul-wrapping-add-u64 : tie.Need-mul-wrapping-add-u64 Inv-loop μ-loop
 mul-wrapping-add-u64 c = omega arith
 
@@ -74,6 +77,7 @@ rattle-read-sheet-spec =
     enum-told
     shown-requires
     enum-known-answer
+    cast-wrapping-add-u64
     mul-wrapping-add-u64
     number-requires
     wrapping-add-u64-requires

@@ -42,6 +42,10 @@ points-end-requires c κs = tt
 add-line : tie.Need-add-line Inv-loop μ-loop
 add-line c = omega (arith, c .before .before .loop .inv .few)
 
+-- src/point_lines.rt:82:20
+cast-line : tie.Need-cast-line Inv-loop μ-loop
+cast-line c = omega (arith, c .before .before .loop .inv .few)
+
 -- src/point_lines.rt:84:30
 after-last-requires : tie.Need-after-last-requires Inv-loop μ-loop
 after-last-requires c κs = tt
@@ -128,6 +132,7 @@ lines-from-spec =
     loop-holds
     points-end-requires
     add-line
+    cast-line
     after-last-requires
     no-points-requires
     returns

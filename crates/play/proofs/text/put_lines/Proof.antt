@@ -28,6 +28,10 @@ loop-holds c = (omega arith, record { next = refl; bytes = refl })
 add-put-line : tie.Need-add-put-line Inv-loop μ-loop
 add-put-line c = omega arith
 
+-- src/text.rt:68:37
+cast-put-line : tie.Need-cast-put-line Inv-loop μ-loop
+cast-put-line c = omega arith
+
 -- src/text.rt:68:56
 mul-put-line : tie.Need-mul-put-line Inv-loop μ-loop
 mul-put-line c = omega arith
@@ -68,6 +72,7 @@ put-lines-spec =
     μ-loop
     loop-holds
     add-put-line
+    cast-put-line
     mul-put-line
     element-copy-out-put-line
     put-line-requires

@@ -5,7 +5,7 @@ use Rattle.play.proofs.text.put_refusal.Statement.{statement}
 use Rattle.play.proofs.text.put_refusal.Tie as tie
 use Rattle.play.proofs.text.put_refusal.Reads as reads
 use Rattle.play.proofs.text.put_refusal.Lts as lts
-use Rattle.play.proofs.text.number_of.Reads as number-of-reads
+use Rattle.points.proofs.refusal.Refusal.number.Reads as number-reads
 use Rattle.fields.proofs.write.fit_decimal.Reads as fit-decimal-reads
 use Rattle.fields.proofs.write.fit_text.Reads as fit-text-reads
 
@@ -18,8 +18,8 @@ fit-text-requires : tie.Need-fit-text-requires
 fit-text-requires c κs = search needs
 
 -- src/text.rt:38:53
-number-of-requires : tie.Need-number-of-requires
-number-of-requires c κs = search needs
+number-requires : tie.Need-number-requires
+number-requires c κs = search needs
 
 -- src/text.rt:38:9
 fit-decimal-requires : tie.Need-fit-decimal-requires
@@ -35,7 +35,7 @@ same-length c = search needs
 
 -- src/text.rt:33:1
 returns : tie.Need-returns
-returns c = refusal-made (number (c .before .before .before .before .before .before .before .before .before .before .before .before .before .before .before .args .why)) (c .before .before .before .before .before .before .before .before .before .before .before .before .before .before .before .args .line) (c .before .before .before .before .before .before .before .before .before .before .before .before .before .before .before .pre) (c .before .before .before .before .before .before .before .before .before .before .before .fit-text .ensures) (rw (c .before .before .before .before .before .before .before .number-of .ensures) at (c .before .before .before .before .before .before .fit-decimal .ensures)) (c .before .before .fit-decimal2 .ensures)
+returns c = refusal-made (number (c .before .before .before .before .before .before .before .before .before .before .before .before .before .before .before .args .why)) (c .before .before .before .before .before .before .before .before .before .before .before .before .before .before .before .args .line) (c .before .before .before .before .before .before .before .before .before .before .before .before .before .before .before .pre) (c .before .before .before .before .before .before .before .before .before .before .before .fit-text .ensures) (rw (c .before .before .before .before .before .before .before .number .ensures) at (c .before .before .before .before .before .before .fit-decimal .ensures)) (c .before .before .fit-decimal2 .ensures)
 
 pub put-refusal-spec : {M : Type 1} → statement M
 put-refusal-spec =
@@ -43,7 +43,7 @@ put-refusal-spec =
     (tie.spec
     slice-aggregate-fit-text
     fit-text-requires
-    number-of-requires
+    number-requires
     fit-decimal-requires
     fit-decimal-requires-2
     same-length

@@ -19,6 +19,10 @@ use Rattle.sheet.proofs.play.no_input.Reads as no-input-reads
 add-line : tie.Need-add-line
 add-line c = search needs
 
+-- src/play.rt:44:16
+cast-line : tie.Need-cast-line
+cast-line c = search needs
+
 -- src/play.rt:45:39
 add-block-line : tie.Need-add-block-line
 add-block-line c = omega (arith, starts-with-length blockNames (c .before .before .before .args .s .now) (c .before .before .before .args .at) (c .before .before .before .pre .1) (omega arith), c .before .before .before .good)
@@ -67,6 +71,7 @@ block-at-spec =
     tie.close
     (tie.spec
     add-line
+    cast-line
     add-block-line
     block-line-requires
     enum-known-refusal

@@ -11,10 +11,6 @@ use Rattle.fields.proofs.write.fit_decimal.Reads as fit-decimal-reads
 use Rattle.fields.proofs.write.fit_flag.Reads as fit-flag-reads
 use Rattle.fields.proofs.write.fit_optional.Reads as fit-optional-reads
 
--- src/write.rt:63:55
-cast-fit-decimal : tie.Need-cast-fit-decimal
-cast-fit-decimal c = search needs
-
 -- src/write.rt:63:9
 fit-decimal-requires : tie.Need-fit-decimal-requires
 fit-decimal-requires c κs = search needs
@@ -42,13 +38,12 @@ same-length c = search needs
 -- src/write.rt:56:1
 returns : tie.Need-returns
 unfolding settingsText
-returns c = let u = optionalText 8 10 (c .before .before .before .before .before .before .before .before .before .before .before .before .before .before .before .before .before .before .before .before .before .before .args .r .step) in five-put u (c .before .before .before .before .before .before .before .before .before .before .before .before .before .before .before .before .before .before .before .before .before .before .pre) (c .before .before .before .before .before .before .before .before .before .before .before .before .before .before .before .before .before .before .fit-decimal .ensures) (c .before .before .before .before .before .before .before .before .before .before .before .before .before .before .fit-flag .ensures) (c .before .before .before .before .before .before .before .before .before .before .fit-optional .ensures) (c .before .before .before .before .before .before .fit-optional2 .ensures) (put-fits (c .before .before .fit-optional3 .ensures) (fifth-room u (c .before .before .before .before .before .before .before .before .before .before .before .before .before .before .before .before .before .before .before .before .before .before .pre) (c .before .before .before .before .before .before .before .before .before .before .before .before .before .before .before .before .before .before .fit-decimal .ensures) (c .before .before .before .before .before .before .before .before .before .before .before .before .before .before .fit-flag .ensures) (c .before .before .before .before .before .before .before .before .before .before .fit-optional .ensures) (c .before .before .before .before .before .before .fit-optional2 .ensures)))
+returns c = let u = optionalText 8 10 (c .before .before .before .before .before .before .before .before .before .before .before .before .before .before .before .before .before .before .before .before .before .args .r .step) in five-put u (c .before .before .before .before .before .before .before .before .before .before .before .before .before .before .before .before .before .before .before .before .before .pre) (c .before .before .before .before .before .before .before .before .before .before .before .before .before .before .before .before .before .before .fit-decimal .ensures) (c .before .before .before .before .before .before .before .before .before .before .before .before .before .before .fit-flag .ensures) (c .before .before .before .before .before .before .before .before .before .before .fit-optional .ensures) (c .before .before .before .before .before .before .fit-optional2 .ensures) (put-fits (c .before .before .fit-optional3 .ensures) (fifth-room u (c .before .before .before .before .before .before .before .before .before .before .before .before .before .before .before .before .before .before .before .before .before .pre) (c .before .before .before .before .before .before .before .before .before .before .before .before .before .before .before .before .before .before .fit-decimal .ensures) (c .before .before .before .before .before .before .before .before .before .before .before .before .before .before .fit-flag .ensures) (c .before .before .before .before .before .before .before .before .before .before .fit-optional .ensures) (c .before .before .before .before .before .before .fit-optional2 .ensures)))
 
 pub put-settings-spec : {M : Type 1} → statement M
 put-settings-spec =
     tie.close
     (tie.spec
-    cast-fit-decimal
     fit-decimal-requires
     fit-flag-requires
     fit-optional-requires
