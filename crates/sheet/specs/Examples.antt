@@ -35,25 +35,30 @@ second = text "4010000000000000 - 3F800000 00 - -\n"
 abbrev block : List ℕ
 block = blockNames ++ text "3FF0000000000000 4008000000000000\n"
 
--- (0, 0) and (4, 1), Linear
+-- a point by the bits of its time and value, Linear
 abbrev linear : ℕ → ℕ → AutomationPoint
 linear time value = record { time = ofBits binary64 time; «sample_position» = position.None; value = ofBits binary32 value; curve = Linear }
 
-abbrev envelope : AutomationEnvelope
-envelope = record {
+-- the settings of line 2, with these points
+abbrev withPoints : List AutomationPoint → AutomationEnvelope
+withPoints ps = record {
   target = 0;
-  points = holding (linear 0 0 ∷ linear 0x4010_0000_0000_0000 0x3F80_0000 ∷ []);
+  points = holding ps;
   enabled = true;
   «min_value» = limit.None;
   «max_value» = limit.None;
   «step_size» = limit.None;
 }
 
+-- (0, 0) and (4, 1)
+abbrev envelope : AutomationEnvelope
+envelope = withPoints (linear 0 0 ∷ linear 0x4010_0000_0000_0000 0x3F80_0000 ∷ [])
+
 pub example-read : readSheet (head ++ first ++ second) ≡ sheet envelope
 unfolding startsWith nextIs readDigits numberForm optionalForm decimals nextDigit targetForm settingsForm limitOf finiteBits settingsMeaning settingsLine controlsForm pointForm positionOf pointMeaning pointLine isEmpty pointsEnd pointLines sheetLines readSheet finite ofBits toBits orderKey risingBy curveOf
 example-read = refl
 
--- a second at rate 1, for 3 seconds
+-- one sample a second, for 3 seconds
 pub example-input : playInput (head ++ first ++ second ++ block) ≡ input envelope (record { rate = ofBits binary64 0x3FF0_0000_0000_0000; duration = ofBits binary64 0x4008_0000_0000_0000 })
 unfolding startsWith nextIs readDigits numberForm optionalForm decimals nextDigit targetForm settingsForm limitOf finiteBits settingsMeaning settingsLine controlsForm pointForm positionOf pointMeaning pointLine blockForm blockMeaning blockLine isEmpty pointsEnd pointLines sheetLines playInput finite ofBits toBits orderKey risingBy curveOf
 example-input = refl
@@ -62,7 +67,7 @@ pub example-written : sheetText envelope ≡ head ++ first ++ second
 unfolding digitByte digitsOf optionalText placesOf settingsText pointText rawSettings rawPoint pointTexts sheetText ofBits toBits code controls
 example-written = refl
 
--- ---- refusals, each with its number and its line
+-- ---- other sheets: most are refused, each with its number and its line
 
 abbrev settings : String → List ℕ
 settings line = settingNames ++ text line
@@ -84,8 +89,12 @@ cases =
     ∷ (settings "4294967296 1 - - -\n", refusal 9 2)
     ∷ (settings "4294967295 2 - - -\n", refusal 9 2)
     ∷ (settings "4294967295 1 FF800000 - -\n", refusal 3 2)
+    -- an infinite minimum, and a step of one digit: the form comes first
+    ∷ (settings "0 1 7F800000 - 0\n", refusal 9 2)
     -- no names of the points
     ∷ (settings "0 0 - - -\n", refusal 9 3)
+    -- no points at all
+    ∷ (head, sheet (withPoints []))
     -- a lower-case digit, two spaces, a line without its 0A
     ∷ (point "0000000000000000 - 3f800000 00 - -\n", refusal 9 4)
     ∷ (point "0000000000000000  - 3F800000 00 - -\n", refusal 9 4)
@@ -95,13 +104,19 @@ cases =
     ∷ (point "0000000000000000 - 3F800000 22 - -\n", refusal 2 4)
     ∷ (point "0000000000000000 - 3F800000 06 00000000 00000000\n", refusal 9 4)
     ∷ (point "0000000000000000 - 3F800000 05 - -\n", refusal 9 4)
-    -- an infinite time stands left of the curve, the curve left of the controls; the form comes first
+    -- an infinite time stands left of the curve; a control that is no number; the form comes first
     ∷ (point "7FF0000000000000 - 3F800000 06 - -\n", refusal 3 4)
     ∷ (point "0000000000000000 - 3F800000 05 00000000 7FC00000\n", refusal 3 4)
     ∷ (point "7FF0000000000000 - 3F800000 00 - 0\n", refusal 9 4)
     -- the same time again, and −0.0 after 0.0
     ∷ (times "0000000000000000" "0000000000000000", refusal 6 5)
     ∷ (times "0000000000000000" "8000000000000000", refusal 6 5)
+    -- 9, 3 and 2 on a line whose time falls come before 6
+    ∷ (head ++ second ++ text "0000000000000000 - 3f800000 00 - -\n", refusal 9 5)
+    ∷ (head ++ second ++ text "0000000000000000 - 7F800000 00 - -\n", refusal 3 5)
+    ∷ (head ++ second ++ text "0000000000000000 - 3F800000 06 - -\n", refusal 2 5)
+    -- "line by line": 3 on line 4, 9 on line 5
+    ∷ (point "7FF0000000000000 - 3F800000 00 - -\n" ++ text "\n", refusal 3 4)
     -- an empty line at the end
     ∷ (head ++ first ++ second ++ text "\n", refusal 9 6)
     ∷ []
@@ -112,11 +127,12 @@ cases-hold = refl
 
 abbrev inputs : List (List ℕ × Input)
 inputs =
-    -- no block, a block whose names have a carriage return, no numbers, a rate that is no number, a line too many
+    -- no block, a block whose names have a carriage return, no numbers, a rate that is no number, the form before that, a line too many
     (head ++ first ++ second, declined 9 6)
     ∷ (head ++ first ++ second ++ text "rate duration\r\n", declined 9 6)
     ∷ (head ++ first ++ second ++ blockNames, declined 9 7)
     ∷ (head ++ first ++ second ++ blockNames ++ text "7FF8000000000000 4008000000000000\n", declined 3 7)
+    ∷ (head ++ first ++ second ++ blockNames ++ text "7FF8000000000000 400800000000000\n", declined 9 7)
     ∷ (head ++ first ++ second ++ block ++ text "\n", declined 9 8)
     ∷ []
 
