@@ -9,6 +9,7 @@ use lib.Dec.{ltb, eqb}
 use Rattle.fields.specs.declared.Optional.{Optional}
 use Rattle.fields.specs.declared.Optional.the-variants as optional
 
+-- the line breaks the sheet's form, or the value that stands in front and the bytes after it
 pub data Got (A : Type 0) : Type 0 where
   bad : Got A
   got : A → List ℕ → Got A

@@ -28,6 +28,7 @@ pub data Line (A : Type 0) : Type 0 where
   refused : ℕ → Line A
   line : A → List ℕ → Line A
 
+-- a line whose numbers mean this: the refusal, or what it says, with the bytes after it
 abbrev pub meant : {A : Type 0} → List ℕ → Said A → Line A
 meant rest (refuses n) = refused n
 meant rest (gives a) = line a rest
@@ -59,10 +60,12 @@ unfoldable pub limitOf : Optional → Limit
 limitOf optional.None = limit.None
 limitOf (optional.Bits b) = limit.Number (ofBits binary32 b)
 
+-- an f32 by its bits is finite; none is, too
 unfoldable pub finiteBits : Optional → Bool
 finiteBits optional.None = true
 finiteBits (optional.Bits b) = finite (ofBits binary32 b)
 
+-- 3 for the minimum, the maximum and the step, from the left
 unfoldable pub settingsMeaning : RawSettings → Said Settings
 settingsMeaning r =
     check (finiteBits (r .min)) 3
@@ -70,6 +73,7 @@ settingsMeaning r =
     (check (finiteBits (r .step)) 3
     (gives (record { target = r .target; enabled = eqb (r .enabled) 1; min = limitOf (r .min); max = limitOf (r .max); step = limitOf (r .step) }))))
 
+-- the settings line: 9 for its form, then 3
 unfoldable pub settingsLine : List ℕ → Line Settings
 settingsLine l = lineOf settingsMeaning (settingsForm l)
 
@@ -79,6 +83,7 @@ settingsLine l = lineOf settingsMeaning (settingsForm l)
 abbrev pub dashes : List ℕ
 dashes = text "- -\n"
 
+-- the last two fields of a point's line, with the 0A; 0 and 0 where they are dashes
 unfoldable pub controlsForm : ℕ → List ℕ → Got (ℕ × ℕ)
 controlsForm code l =
     cond (eqb code 5)
@@ -95,6 +100,7 @@ pointForm l =
     then (controlsForm curve l4) (λ controls l5.
     got (record { time = time; position = position; value = value; curve = curve; cp1 = controls .0; cp2 = controls .1 }) l5)))))
 
+-- a sample position, or none
 unfoldable pub positionOf : Optional → SamplePosition
 positionOf optional.None = position.None
 positionOf (optional.Bits n) = position.At n
@@ -113,22 +119,26 @@ pointMeaning r =
     (check (finite cp2) 3
     (gives (record { time = time; «sample_position» = positionOf (r .position); value = value; curve = curveOf (r .curve) cp1 cp2 }))))))
 
+-- a point's line: 9 for its form, then 3 and 2
 unfoldable pub pointLine : List ℕ → Line AutomationPoint
 pointLine l = lineOf pointMeaning (pointForm l)
 
 -- ---- "rate duration"
 
+-- the rate and the duration, "16 digits f64"
 unfoldable pub blockForm : List ℕ → Got RawBlock
 blockForm l =
     then (numberForm 16 16 space l) (λ rate l1.
     then (numberForm 16 16 newline l1) (λ duration l2.
     got (record { rate = rate; duration = duration }) l2))
 
+-- 3 for the rate, then for the duration
 unfoldable pub blockMeaning : RawBlock → Said Block
 blockMeaning r =
     let rate = ofBits binary64 (r .rate) in
     let duration = ofBits binary64 (r .duration) in
     check (finite rate) 3 (check (finite duration) 3 (gives (record { rate = rate; duration = duration })))
 
+-- the line of rate and duration: 9 for its form, then 3
 unfoldable pub blockLine : List ℕ → Line Block
 blockLine l = lineOf blockMeaning (blockForm l)

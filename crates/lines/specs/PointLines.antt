@@ -14,14 +14,16 @@ pub data Lines (A : Type 0) : Type 0 where
   stop : ℕ → ℕ → Lines A
   lines : A → List ℕ → Lines A
 
--- line k, then the next ones
+-- a refusal of line k with its number, or the lines after it
 abbrev pub onward : {A B : Type 0} → ℕ → Line A → (A → List ℕ → Lines B) → Lines B
 onward k (refused n) next = stop n k
 onward k (line a rest) next = next a rest
 
+-- the names line above rate and duration
 abbrev pub blockNames : List ℕ
 blockNames = text "rate duration\n"
 
+-- no bytes are left
 unfoldable pub isEmpty : List ℕ → Bool
 isEmpty [] = true
 isEmpty (b ∷ l) = false

@@ -47,66 +47,81 @@ use Rattle.lines.specs.declared.block.BlockLine.the-variants as blockLin
 
 -- ---- forms
 
+-- a number of up to 64 bits
 unfoldable pub toldNumber : List ℕ → Number → Got ℕ
 toldNumber s number.Bad = bad
 toldNumber s (number.Is v next) = got v (drop next s)
 
+-- a number of 32 bits
 unfoldable pub toldSingle : List ℕ → Single → Got ℕ
 toldSingle s single.Bad = bad
 toldSingle s (single.Is v next) = got v (drop next s)
 
+-- a number or none
 unfoldable pub toldOptional : List ℕ → OptionalAt → Got Optional
 toldOptional s optionalAt.Bad = bad
 toldOptional s (optionalAt.Is v next) = got v (drop next s)
 
+-- the two controls
 unfoldable pub toldControls : List ℕ → ControlsAt → Got (ℕ × ℕ)
 toldControls s controlsAt.Bad = bad
 toldControls s (controlsAt.Is cp1 cp2 next) = got (cp1, cp2) (drop next s)
 
+-- a point line's numbers
 unfoldable pub toldPointForm : List ℕ → PointForm → Got RawPoint
 toldPointForm s pointForm.Bad = bad
 toldPointForm s (pointForm.Is r next) = got r (drop next s)
 
+-- the settings line's numbers
 unfoldable pub toldSettingsForm : List ℕ → SettingsForm → Got RawSettings
 toldSettingsForm s settingsForm.Bad = bad
 toldSettingsForm s (settingsForm.Is r next) = got r (drop next s)
 
+-- the numbers of the line of rate and duration
 unfoldable pub toldBlockForm : List ℕ → BlockForm → Got RawBlock
 toldBlockForm s blockForm.Bad = bad
 toldBlockForm s (blockForm.Is r next) = got r (drop next s)
 
 -- ---- meanings and lines
 
+-- the point that the numbers stand for, or 3 or 2
 unfoldable pub toldPoint : PointSaid → Said AutomationPoint
 toldPoint (pointSaid.Refused r) = refuses (number r)
 toldPoint (pointSaid.Is p) = gives p
 
+-- a point's line
 unfoldable pub toldPointLine : List ℕ → PointLine → Line AutomationPoint
 toldPointLine s (pointLine.Refused r) = refused (number r)
 toldPointLine s (pointLine.Is p next) = line p (drop next s)
 
+-- the settings that the numbers stand for, or 3
 unfoldable pub toldSettings : SettingsSaid → Said Settings
 toldSettings (settingsSaid.Refused r) = refuses (number r)
 toldSettings (settingsSaid.Is e) = gives e
 
+-- the rate and the duration that the numbers stand for, or 3
 unfoldable pub toldBlock : BlockSaid → Said Block
 toldBlock (blockSaid.Refused r) = refuses (number r)
 toldBlock (blockSaid.Is b) = gives b
 
+-- the settings line
 unfoldable pub toldSettingsLine : List ℕ → SettingsLine → Line Settings
 toldSettingsLine s (settingsLine.Refused r) = refused (number r)
 toldSettingsLine s (settingsLine.Is e next) = line e (drop next s)
 
+-- the line of rate and duration
 unfoldable pub toldBlockLine : List ℕ → BlockLine → Line Block
 toldBlockLine s (blockLine.Refused r) = refused (number r)
 toldBlockLine s (blockLine.Is b next) = line b (drop next s)
 
 -- ---- a refusal with its line, or what stands beside the answer
 
+-- lines whose answer is this: line k where it refuses, else what they say and the bytes after them
 abbrev pub linesBy : {A : Type 0} → Answer → ℕ → A → List ℕ → Lines A
 linesBy Accepted k a rest = lines a rest
 linesBy (Refused r) k a rest = stop (number r) k
 
+-- the point lines
 unfoldable pub toldPointLines : List ℕ → PointLines → Lines Points
 toldPointLines s r = linesBy (r .answer) (r .line) (r .points) (drop (r .next) s)
 

@@ -11,7 +11,7 @@ use Rattle.lines.specs.PointLines.{Lines, stop, lines, onward, blockNames, isEm
 use Rattle.lines.specs.declared.settings.Settings.{Settings}
 use Rattle.lines.specs.declared.block.Block.{Block}
 
--- line k is the names that stand here, then the next ones
+-- line k has to be these names, else 9; then the lines after it
 abbrev pub named : {B : Type 0} → ℕ → List ℕ → List ℕ → (List ℕ → Lines B) → Lines B
 named k names l next = cond (startsWith names l) (next (drop (length names) l)) (stop 9 k)
 
@@ -25,6 +25,7 @@ pointNames = text "time position value curve cp1 cp2\n"
 
 -- ---- a sheet's lines, up to where the points end
 
+-- the envelope with these settings and points
 abbrev pub envelopeOf : Settings → Points → AutomationEnvelope
 envelopeOf s ps = record { target = s .target; points = ps; enabled = s .enabled; «min_value» = s .min; «max_value» = s .max; «step_size» = s .step }
 

@@ -26,6 +26,7 @@ use Rattle.lines.specs.declared.point.RawPoint.{RawPoint}
 
 -- ---- lines
 
+-- the settings line
 unfoldable pub settingsText : RawSettings → List ℕ
 unfolding digitsOf placesOf optionalText
 settingsText r =
@@ -45,6 +46,7 @@ pointText r =
 
 -- ---- "Numbers are bits"
 
+-- a limit's bits, or none
 abbrev pub limitBits : Limit → Optional
 limitBits limit.None = optional.None
 limitBits (limit.Number x) = optional.Bits (toBits binary32 x)
@@ -77,6 +79,7 @@ rawPoint p = record {
 
 -- ---- the whole sheet
 
+-- the lines of the points, one after the other
 unfoldable pub pointTexts : List AutomationPoint → List ℕ
 unfolding rawPoint pointText
 pointTexts [] = []
