@@ -16,7 +16,7 @@ use Rattle.fields.proofs.Places.{places-le}
 use Rattle.fields.proofs.Stores.{put-all}
 use Rattle.play.specs.Play.{sampleLine, sampleLines, refusalNames, refusalText}
 use Rattle.play.specs.Blocks.{firstText, firstPlay, Opens}
-use Rattle.play.specs.Output.{lines-append}
+use Rattle.play.specs.OutputLaws.{lines-append}
 use Rattle.play.specs.declared.Opened.{Opened}
 
 -- ---- lengths
