@@ -6,11 +6,9 @@ use Rattle.lent.proofs.merge_start.Reads as reads
 use Rattle.lent.proofs.merge_start.Lts as lts
 use Rattle.points.proofs.list.none.Reads as none-reads
 
--- src/lib.rt:37:9
 none-requires : tie.Need-none-requires
 none-requires c κs = search needs
 
--- src/lib.rt:34:1
 returns : tie.Need-returns
 unfolding mergeStart
 returns c = cc

@@ -14,40 +14,31 @@ use Rattle.envelope.proofs.AutomationEnvelope.render.Reads as render-reads
 use Rattle.play.proofs.block_count.Reads as block-count-reads
 use Rattle.play.proofs.text.put_lines.Reads as put-lines-reads
 
--- src/lib.rt:101:9
 block-count-requires : tie.Need-block-count-requires
 block-count-requires c κs = search needs
 
--- src/lib.rt:103:47
 slice-aggregate-render : tie.Need-slice-aggregate-render
 slice-aggregate-render c = search needs
 
--- src/lib.rt:103:11
 render-requires : tie.Need-render-requires
 render-requires c κs = search needs
 
--- src/lib.rt:104:25
 enum-known-why : tie.Need-enum-known-why
 enum-known-why c = search needs
 
--- src/lib.rt:109:41
 enum-told : tie.Need-enum-told
 enum-told c = search needs
 
--- src/lib.rt:109:17
 put-lines-requires : tie.Need-put-lines-requires
 put-lines-requires c κs = block-room (c .before .before .before .before .before .before .before .before .before .args .play) (c .before .before .before .before .before .before .before .block-count .result) (c .before .before .before .before .before .before .before .block-count .ensures) (replicate 1024 (ofBits binary32 0)) (omega (arith, length-replicate 1024 (ofBits binary32 0))) (sym (c .before .before .before .before .before .render .ensures .0) ∙ ap said (c .before .before .enum-told .given .1)) (c .before .before .before .before .before .render .ensures .1) (c .before .before .before .before .before .before .before .before .before .args .out .now) (search needs)
 
--- src/lib.rt:116:27
 add-t19 : tie.Need-add-t19
 add-t19 c = search needs
 
--- src/lib.rt:94:1
 returns : tie.Need-returns
 unfolding toldWritten
 returns c = block-refused (c .before .before .before .before .before .before .before .before .args .play) (c .before .before .before .before .before .before .block-count .result) (c .before .before .before .before .before .before .block-count .ensures) (replicate 1024 (ofBits binary32 0)) (omega (arith, length-replicate 1024 (ofBits binary32 0))) (number (c .before .why .given .0 .0)) (c .before .before .before .before .before .before .before .before .args .out .now) (sym (c .before .before .before .before .render .ensures .0) ∙ ap said (c .before .why .given .1))
 
--- src/lib.rt:94:1
 returns-2 : tie.Need-returns-2
 unfolding toldWritten
 returns-2 c = block-made (c .before .before .before .before .before .before .before .before .before .before .args .play) (c .before .before .before .before .before .before .before .before .block-count .result) (c .before .before .before .before .before .before .before .before .block-count .ensures) (replicate 1024 (ofBits binary32 0)) (omega (arith, length-replicate 1024 (ofBits binary32 0))) (sym (c .before .before .before .before .before .before .render .ensures .0) ∙ ap said (c .before .before .before .enum-told .given .1)) (c .before .before .before .before .before .before .render .ensures .1) (search needs) (c .put-lines .ensures)

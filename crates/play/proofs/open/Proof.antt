@@ -9,47 +9,36 @@ use Rattle.play.proofs.refused.Reads as refused-reads
 use Rattle.sheet.proofs.play.read_play.Reads as read-play-reads
 use Rattle.fields.proofs.write.fit_text.Reads as fit-text-reads
 
--- src/lib.rt:56:9
 read-play-requires : tie.Need-read-play-requires
 read-play-requires c κs = search needs
 
--- src/lib.rt:59:30
 enum-known-answer : tie.Need-enum-known-answer
 enum-known-answer c = search needs
 
--- src/lib.rt:59:44
 refused-requires : tie.Need-refused-requires
 refused-requires c κs = search needs
 
--- src/lib.rt:61:54
 enum-told : tie.Need-enum-told
 enum-told c = search needs
 
--- src/lib.rt:61:17
 f64-to-u64-requires : tie.Need-f64-to-u64-requires
 f64-to-u64-requires c κs = search needs
 
--- src/lib.rt:63:17
 refused-requires-2 : tie.Need-refused-requires-2
 refused-requires-2 c κs = search needs
 
--- src/lib.rt:63:17
 returns : tie.Need-returns
 returns c = many-opens (c .before .before .before .before .before .before .before .before .before .args .s .now) (c .before .before .before .before .before .before .before .read-play .result) (c .before .before .before .before .before .before .before .read-play .ensures .0) (c .before .before .before .before .before .enum-told .given .1) (c .before .before .before .f64-to-u64 .result) (c .before .before .before .f64-to-u64 .ensures) (c .before .before .if1 .taken) (c .refused2 .ensures)
 
--- src/lib.rt:66:56
 slice-aggregate-fit-text : tie.Need-slice-aggregate-fit-text
 slice-aggregate-fit-text c = search needs
 
--- src/lib.rt:66:17
 fit-text-requires : tie.Need-fit-text-requires
 fit-text-requires c κs = search needs
 
--- src/lib.rt:53:1
 returns-2 : tie.Need-returns-2
 returns-2 c = refused-is (c .before .before .before .before .before .before .before .args .s .now) (c .before .before .before .before .before .read-play .result) (c .before .before .before .before .before .read-play .ensures .0) (c .before .before .before .answer .given .1) (c .refused .ensures)
 
--- src/lib.rt:53:1
 returns-3 : tie.Need-returns-3
 returns-3 c = few-opens (c .before .before .before .before .before .before .before .before .before .before .before .args .s .now) (c .before .before .before .before .before .before .before .before .before .read-play .result) (c .before .before .before .before .before .before .before .before .before .read-play .ensures .0) (c .before .before .before .before .before .before .before .enum-told .given .1) (c .before .before .before .before .before .f64-to-u64 .result) (c .before .before .before .before .before .f64-to-u64 .ensures) (c .before .before .before .before .if1 .left) (c .fit-text .ensures) (search needs)
 

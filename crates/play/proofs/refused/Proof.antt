@@ -8,15 +8,12 @@ use Rattle.play.proofs.refused.Lts as lts
 use Rattle.envelope.proofs.AutomationEnvelope.new.Reads as new-reads
 use Rattle.play.proofs.text.put_refusal.Reads as put-refusal-reads
 
--- src/lib.rt:39:9
 put-refusal-requires : tie.Need-put-refusal-requires
 put-refusal-requires c κs = search needs
 
--- src/lib.rt:40:9
 new-requires : tie.Need-new-requires
 new-requires c κs = search needs
 
--- src/lib.rt:36:1
 returns : tie.Need-returns
 returns c = refused-opens (number (c .before .before .before .args .why)) (c .before .before .before .args .line) (c .new .ensures) (c .before .put-refusal .ensures) (search needs)
 

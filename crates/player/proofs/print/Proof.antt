@@ -7,23 +7,18 @@ use Rattle.player.proofs.print.Reads as reads
 use Rattle.player.proofs.print.Lts as lts
 use Rattle.io.proofs.write_all.Reads as write-all-reads
 
--- src/main.rt:27:34
 slice-reshare-prefix-write-all : tie.Need-slice-reshare-prefix-write-all
 slice-reshare-prefix-write-all c = search needs
 
--- src/main.rt:27:34
 slice-aggregate-write-all : tie.Need-slice-aggregate-write-all
 slice-aggregate-write-all c = sym (length-take-le (c .before .before .args .n) (c .before .before .args .out .now) (c .before .before .pre))
 
--- src/main.rt:27:5
 write-all-requires : tie.Need-write-all-requires
 write-all-requires c κs = search needs
 
--- src/main.rt:24:1
 same-length : tie.Need-same-length
 same-length c = search needs
 
--- src/main.rt:24:1
 returns : tie.Need-returns
 returns c = search needs
 

@@ -11,28 +11,22 @@ use Rattle.player.proofs.print_block.Lts as lts
 use Rattle.play.proofs.next_block.Reads as next-block-reads
 use Rattle.player.proofs.print.Reads as print-reads
 
--- src/main.rt:34:9
 next-block-requires : tie.Need-next-block-requires
 next-block-requires c κs = search needs
 
--- src/main.rt:38:32
 enum-told : tie.Need-enum-told
 enum-told c = search needs
 
--- src/main.rt:42:24
 enum-known-written : tie.Need-enum-known-written
 enum-known-written c = search needs
 
--- src/main.rt:43:17
 print-requires : tie.Need-print-requires
 unfolding toldWritten
 print-requires c κs = omega (arith, moved (c .before .before .before .before .before .before .before .args .play) (c .before .before .before .before .before .before .before .args .out .now) (c .before .before .written .given .0 .0) (sym (ap toldWritten (c .before .before .written .given .1)) ∙ c .before .before .before .before .before .next-block .ensures .0) .0)
 
--- src/main.rt:31:1
 returns : tie.Need-returns
 returns c = λ q h. let z : _≡_ {A = ℕ} 0 1 = cc in absurd (omega arith)
 
--- src/main.rt:31:1
 returns-2 : tie.Need-returns-2
 unfolding toldWritten
 returns-2 c = λ q h. moves-on (c .before .before .before .before .before .before .before .before .args .play) (c .before .before .before .before .before .before .before .before .args .out .now) (c .before .before .before .written .given .0 .0) (c .before .before .before .before .before .before .next-block .result .play) (sym (ap toldWritten (c .before .before .before .written .given .1)) ∙ c .before .before .before .before .before .before .next-block .ensures .0) (c .before .before .before .before .before .before .next-block .ensures .1 .0) h

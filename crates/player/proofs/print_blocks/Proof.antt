@@ -14,27 +14,21 @@ Inv-loop out₀ left₀ out left = Unit {0}
 abbrev μ-loop : tie.MeasureT-loop
 μ-loop out₀ left₀ out left = left .count - left .next
 
--- src/main.rt:52:5
 loop-holds : tie.Need-loop-holds Inv-loop μ-loop
 loop-holds c = tt
 
--- src/main.rt:53:13
 print-block-requires : tie.Need-print-block-requires Inv-loop μ-loop
 print-block-requires c κs = search needs
 
--- src/main.rt:55:13
 returns : tie.Need-returns Inv-loop μ-loop
 returns c = search needs
 
--- src/main.rt:52:5
 loop-less : tie.Need-loop-less Inv-loop μ-loop
 loop-less c = let m = c .before .before .before .print-block .ensures (not-false _ (c .before .if2 .left)) (c .before .before .before .before .before .if1 .taken) in omega (arith, m .0, m .1)
 
--- src/main.rt:52:5
 loop-again : tie.Need-loop-again Inv-loop μ-loop
 loop-again c = tt
 
--- src/main.rt:50:1
 returns-2 : tie.Need-returns-2 Inv-loop μ-loop
 returns-2 c = search needs
 

@@ -11,23 +11,18 @@ use Rattle.play.proofs.open.Reads as open-reads
 use Rattle.player.proofs.print.Reads as print-reads
 use Rattle.player.proofs.print_blocks.Reads as print-blocks-reads
 
--- src/main.rt:64:9
 open-requires : tie.Need-open-requires
 open-requires c κs = search needs
 
--- src/main.rt:66:8
 print-requires : tie.Need-print-requires
 print-requires c κs = omega (arith, c .before .before .«open» .ensures .bytes, first-length (counted (playInput (c .before .before .before .before .before .args .s .now))))
 
--- src/main.rt:67:9
 print-blocks-requires : tie.Need-print-blocks-requires
 print-blocks-requires c κs = search needs
 
--- src/main.rt:63:1
 returns : tie.Need-returns
 returns c = search needs
 
--- src/main.rt:63:1
 returns-2 : tie.Need-returns-2
 returns-2 c = search needs
 

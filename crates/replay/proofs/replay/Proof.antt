@@ -22,23 +22,18 @@ Inv-loop target kinds xs ys codes₀ memory₀ n session₀ i₀ codes memory se
 abbrev μ-loop : tie.MeasureT-loop
 μ-loop target kinds xs ys codes₀ memory₀ n session₀ i₀ codes memory session i = n - i
 
--- src/lib.rt:112:21
 shorter-requires : tie.Need-shorter-requires Inv-loop μ-loop
 shorter-requires c κs = search needs
 
--- src/lib.rt:112:53
 shorter-requires-2 : tie.Need-shorter-requires-2 Inv-loop μ-loop
 shorter-requires-2 c κs = search needs
 
--- src/lib.rt:112:9
 shorter-requires-3 : tie.Need-shorter-requires-3 Inv-loop μ-loop
 shorter-requires-3 c κs = search needs
 
--- src/lib.rt:113:9
 open-requires : tie.Need-open-requires Inv-loop μ-loop
 open-requires c κs = search needs
 
--- src/lib.rt:115:5
 loop-holds : tie.Need-loop-holds Inv-loop μ-loop
 loop-holds c =
     let a = c .before .before .before .before .before .before .before .before .before .before .args in (
@@ -49,51 +44,39 @@ loop-holds c =
       begun (a .target) (now (a .memory)) (now (a .kinds)) (now (a .xs)) (now (a .ys)) (now (a .codes)) _ (c .«open» .ensures),
     )
 
--- src/lib.rt:116:31
 shared-slice-read-call : tie.Need-shared-slice-read-call Inv-loop μ-loop
 shared-slice-read-call c = search needs
 
--- src/lib.rt:116:41
 mul-call : tie.Need-mul-call Inv-loop μ-loop
 mul-call c = search needs
 
--- src/lib.rt:116:41
 shared-slice-read-call-2 : tie.Need-shared-slice-read-call-2 Inv-loop μ-loop
 shared-slice-read-call-2 c = search needs
 
--- src/lib.rt:116:48
 mul-call-2 : tie.Need-mul-call-2 Inv-loop μ-loop
 mul-call-2 c = search needs
 
--- src/lib.rt:116:48
 shared-slice-read-call-3 : tie.Need-shared-slice-read-call-3 Inv-loop μ-loop
 shared-slice-read-call-3 c = search needs
 
--- src/lib.rt:116:13
 call-requires : tie.Need-call-requires Inv-loop μ-loop
 call-requires c κs = search needs
 
--- src/lib.rt:118:20
 code-requires : tie.Need-code-requires Inv-loop μ-loop
 code-requires c κs = search needs
 
--- src/lib.rt:118:9
 mul-codes : tie.Need-mul-codes Inv-loop μ-loop
 mul-codes c = omega (arith, c .before .before .before .before .before .before .before .before .before .before .before .before .before .before .before .before .before .before .before .before .good, c .before .before .before .before .before .before .before .before .loop-test .taken, c .before .before .before .before .before .before .before .before .before .loop .inv .1)
 
--- src/lib.rt:118:9
 slice-write-codes : tie.Need-slice-write-codes Inv-loop μ-loop
 slice-write-codes c = search needs
 
--- src/lib.rt:121:9
 add-i : tie.Need-add-i Inv-loop μ-loop
 add-i c = search needs
 
--- src/lib.rt:115:5
 loop-less : tie.Need-loop-less Inv-loop μ-loop
 loop-less c = search needs
 
--- src/lib.rt:115:5
 loop-again : tie.Need-loop-again Inv-loop μ-loop
 loop-again c =
     let a = c .before .before .before .before .before .before .before .before .before .before .before .before .before .before .before .before .before .before .before .before .before .args in
@@ -108,15 +91,12 @@ loop-again c =
           (c .before .before .before .before .call .ensures .0) (c .before .before .before .before .call .ensures .1) (c .before .code .ensures),
     )
 
--- src/lib.rt:101:1
 same-length : tie.Need-same-length Inv-loop μ-loop
 same-length c = search needs
 
--- src/lib.rt:101:1
 same-length-2 : tie.Need-same-length-2 Inv-loop μ-loop
 same-length-2 c = search needs
 
--- src/lib.rt:101:1
 returns : tie.Need-returns Inv-loop μ-loop
 returns c =
     let a = c .before .before .before .before .before .before .before .before .before .before .before .before .args in

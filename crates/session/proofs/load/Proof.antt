@@ -12,35 +12,27 @@ use Rattle.session.proofs.load.Reads as reads
 use Rattle.session.proofs.load.Lts as lts
 use Rattle.state.proofs.read.read_state.Reads as read-state-reads
 
--- src/lib.rt:52:16
 mul-from : tie.Need-mul-from
 mul-from c = search needs
 
--- src/lib.rt:53:14
 add-to : tie.Need-add-to
 add-to c = search needs
 
--- src/lib.rt:54:29
 mul-read-state : tie.Need-mul-read-state
 mul-read-state c = search needs
 
--- src/lib.rt:54:29
 sub-read-state : tie.Need-sub-read-state
 sub-read-state c = search needs
 
--- src/lib.rt:54:29
 part-read-state-start : tie.Need-part-read-state-start
 part-read-state-start c = search needs
 
--- src/lib.rt:54:29
 part-read-state-end : tie.Need-part-read-state-end
 part-read-state-end c = search needs
 
--- src/lib.rt:54:5
 read-state-requires : tie.Need-read-state-requires
 read-state-requires c κs = search needs
 
--- src/lib.rt:48:1
 returns : tie.Need-returns
 unfolding stateAt
 returns c =

@@ -4,11 +4,9 @@ use Rattle.session.proofs.place_below.Tie as tie
 use Rattle.session.proofs.place_below.Reads as reads
 use Rattle.session.proofs.place_below.Lts as lts
 
--- src/lib.rt:77:1
 returns : tie.Need-returns
 returns c = rw (eq-eqb (c .before .args .depth) 0 (c .if1 .taken))
 
--- src/lib.rt:77:1
 returns-2 : tie.Need-returns-2
 returns-2 c = rw (ne-eqb (c .before .args .depth) 0 (c .if1 .left))
 

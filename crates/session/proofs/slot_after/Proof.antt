@@ -5,19 +5,15 @@ use Rattle.session.proofs.slot_after.Tie as tie
 use Rattle.session.proofs.slot_after.Reads as reads
 use Rattle.session.proofs.slot_after.Lts as lts
 
--- src/lib.rt:61:12
 sub-if1 : tie.Need-sub-if1
 sub-if1 c = search needs
 
--- src/lib.rt:61:25
 add-result : tie.Need-add-result
 add-result c = search needs
 
--- src/lib.rt:57:1
 returns : tie.Need-returns
 returns c = after-yes (c .before .args .depth) (c .before .args .at) (c .if1 .taken)
 
--- src/lib.rt:57:1
 returns-2 : tie.Need-returns-2
 returns-2 c = after-no (c .before .args .depth) (c .before .args .at) (c .before .pre) (c .if1 .left)
 

@@ -5,19 +5,15 @@ use Rattle.session.proofs.slot_before.Tie as tie
 use Rattle.session.proofs.slot_before.Reads as reads
 use Rattle.session.proofs.slot_before.Lts as lts
 
--- src/lib.rt:68:18
 sub-result : tie.Need-sub-result
 sub-result c = search needs
 
--- src/lib.rt:68:37
 sub-result-2 : tie.Need-sub-result-2
 sub-result-2 c = search needs
 
--- src/lib.rt:64:1
 returns : tie.Need-returns
 returns c = before-zero (c .before .args .depth) (c .before .args .at) (c .if1 .taken)
 
--- src/lib.rt:64:1
 returns-2 : tie.Need-returns-2
 returns-2 c = before-some (c .before .args .depth) (c .before .args .at) (c .if1 .left)
 

@@ -15,39 +15,30 @@ use Rattle.session.proofs.store.Reads as reads
 use Rattle.session.proofs.store.Lts as lts
 use Rattle.state.proofs.write.write_state.Reads as write-state-reads
 
--- src/lib.rt:43:16
 mul-from : tie.Need-mul-from
 mul-from c = search needs
 
--- src/lib.rt:44:14
 add-to : tie.Need-add-to
 add-to c = search needs
 
--- src/lib.rt:45:41
 mul-write-state : tie.Need-mul-write-state
 mul-write-state c = search needs
 
--- src/lib.rt:45:41
 sub-write-state : tie.Need-sub-write-state
 sub-write-state c = search needs
 
--- src/lib.rt:45:41
 part-write-state-start : tie.Need-part-write-state-start
 part-write-state-start c = search needs
 
--- src/lib.rt:45:41
 part-write-state-end : tie.Need-part-write-state-end
 part-write-state-end c = search needs
 
--- src/lib.rt:45:5
 write-state-requires : tie.Need-write-state-requires
 write-state-requires c κs = search needs
 
--- src/lib.rt:39:1
 same-length : tie.Need-same-length
 same-length c = search needs
 
--- src/lib.rt:39:1
 returns : tie.Need-returns
 unfolding stored
 returns c =

@@ -49,195 +49,147 @@ Inv-loop times values curve which x y turns out-times out-values e c xf yf p lim
 abbrev μ-loop : tie.MeasureT-loop
 μ-loop times values curve which x y turns out-times out-values e c xf yf p limit other answer₀ last₀ i₀ answer last i = turns - i
 
--- src/bench.rt:22:9
 made-requires : tie.Need-made-requires Inv-loop μ-loop
 made-requires c κs = tt
 
--- src/bench.rt:23:9
 curve-of-requires : tie.Need-curve-of-requires Inv-loop μ-loop
 curve-of-requires c κs = tt
 
--- src/bench.rt:24:9
 f64-to-f32-requires : tie.Need-f64-to-f32-requires Inv-loop μ-loop
 f64-to-f32-requires c κs = tt
 
--- src/bench.rt:25:9
 f64-to-f32-requires-2 : tie.Need-f64-to-f32-requires-2 Inv-loop μ-loop
 f64-to-f32-requires-2 c κs = tt
 
--- src/bench.rt:26:26
 curve-of-requires-2 : tie.Need-curve-of-requires-2 Inv-loop μ-loop
 curve-of-requires-2 c κs = tt
 
--- src/bench.rt:26:9
 point-requires : tie.Need-point-requires Inv-loop μ-loop
 point-requires c κs = tt
 
--- src/bench.rt:28:9
 shift-points-requires : tie.Need-shift-points-requires Inv-loop μ-loop
 shift-points-requires c κs = tt
 
--- src/bench.rt:33:5
 loop-holds : tie.Need-loop-holds Inv-loop μ-loop
 loop-holds c = omega arith
 
--- src/bench.rt:35:18
 add-point-requires : tie.Need-add-point-requires Inv-loop μ-loop
 add-point-requires c κs = tt
 
--- src/bench.rt:36:18
 remove-point-at-requires : tie.Need-remove-point-at-requires Inv-loop μ-loop
 remove-point-at-requires c κs = tt
 
--- src/bench.rt:37:18
 shift-points-requires-2 : tie.Need-shift-points-requires-2 Inv-loop μ-loop
 shift-points-requires-2 c κs = tt
 
--- src/bench.rt:38:18
 scale-time-requires : tie.Need-scale-time-requires Inv-loop μ-loop
 scale-time-requires c κs = tt
 
--- src/bench.rt:39:18
 trim-requires : tie.Need-trim-requires Inv-loop μ-loop
 trim-requires c κs = tt
 
--- src/bench.rt:40:18
 reverse-requires : tie.Need-reverse-requires Inv-loop μ-loop
 reverse-requires c κs = tt
 
--- src/bench.rt:41:18
 invert-values-requires : tie.Need-invert-values-requires Inv-loop μ-loop
 invert-values-requires c κs = tt
 
--- src/bench.rt:42:18
 quantize-time-requires : tie.Need-quantize-time-requires Inv-loop μ-loop
 quantize-time-requires c κs = tt
 
--- src/bench.rt:43:18
 simplify-requires : tie.Need-simplify-requires Inv-loop μ-loop
 simplify-requires c κs = tt
 
--- src/bench.rt:44:18
 normalize-requires : tie.Need-normalize-requires Inv-loop μ-loop
 normalize-requires c κs = tt
 
--- src/bench.rt:45:19
 scale-requires : tie.Need-scale-requires Inv-loop μ-loop
 scale-requires c κs = tt
 
--- src/bench.rt:46:19
 offset-requires : tie.Need-offset-requires Inv-loop μ-loop
 offset-requires c κs = tt
 
--- src/bench.rt:47:19
 clamp-values-requires : tie.Need-clamp-values-requires Inv-loop μ-loop
 clamp-values-requires c κs = tt
 
--- src/bench.rt:48:19
 apply-fade-in-requires : tie.Need-apply-fade-in-requires Inv-loop μ-loop
 apply-fade-in-requires c κs = tt
 
--- src/bench.rt:49:19
 apply-fade-out-requires : tie.Need-apply-fade-out-requires Inv-loop μ-loop
 apply-fade-out-requires c κs = tt
 
--- src/bench.rt:50:19
 apply-fades-requires : tie.Need-apply-fades-requires Inv-loop μ-loop
 apply-fades-requires c κs = tt
 
--- src/bench.rt:51:19
 apply-gate-requires : tie.Need-apply-gate-requires Inv-loop μ-loop
 apply-gate-requires c κs = tt
 
--- src/bench.rt:52:19
 apply-compression-requires : tie.Need-apply-compression-requires Inv-loop μ-loop
 apply-compression-requires c κs = tt
 
--- src/bench.rt:53:19
 fade-in-requires : tie.Need-fade-in-requires Inv-loop μ-loop
 fade-in-requires c κs = tt
 
--- src/bench.rt:54:19
 fade-out-requires : tie.Need-fade-out-requires Inv-loop μ-loop
 fade-out-requires c κs = tt
 
--- src/bench.rt:55:19
 pulse-requires : tie.Need-pulse-requires Inv-loop μ-loop
 pulse-requires c κs = tt
 
--- src/bench.rt:56:19
 ramp-requires : tie.Need-ramp-requires Inv-loop μ-loop
 ramp-requires c κs = tt
 
--- src/bench.rt:57:19
 set-enabled-requires : tie.Need-set-enabled-requires Inv-loop μ-loop
 set-enabled-requires c κs = tt
 
--- src/bench.rt:58:19
 set-min-requires : tie.Need-set-min-requires Inv-loop μ-loop
 set-min-requires c κs = tt
 
--- src/bench.rt:59:19
 set-max-requires : tie.Need-set-max-requires Inv-loop μ-loop
 set-max-requires c κs = tt
 
--- src/bench.rt:60:19
 set-step-requires : tie.Need-set-step-requires Inv-loop μ-loop
 set-step-requires c κs = tt
 
--- src/bench.rt:61:19
 merge-requires : tie.Need-merge-requires Inv-loop μ-loop
 merge-requires c κs = tt
 
--- src/bench.rt:62:19
 blend-requires : tie.Need-blend-requires Inv-loop μ-loop
 blend-requires c κs = tt
 
--- src/bench.rt:63:19
 add-requires : tie.Need-add-requires Inv-loop μ-loop
 add-requires c κs = tt
 
--- src/bench.rt:64:19
 multiply-requires : tie.Need-multiply-requires Inv-loop μ-loop
 multiply-requires c κs = tt
 
--- src/bench.rt:65:19
 min-requires : tie.Need-min-requires Inv-loop μ-loop
 min-requires c κs = tt
 
--- src/bench.rt:66:19
 max-requires : tie.Need-max-requires Inv-loop μ-loop
 max-requires c κs = tt
 
--- src/bench.rt:67:18
 subtract-requires : tie.Need-subtract-requires Inv-loop μ-loop
 subtract-requires c κs = tt
 
--- src/bench.rt:71:9
 add-i : tie.Need-add-i Inv-loop μ-loop
 add-i c = omega (arith, c .before .before .before .before .before .before .before .before .before .before .before .before .before .before .before .before .fits .turns .fits)
 
--- src/bench.rt:33:5
 loop-less : tie.Need-loop-less Inv-loop μ-loop
 loop-less c = omega arith
 
--- src/bench.rt:33:5
 loop-again : tie.Need-loop-again Inv-loop μ-loop
 loop-again c = omega arith
 
--- src/bench.rt:73:5
 shown-requires : tie.Need-shown-requires Inv-loop μ-loop
 shown-requires c κs = tt
 
--- src/bench.rt:10:1
 same-length : tie.Need-same-length Inv-loop μ-loop
 same-length c = omega arith
 
--- src/bench.rt:10:1
 same-length-2 : tie.Need-same-length-2 Inv-loop μ-loop
 same-length-2 c = omega arith
 
--- src/bench.rt:10:1
 returns : tie.Need-returns Inv-loop μ-loop
 returns c = tt
 

@@ -18,47 +18,36 @@ Inv-loop times values curve turns memory₀ s₀ i₀ memory s i = (i ≤ turns)
 abbrev μ-loop : tie.MeasureT-loop
 μ-loop times values curve turns memory₀ s₀ i₀ memory s i = turns - i
 
--- src/rehearsal.rt:38:25
 made-requires : tie.Need-made-requires Inv-loop μ-loop
 made-requires c κs = tt
 
--- src/rehearsal.rt:38:9
 started-requires : tie.Need-started-requires Inv-loop μ-loop
 started-requires c κs = tt
 
--- src/rehearsal.rt:40:5
 loop-holds : tie.Need-loop-holds Inv-loop μ-loop
 loop-holds c = (omega arith, refl)
 
--- src/rehearsal.rt:41:30
 turn-requires : tie.Need-turn-requires Inv-loop μ-loop
 turn-requires c κs = tt
 
--- src/rehearsal.rt:41:24
 shift-requires : tie.Need-shift-requires Inv-loop μ-loop
 shift-requires c κs = tt
 
--- src/rehearsal.rt:41:13
 edit-requires : tie.Need-edit-requires Inv-loop μ-loop
 edit-requires c κs = tt
 
--- src/rehearsal.rt:43:9
 add-i : tie.Need-add-i Inv-loop μ-loop
 add-i c = omega (arith, c .before .before .before .before .before .before .before .before .before .before .before .before .before .before .fits .turns .fits)
 
--- src/rehearsal.rt:40:5
 loop-less : tie.Need-loop-less Inv-loop μ-loop
 loop-less c = omega arith
 
--- src/rehearsal.rt:40:5
 loop-again : tie.Need-loop-again Inv-loop μ-loop
 loop-again c = (omega arith, c .before .before .before .edit .kept .1 .1 .0 ∙ c .before .before .before .before .before .before .before .before .loop .inv .1)
 
--- src/rehearsal.rt:30:1
 same-length : tie.Need-same-length Inv-loop μ-loop
 same-length c = c .before .loop .inv .1
 
--- src/rehearsal.rt:30:1
 returns : tie.Need-returns Inv-loop μ-loop
 returns c = tt
 

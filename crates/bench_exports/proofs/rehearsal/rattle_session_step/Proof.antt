@@ -19,51 +19,39 @@ Inv-loop times values curve turns memory₀ s₀ i₀ memory s i = (i ≤ turns)
 abbrev μ-loop : tie.MeasureT-loop
 μ-loop times values curve turns memory₀ s₀ i₀ memory s i = turns - i
 
--- src/rehearsal.rt:57:25
 made-requires : tie.Need-made-requires Inv-loop μ-loop
 made-requires c κs = tt
 
--- src/rehearsal.rt:57:9
 started-requires : tie.Need-started-requires Inv-loop μ-loop
 started-requires c κs = tt
 
--- src/rehearsal.rt:58:28
 shift-requires : tie.Need-shift-requires Inv-loop μ-loop
 shift-requires c κs = tt
 
--- src/rehearsal.rt:58:9
 edit-requires : tie.Need-edit-requires Inv-loop μ-loop
 edit-requires c κs = tt
 
--- src/rehearsal.rt:61:5
 loop-holds : tie.Need-loop-holds Inv-loop μ-loop
 loop-holds c = (omega arith, refl)
 
--- src/rehearsal.rt:62:13
 back-requires : tie.Need-back-requires Inv-loop μ-loop
 back-requires c κs = tt
 
--- src/rehearsal.rt:64:13
 forward-requires : tie.Need-forward-requires Inv-loop μ-loop
 forward-requires c κs = tt
 
--- src/rehearsal.rt:66:9
 add-i : tie.Need-add-i Inv-loop μ-loop
 add-i c = omega (arith, c .before .before .before .before .before .before .before .before .before .before .before .before .before .before .before .before .before .before .before .before .before .before .before .fits .turns .fits)
 
--- src/rehearsal.rt:61:5
 loop-less : tie.Need-loop-less Inv-loop μ-loop
 loop-less c = omega arith
 
--- src/rehearsal.rt:61:5
 loop-again : tie.Need-loop-again Inv-loop μ-loop
 loop-again c = (omega arith, c .before .before .before .forward .kept .1 .0 ∙ c .before .before .before .before .before .before .before .before .back .kept .1 .0 ∙ c .before .before .before .before .before .before .before .before .before .before .before .loop .inv .1)
 
--- src/rehearsal.rt:49:1
 same-length : tie.Need-same-length Inv-loop μ-loop
 same-length c = c .before .loop .inv .1 ∙ c .before .before .before .before .before .edit .kept .1 .1 .0
 
--- src/rehearsal.rt:49:1
 returns : tie.Need-returns Inv-loop μ-loop
 returns c = tt
 

@@ -11,28 +11,22 @@ use Rattle.envelope.proofs.AutomationEnvelope.is_valid.Reads as is-vali
 use Rattle.envelope.proofs.AutomationEnvelope.same_settings.Reads as same-settings-reads
 use Rattle.points.proofs.Points.same.Reads as same-reads
 
--- src/lib.rt:104:12
 is-valid-requires : tie.Need-is-valid-requires
 is-valid-requires c κs = search needs
 
--- src/lib.rt:104:30
 is-valid-requires-2 : tie.Need-is-valid-requires-2
 is-valid-requires-2 c κs = search needs
 
--- src/lib.rt:107:26
 same-settings-requires : tie.Need-same-settings-requires
 same-settings-requires c κs = search needs
 
--- src/lib.rt:107:54
 same-requires : tie.Need-same-requires
 same-requires c κs = search needs
 
--- src/lib.rt:101:5
 returns : tie.Need-returns
 unfolding envelopesEqual
 returns c = rw (sym (and-both (c .before .before .before .before .before .before .is-valid .ensures) (c .before .before .before .before .before .is-valid2 .ensures)) ∙ c .before .before .before .before .if1 .taken) (ap gives (and-both (c .before .same-settings .ensures) (c .same .ensures)))
 
--- src/lib.rt:101:5
 returns-2 : tie.Need-returns-2
 unfolding envelopesEqual
 returns-2 c = rw (sym (and-both (c .before .before .is-valid .ensures) (c .before .is-valid2 .ensures)) ∙ c .if1 .left)

@@ -9,15 +9,12 @@ use Rattle.envelope.proofs.AutomationEnvelope.get_value_at.Lts as lts
 use Rattle.envelope.proofs.AutomationEnvelope.limits.Reads as limits-reads
 use Rattle.lookup.proofs.time.get_value_at.Reads as get-value-at-reads
 
--- src/player.rt:13:58
 limits-requires : tie.Need-limits-requires
 limits-requires c κs = search needs
 
--- src/player.rt:13:9
 get-value-at-requires : tie.Need-get-value-at-requires
 get-value-at-requires c κs = search needs
 
--- src/player.rt:9:5
 returns : tie.Need-returns
 returns c = c .get-value-at .ensures ∙ ap (λ (l : Limits). getValueAt (c .before .before .before .args .self .points) (c .before .before .before .args .self .enabled) l (c .before .before .before .args .time)) (c .before .limits .ensures)
 

@@ -9,15 +9,12 @@ use Rattle.envelope.proofs.AutomationEnvelope.get_value_at_sample.Lts a
 use Rattle.envelope.proofs.AutomationEnvelope.limits.Reads as limits-reads
 use Rattle.lookup.proofs.sample.get_value_at_sample.Reads as get-value-at-sample-reads
 
--- src/player.rt:20:67
 limits-requires : tie.Need-limits-requires
 limits-requires c κs = search needs
 
--- src/player.rt:20:9
 get-value-at-sample-requires : tie.Need-get-value-at-sample-requires
 get-value-at-sample-requires c κs = search needs
 
--- src/player.rt:16:5
 returns : tie.Need-returns
 returns c = c .get-value-at-sample .ensures ∙ ap (λ (l : Limits). getValueAtSample (c .before .before .before .args .self .points) (c .before .before .before .args .self .enabled) l (c .before .before .before .args .sample)) (c .before .limits .ensures)
 

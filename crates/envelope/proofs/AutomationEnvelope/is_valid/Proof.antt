@@ -9,15 +9,12 @@ use Rattle.envelope.proofs.AutomationEnvelope.is_valid.Lts as lts
 use Rattle.envelope.proofs.AutomationEnvelope.limits.Reads as limits-reads
 use Rattle.lookup.proofs.is_valid.Reads as is-valid-reads
 
--- src/lib.rt:82:34
 limits-requires : tie.Need-limits-requires
 limits-requires c κs = search needs
 
--- src/lib.rt:82:9
 is-valid-requires : tie.Need-is-valid-requires
 is-valid-requires c κs = search needs
 
--- src/lib.rt:78:5
 returns : tie.Need-returns
 returns c = c .is-valid .ensures ∙ ap (λ (l : Limits). valid (c .before .before .before .args .self .points) l) (c .before .limits .ensures)
 

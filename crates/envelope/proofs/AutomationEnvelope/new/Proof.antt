@@ -6,11 +6,9 @@ use Rattle.envelope.proofs.AutomationEnvelope.new.Reads as reads
 use Rattle.envelope.proofs.AutomationEnvelope.new.Lts as lts
 use Rattle.points.proofs.list.none.Reads as none-reads
 
--- src/lib.rt:54:13
 none-requires : tie.Need-none-requires
 none-requires c κs = search needs
 
--- src/lib.rt:51:5
 returns : tie.Need-returns
 unfolding new
 returns c = cc

@@ -9,19 +9,15 @@ use Rattle.envelope.proofs.AutomationEnvelope.render.Lts as lts
 use Rattle.envelope.proofs.AutomationEnvelope.limits.Reads as limits-reads
 use Rattle.render.proofs.render.Reads as render-reads
 
--- src/player.rt:35:13
 limits-requires : tie.Need-limits-requires
 limits-requires c κs = search needs
 
--- src/player.rt:32:9
 render-requires : tie.Need-render-requires
 render-requires c κs = search needs
 
--- src/player.rt:27:5
 same-length : tie.Need-same-length
 same-length c = search needs
 
--- src/player.rt:27:5
 returns : tie.Need-returns
 returns c = (c .before .before .render .ensures .0 ∙ ap (λ (l : Limits). render (c .before .before .before .before .before .before .before .args .self .points) (c .before .before .before .before .before .before .before .args .self .enabled) l (c .before .before .before .before .before .before .before .args .rate) (c .before .before .before .before .before .before .before .args .first) (c .before .before .before .before .before .before .before .args .count) (c .before .before .before .before .before .before .before .args .place) (c .before .before .before .before .before .before .before .args .out .now) .said) (c .before .before .before .before .limits .ensures), c .before .before .render .ensures .1 ∙ ap (λ (l : Limits). render (c .before .before .before .before .before .before .before .args .self .points) (c .before .before .before .before .before .before .before .args .self .enabled) l (c .before .before .before .before .before .before .before .args .rate) (c .before .before .before .before .before .before .before .args .first) (c .before .before .before .before .before .before .before .args .count) (c .before .before .before .before .before .before .before .args .place) (c .before .before .before .before .before .before .before .args .out .now) .buffer) (c .before .before .before .before .limits .ensures))
 

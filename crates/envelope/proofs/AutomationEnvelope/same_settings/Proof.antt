@@ -5,19 +5,15 @@ use Rattle.envelope.proofs.AutomationEnvelope.same_settings.Reads as re
 use Rattle.envelope.proofs.AutomationEnvelope.same_settings.Lts as lts
 use Rattle.envelope.proofs.same_limit.Reads as same-limit-reads
 
--- src/lib.rt:96:15
 same-limit-requires : tie.Need-same-limit-requires
 same-limit-requires c κs = search needs
 
--- src/lib.rt:97:15
 same-limit-requires-2 : tie.Need-same-limit-requires-2
 same-limit-requires-2 c κs = search needs
 
--- src/lib.rt:98:15
 same-limit-requires-3 : tie.Need-same-limit-requires-3
 same-limit-requires-3 c κs = search needs
 
--- src/lib.rt:85:5
 returns : tie.Need-returns
 returns c = cc
 

@@ -9,19 +9,15 @@ use Rattle.envelope.proofs.AutomationEnvelope.to_buffer.Lts as lts
 use Rattle.envelope.proofs.AutomationEnvelope.limits.Reads as limits-reads
 use Rattle.render.proofs.to_buffer.Reads as to-buffer-reads
 
--- src/player.rt:53:13
 limits-requires : tie.Need-limits-requires
 limits-requires c κs = search needs
 
--- src/player.rt:50:9
 to-buffer-requires : tie.Need-to-buffer-requires
 to-buffer-requires c κs = search needs
 
--- src/player.rt:45:5
 same-length : tie.Need-same-length
 same-length c = search needs
 
--- src/player.rt:45:5
 returns : tie.Need-returns
 returns c = (c .before .before .to-buffer .ensures .0 ∙ ap (λ (l : Limits). toBuffer (c .before .before .before .before .before .before .before .args .self .points) (c .before .before .before .before .before .before .before .args .self .enabled) l (c .before .before .before .before .before .before .before .args .rate) (c .before .before .before .before .before .before .before .args .duration) (c .before .before .before .before .before .before .before .args .place) (c .before .before .before .before .before .before .before .args .out .now) .said) (c .before .before .before .before .limits .ensures), c .before .before .to-buffer .ensures .1 ∙ ap (λ (l : Limits). toBuffer (c .before .before .before .before .before .before .before .args .self .points) (c .before .before .before .before .before .before .before .args .self .enabled) l (c .before .before .before .before .before .before .before .args .rate) (c .before .before .before .before .before .before .before .args .duration) (c .before .before .before .before .before .before .before .args .place) (c .before .before .before .before .before .before .before .args .out .now) .buffer) (c .before .before .before .before .limits .ensures))
 

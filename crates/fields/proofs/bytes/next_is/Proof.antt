@@ -6,15 +6,12 @@ use Rattle.fields.proofs.bytes.next_is.Tie as tie
 use Rattle.fields.proofs.bytes.next_is.Reads as reads
 use Rattle.fields.proofs.bytes.next_is.Lts as lts
 
--- src/bytes.rt:33:23
 shared-slice-read-result : tie.Need-shared-slice-read-result
 shared-slice-read-result c = search needs
 
--- src/bytes.rt:30:1
 returns : tie.Need-returns
 returns c = sym (next-in _ _ _ (c .before .if1 .taken))
 
--- src/bytes.rt:30:1
 returns-2 : tie.Need-returns-2
 returns-2 c = sym (next-out _ _ _ (c .if1 .left))
 

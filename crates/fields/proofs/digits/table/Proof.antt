@@ -5,7 +5,6 @@ use Rattle.fields.proofs.digits.table.Tie as tie
 use Rattle.fields.proofs.digits.table.Reads as reads
 use Rattle.fields.proofs.digits.table.Lts as lts
 
--- src/digits.rt:30:1
 returns : tie.Need-returns
 returns c = rule _ tt refl
 

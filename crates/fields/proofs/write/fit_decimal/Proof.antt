@@ -6,19 +6,15 @@ use Rattle.fields.proofs.write.fit_decimal.Lts as lts
 use Rattle.fields.proofs.write.fit_number.Reads as fit-number-reads
 use Rattle.fields.proofs.write.places_of.Reads as places-of-reads
 
--- src/write.rt:151:32
 places-of-requires : tie.Need-places-of-requires
 places-of-requires c κs = search needs
 
--- src/write.rt:151:5
 fit-number-requires : tie.Need-fit-number-requires
 fit-number-requires c κs = search needs
 
--- src/write.rt:148:1
 same-length : tie.Need-same-length
 same-length c = search needs
 
--- src/write.rt:148:1
 returns : tie.Need-returns
 returns c = rw (c .before .before .before .places-of .ensures) at (c .before .before .fit-number .ensures)
 

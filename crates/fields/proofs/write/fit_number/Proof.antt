@@ -8,27 +8,21 @@ use Rattle.fields.proofs.write.fit_number.Reads as reads
 use Rattle.fields.proofs.write.fit_number.Lts as lts
 use Rattle.fields.proofs.write.put_number.Reads as put-number-reads
 
--- src/write.rt:139:9
 returns : tie.Need-returns
 returns c = not-fits (c .before .before .args .out .now) (c .before .before .args .at) (numberText (c .before .before .args .base) (c .before .before .args .width) (c .before .before .args .end) (c .before .before .args .v)) (omega (arith, c .if1 .taken, length-number (c .before .before .args .base) (c .before .before .args .width) (c .before .before .args .end) (c .before .before .args .v)))
 
--- src/write.rt:141:8
 sub-if2 : tie.Need-sub-if2
 sub-if2 c = search needs
 
--- src/write.rt:142:9
 returns-2 : tie.Need-returns-2
 returns-2 c = not-fits (c .before .before .before .args .out .now) (c .before .before .before .args .at) (numberText (c .before .before .before .args .base) (c .before .before .before .args .width) (c .before .before .before .args .end) (c .before .before .before .args .v)) (omega (arith, c .before .if1 .left, c .if2 .taken, length-number (c .before .before .before .args .base) (c .before .before .before .args .width) (c .before .before .before .args .end) (c .before .before .before .args .v)))
 
--- src/write.rt:144:5
 put-number-requires : tie.Need-put-number-requires
 put-number-requires c κs = (c .before .before .before .before .pre, omega (arith, c .before .before .if1 .left, c .before .if2 .left, length-number (c .before .before .before .before .args .base) (c .before .before .before .before .args .width) (c .before .before .before .before .args .end) (c .before .before .before .before .args .v)))
 
--- src/write.rt:134:1
 same-length : tie.Need-same-length
 same-length c = search needs
 
--- src/write.rt:134:1
 returns-3 : tie.Need-returns-3
 returns-3 c = fits (c .before .before .put-number .ensures) (omega (arith, c .before .before .before .before .before .if1 .left, c .before .before .before .before .if2 .left, length-number (c .before .before .before .before .before .before .before .args .base) (c .before .before .before .before .before .before .before .args .width) (c .before .before .before .before .before .before .before .args .end) (c .before .before .before .before .before .before .before .args .v)))
 

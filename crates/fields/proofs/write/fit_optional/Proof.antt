@@ -11,39 +11,30 @@ use Rattle.fields.proofs.write.fit_optional.Lts as lts
 use Rattle.fields.proofs.write.fit_hex.Reads as fit-hex-reads
 use Rattle.fields.proofs.write.fit_text.Reads as fit-text-reads
 
--- src/write.rt:127:24
 enum-known-p : tie.Need-enum-known-p
 enum-known-p c = search needs
 
--- src/write.rt:127:30
 fit-hex-requires : tie.Need-fit-hex-requires
 fit-hex-requires c κs = search needs
 
--- src/write.rt:129:17
 enum-told : tie.Need-enum-told
 enum-told c = search needs
 
--- src/write.rt:130:31
 slice-aggregate-fit-text : tie.Need-slice-aggregate-fit-text
 slice-aggregate-fit-text c = search needs
 
--- src/write.rt:130:13
 fit-text-requires : tie.Need-fit-text-requires
 fit-text-requires c κs = search needs
 
--- src/write.rt:123:1
 same-length : tie.Need-same-length
 same-length c = search needs
 
--- src/write.rt:123:1
 returns : tie.Need-returns
 returns c = subst (λ (l : List ℕ). Fitted (c .before .before .before .before .before .before .before .before .args .out .now) (c .before .before .before .before .before .before .before .before .args .at) l (c .before .before .fit-hex .last .0) (c .before .before .fit-hex .result)) (some-is (c .before .before .before .before .before .before .before .before .args .width) (c .before .before .before .before .before .before .before .before .args .end) _ (c .before .before .before .before .before .p .given .1)) (c .before .before .fit-hex .ensures)
 
--- src/write.rt:123:1
 same-length-2 : tie.Need-same-length-2
 same-length-2 c = search needs
 
--- src/write.rt:123:1
 returns-2 : tie.Need-returns-2
 returns-2 c = subst (λ (l : List ℕ). Fitted (c .before .before .before .before .before .before .before .before .args .out .now) (c .before .before .before .before .before .before .before .before .args .at) l (c .before .before .fit-text .last .0) (c .before .before .fit-text .result)) (none-is (c .before .before .before .before .before .before .before .before .args .width) (c .before .before .before .before .before .before .before .before .args .end) (c .before .before .before .before .before .enum-told .given .1)) (c .before .before .fit-text .ensures)
 

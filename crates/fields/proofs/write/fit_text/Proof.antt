@@ -7,27 +7,21 @@ use Rattle.fields.proofs.write.fit_text.Reads as reads
 use Rattle.fields.proofs.write.fit_text.Lts as lts
 use Rattle.fields.proofs.write.put_text.Reads as put-text-reads
 
--- src/write.rt:126:9
 returns : tie.Need-returns
 returns c = not-fits (c .before .before .before .args .out .now) (c .before .before .before .args .at) (c .before .before .before .args .w .now) (omega (arith, c .if1 .taken))
 
--- src/write.rt:128:8
 sub-if2 : tie.Need-sub-if2
 sub-if2 c = search needs
 
--- src/write.rt:129:9
 returns-2 : tie.Need-returns-2
 returns-2 c = not-fits (c .before .before .before .before .args .out .now) (c .before .before .before .before .args .at) (c .before .before .before .before .args .w .now) (omega (arith, c .before .if1 .left, c .if2 .taken))
 
--- src/write.rt:131:5
 put-text-requires : tie.Need-put-text-requires
 put-text-requires c κs = search needs
 
--- src/write.rt:122:1
 same-length : tie.Need-same-length
 same-length c = search needs
 
--- src/write.rt:122:1
 returns-3 : tie.Need-returns-3
 returns-3 c = fits (c .before .before .put-text .ensures) (omega (arith, c .before .before .before .before .before .if1 .left, c .before .before .before .before .if2 .left))
 

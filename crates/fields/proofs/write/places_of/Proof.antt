@@ -11,23 +11,18 @@ Inv-loop v left₀ places₀ left places = Counting v left places
 abbrev μ-loop : tie.MeasureT-loop
 μ-loop v left₀ places₀ left places = left
 
--- src/write.rt:113:5
 loop-holds : tie.Need-loop-holds Inv-loop μ-loop
 loop-holds c = counting (c .args .v)
 
--- src/write.rt:115:9
 add-places : tie.Need-add-places Inv-loop μ-loop
 add-places c = omega (arith, again (c .before .loop .inv) (c .loop-test .taken))
 
--- src/write.rt:113:5
 loop-less : tie.Need-loop-less Inv-loop μ-loop
 loop-less c = omega (arith, again (c .before .loop .inv) (c .loop-test .taken))
 
--- src/write.rt:113:5
 loop-again : tie.Need-loop-again Inv-loop μ-loop
 loop-again c = counts (c .before .loop .inv) (again (c .before .loop .inv) (c .loop-test .taken) .0) (again (c .before .loop .inv) (c .loop-test .taken) .1)
 
--- src/write.rt:108:1
 returns : tie.Need-returns Inv-loop μ-loop
 returns c = counted (c .before .loop .inv) (c .loop-test .left)
 

@@ -18,63 +18,48 @@ Inv-loop out₀ at v base width end left₀ k₀ out left k = (k ≤ width) × (
 abbrev μ-loop : tie.MeasureT-loop
 μ-loop out₀ at v base width end left₀ k₀ out left k = k
 
--- src/write.rt:47:9
 add-out : tie.Need-add-out Inv-loop μ-loop
 add-out c = omega (arith, c .before .pre .1, length-number (c .before .args .base) (c .before .args .width) (c .before .args .end) (c .before .args .v), c .before .good)
 
--- src/write.rt:47:5
 slice-write-out : tie.Need-slice-write-out Inv-loop μ-loop
 slice-write-out c = omega (arith, c .before .pre .1, length-number (c .before .args .base) (c .before .args .width) (c .before .args .end) (c .before .args .v))
 
--- src/write.rt:50:5
 loop-holds : tie.Need-loop-holds Inv-loop μ-loop
 loop-holds c = (omega arith, refl, refl)
 
--- src/write.rt:51:9
 sub-k : tie.Need-sub-k Inv-loop μ-loop
 sub-k c = omega arith
 
--- src/write.rt:52:34
 rem-digit-byte : tie.Need-rem-digit-byte Inv-loop μ-loop
 rem-digit-byte c = c .before .before .before .pre .0 .0
 
--- src/write.rt:52:23
 digit-byte-requires : tie.Need-digit-byte-requires Inv-loop μ-loop
 digit-byte-requires c κs = omega (arith, mod-lt (c .before .loop .left) {m = c .before .before .before .args .base} (c .before .before .before .pre .0 .0), c .before .before .before .pre .0)
 
--- src/write.rt:52:13
 add-out-2 : tie.Need-add-out-2 Inv-loop μ-loop
 add-out-2 c = omega (arith, c .before .before .before .before .pre .1, length-number (c .before .before .before .before .args .base) (c .before .before .before .before .args .width) (c .before .before .before .before .args .end) (c .before .before .before .before .args .v), c .before .before .before .before .good)
 
--- src/write.rt:52:9
 slice-write-out-2 : tie.Need-slice-write-out-2 Inv-loop μ-loop
 slice-write-out-2 c = omega (arith, c .before .before .before .before .pre .1, length-number (c .before .before .before .before .args .base) (c .before .before .before .before .args .width) (c .before .before .before .before .args .end) (c .before .before .before .before .args .v), c .before .before .loop .inv .1 ∙ length-set (c .before .before .before .before .args .out .now) (c .before .before .before .before .args .at + c .before .before .before .before .args .width) (c .before .before .before .before .args .end))
 
--- src/write.rt:53:16
 div-left : tie.Need-div-left Inv-loop μ-loop
 div-left c = c .before .before .before .before .pre .0 .0
 
--- src/write.rt:50:5
 loop-less : tie.Need-loop-less Inv-loop μ-loop
 loop-less c = omega arith
 
--- src/write.rt:50:5
 loop-again : tie.Need-loop-again Inv-loop μ-loop
 loop-again c = (omega arith, length-set (c .before .before .loop .out) (c .before .before .before .before .args .at + (c .before .before .loop .k - 1)) (c .digit-byte .result) ∙ c .before .before .loop .inv .1, rw (c .digit-byte .ensures) (digit-stored (c .before .before .loop .out) (c .before .before .before .before .args .at) (c .before .before .before .before .args .base) (c .before .before .loop .k) (c .before .before .loop .left) (omega arith)) ∙ c .before .before .loop .inv .2)
 
--- src/write.rt:55:5
 add-result : tie.Need-add-result Inv-loop μ-loop
 add-result c = omega (arith, c .before .before .before .pre .1, length-number (c .before .before .before .args .base) (c .before .before .before .args .width) (c .before .before .before .args .end) (c .before .before .before .args .v), c .before .before .before .good)
 
--- src/write.rt:55:5
 add-result-2 : tie.Need-add-result-2 Inv-loop μ-loop
 add-result-2 c = omega (arith, c .before .before .before .pre .1, length-number (c .before .before .before .args .base) (c .before .before .before .args .width) (c .before .before .before .args .end) (c .before .before .before .args .v), c .before .before .before .good)
 
--- src/write.rt:41:1
 same-length : tie.Need-same-length Inv-loop μ-loop
 same-length c = c .before .loop .inv .1 ∙ length-set (c .before .before .before .args .out .now) (c .before .before .before .args .at + c .before .before .before .args .width) (c .before .before .before .args .end)
 
--- src/write.rt:41:1
 returns : tie.Need-returns Inv-loop μ-loop
 returns c = number-stored (c .before .before .before .args .out .now) (c .before .loop .out) (c .before .before .before .args .at) (c .before .before .before .args .base) (c .before .before .before .args .width) (c .before .before .before .args .v) (c .before .before .before .args .end) (c .before .loop .k) (c .before .loop .left) (omega arith) (c .before .loop .inv .2)
 

@@ -16,43 +16,33 @@ Inv-loop out₀ at w i₀ out i = (i ≤ length w) × (length out ≡ length out
 abbrev μ-loop : tie.MeasureT-loop
 μ-loop out₀ at w i₀ out i = length w - i
 
--- src/write.rt:79:5
 loop-holds : tie.Need-loop-holds Inv-loop μ-loop
 loop-holds c = (omega arith, refl, rw add-zero)
 
--- src/write.rt:80:23
 shared-slice-read-out : tie.Need-shared-slice-read-out Inv-loop μ-loop
 shared-slice-read-out c = omega arith
 
--- src/write.rt:80:13
 add-out : tie.Need-add-out Inv-loop μ-loop
 add-out c = omega arith
 
--- src/write.rt:80:9
 slice-write-out : tie.Need-slice-write-out Inv-loop μ-loop
 slice-write-out c = omega (arith, c .before .before .loop .inv .1)
 
--- src/write.rt:81:9
 add-i : tie.Need-add-i Inv-loop μ-loop
 add-i c = omega arith
 
--- src/write.rt:79:5
 loop-less : tie.Need-loop-less Inv-loop μ-loop
 loop-less c = omega arith
 
--- src/write.rt:79:5
 loop-again : tie.Need-loop-again Inv-loop μ-loop
 loop-again c = (omega arith, length-set (c .before .before .loop .out) (c .before .before .before .args .at + c .before .before .loop .i) (getD (c .before .before .before .args .w .now) (c .before .before .loop .i) 0) ∙ c .before .before .loop .inv .1, c .before .before .loop .inv .2 ∙ text-step (c .before .before .loop .out) (c .before .before .before .args .w .now) (c .before .before .before .args .at) (c .before .before .loop .i) (omega arith))
 
--- src/write.rt:83:5
 add-result : tie.Need-add-result Inv-loop μ-loop
 add-result c = omega arith
 
--- src/write.rt:73:1
 same-length : tie.Need-same-length Inv-loop μ-loop
 same-length c = c .before .loop .inv .1
 
--- src/write.rt:73:1
 returns : tie.Need-returns Inv-loop μ-loop
 returns c = record { next = refl; bytes = sym (c .before .loop .inv .2 ∙ text-end (c .before .loop .out) (c .before .before .args .w .now) (c .before .before .args .at) (c .before .loop .i) (omega arith)) }
 

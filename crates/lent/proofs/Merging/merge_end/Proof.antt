@@ -9,19 +9,15 @@ use Rattle.lent.proofs.Merging.merge_end.Lts as lts
 use Rattle.envelope.proofs.AutomationEnvelope.merge.Reads as merge-reads
 use Rattle.envelope.proofs.AutomationEnvelope.new.Reads as new-reads
 
--- src/lib.rt:75:17
 new-requires : tie.Need-new-requires
 new-requires c κs = search needs
 
--- src/lib.rt:78:13
 merge-requires : tie.Need-merge-requires
 merge-requires c κs = search needs
 
--- src/lib.rt:70:5
 returns : tie.Need-returns
 returns c = c .merge .ensures ∙ end-good _ _ (c .before .before .new .ensures) (c .before .before .before .if1 .taken)
 
--- src/lib.rt:70:5
 returns-2 : tie.Need-returns-2
 unfolding mergeEnd
 returns-2 c = cc

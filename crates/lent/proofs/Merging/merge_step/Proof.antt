@@ -8,19 +8,15 @@ use Rattle.insert.proofs.add_point.Reads as add-point-reads
 use Rattle.lent.proofs.is_accepted.Reads as is-accepted-reads
 use Rattle.numbers.proofs.order.order_key.Reads as order-key-reads
 
--- src/lib.rt:54:13
 order-key-requires : tie.Need-order-key-requires
 order-key-requires c κs = search needs
 
--- src/lib.rt:56:13
 add-point-requires : tie.Need-add-point-requires
 add-point-requires c κs = search needs
 
--- src/lib.rt:59:40
 is-accepted-requires : tie.Need-is-accepted-requires
 is-accepted-requires c κs = search needs
 
--- src/lib.rt:49:5
 returns : tie.Need-returns
 unfolding mergeStep
 returns c = cc

@@ -10,41 +10,32 @@ use Rattle.lines.proofs.block.block_form.Reads as reads
 use Rattle.lines.proofs.block.block_form.Lts as lts
 use Rattle.lines.proofs.field.number_at.Reads as number-at-reads
 
--- src/block.rt:49:33
 number-at-requires : tie.Need-number-at-requires
 number-at-requires c κs = search needs
 
--- src/block.rt:49:20
 enum-known-rate : tie.Need-enum-known-rate
 enum-known-rate c = search needs
 
--- src/block.rt:50:9
 enum-told : tie.Need-enum-told
 enum-told c = search needs
 
--- src/block.rt:50:9
 returns : tie.Need-returns
 unfolding blockForm toldNumber toldBlockForm blockFormEnd
 returns c = (rw (told (toldNumber _) (c .before .before .number-at .ensures .0) (c .enum-told .given .1)), omega arith)
 
--- src/block.rt:52:38
 number-at-requires-2 : tie.Need-number-at-requires-2
 number-at-requires-2 c κs = search needs
 
--- src/block.rt:52:20
 enum-known-duration : tie.Need-enum-known-duration
 enum-known-duration c = search needs
 
--- src/block.rt:53:9
 enum-told-2 : tie.Need-enum-told-2
 enum-told-2 c = search needs
 
--- src/block.rt:53:9
 returns-2 : tie.Need-returns-2
 unfolding blockForm toldNumber toldBlockForm blockFormEnd
 returns-2 c = (rw (told (toldNumber _) (c .before .before .before .before .before .before .number-at .ensures .0) (c .before .before .before .before .rate .given .1), told (toldNumber _) (c .before .before .number-at2 .ensures .0) (c .enum-told2 .given .1)), omega arith)
 
--- src/block.rt:45:1
 returns-3 : tie.Need-returns-3
 unfolding blockForm toldNumber toldBlockForm numberEnd blockFormEnd
 returns-3 c = (rw (told (toldNumber _) (c .before .before .before .before .before .before .before .number-at .ensures .0) (c .before .before .before .before .before .rate .given .1), told (toldNumber _) (c .before .before .before .number-at2 .ensures .0) (c .before .duration .given .1)), reached numberEnd (c .before .before .before .number-at2 .ensures .1) (c .before .duration .given .1))

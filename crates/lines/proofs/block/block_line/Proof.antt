@@ -12,45 +12,35 @@ use Rattle.fields.proofs.digits.table.Reads as table-reads
 use Rattle.lines.proofs.block.block_form.Reads as block-form-reads
 use Rattle.lines.proofs.block.block_of.Reads as block-of-reads
 
--- src/block.rt:68:13
 table-requires : tie.Need-table-requires
 table-requires c κs = search needs
 
--- src/block.rt:69:36
 block-form-requires : tie.Need-block-form-requires
 block-form-requires c κs = search needs
 
--- src/block.rt:69:23
 enum-known-raw : tie.Need-enum-known-raw
 enum-known-raw c = search needs
 
--- src/block.rt:70:35
 enum-told : tie.Need-enum-told
 enum-told c = search needs
 
--- src/block.rt:70:9
 returns : tie.Need-returns
 unfolding blockLine toldBlockForm toldBlockLine blockEnd
 returns c = (rw (told (toldBlockForm _) (c .before .before .block-form .ensures .0) (c .enum-told .given .1)), omega arith)
 
--- src/block.rt:72:11
 block-of-requires : tie.Need-block-of-requires
 block-of-requires c κs = search needs
 
--- src/block.rt:73:28
 enum-known-r : tie.Need-enum-known-r
 enum-known-r c = search needs
 
--- src/block.rt:74:23
 enum-known-b : tie.Need-enum-known-b
 enum-known-b c = search needs
 
--- src/block.rt:65:1
 returns-2 : tie.Need-returns-2
 unfolding blockLine toldBlockForm toldBlock toldBlockLine blockEnd
 returns-2 c = (rw (told (toldBlockForm _) (c .before .before .before .before .before .before .before .block-form .ensures .0) (c .before .before .before .before .before .raw .given .1), told toldBlock (c .before .before .before .block-of .ensures) (c .before .r .given .1)), omega arith)
 
--- src/block.rt:65:1
 returns-3 : tie.Need-returns-3
 unfolding blockLine toldBlockForm toldBlock toldBlockLine blockFormEnd blockEnd
 returns-3 c = (rw (told (toldBlockForm _) (c .before .before .before .before .before .before .before .block-form .ensures .0) (c .before .before .before .before .before .raw .given .1), told toldBlock (c .before .before .before .block-of .ensures) (c .before .b .given .1)), reached blockFormEnd (c .before .before .before .before .before .before .before .block-form .ensures .1) (c .before .before .before .before .before .raw .given .1))

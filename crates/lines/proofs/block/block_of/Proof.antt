@@ -11,33 +11,26 @@ use Rattle.lines.proofs.block.block_of.Reads as reads
 use Rattle.lines.proofs.block.block_of.Lts as lts
 use Rattle.lines.proofs.point.finite64.Reads as finite64-reads
 
--- src/block.rt:61:9
 finite64-requires : tie.Need-finite64-requires
 finite64-requires c κs = search needs
 
--- src/block.rt:62:9
 returns : tie.Need-returns
 unfolding blockMeaning toldBlock
 returns c = rw (sym (c .before .finite64 .ensures) ∙ not-true _ (c .if1 .taken))
 
--- src/block.rt:64:9
 finite64-requires-2 : tie.Need-finite64-requires-2
 finite64-requires-2 c κs = search needs
 
--- src/block.rt:65:9
 returns-2 : tie.Need-returns-2
 unfolding blockMeaning toldBlock
 returns-2 c = rw (sym (c .before .before .before .finite64 .ensures) ∙ not-false _ (c .before .before .if1 .left), sym (c .before .finite642 .ensures) ∙ not-true _ (c .if2 .taken))
 
--- src/block.rt:68:15
 float-from-bits-t6 : tie.Need-float-from-bits-t6
 float-from-bits-t6 c = finite-no-nan binary64 _ (sym (c .before .before .before .before .finite64 .ensures) ∙ not-false _ (c .before .before .before .if1 .left))
 
--- src/block.rt:69:19
 float-from-bits-t7 : tie.Need-float-from-bits-t7
 float-from-bits-t7 c = finite-no-nan binary64 _ (sym (c .before .before .before .finite642 .ensures) ∙ not-false _ (c .before .before .if2 .left))
 
--- src/block.rt:58:1
 returns-3 : tie.Need-returns-3
 unfolding blockMeaning toldBlock
 returns-3 c = rw (sym (c .before .before .before .before .before .finite64 .ensures) ∙ not-false _ (c .before .before .before .before .if1 .left), sym (c .before .before .before .finite642 .ensures) ∙ not-false _ (c .before .before .if2 .left))

@@ -6,15 +6,12 @@ use Rattle.lines.proofs.digits.digit_of.Tie as tie
 use Rattle.lines.proofs.digits.digit_of.Reads as reads
 use Rattle.lines.proofs.digits.digit_of.Lts as lts
 
--- src/digits.rt:42:5
 element-copy-out-result : tie.Need-element-copy-out-result
 element-copy-out-result c = search needs
 
--- src/digits.rt:42:5
 cast-result : tie.Need-cast-result
 cast-result c = omega (arith, entry-le (c .before .args .t .now) (c .before .args .b) (omega arith) (c .before .pre))
 
--- src/digits.rt:37:1
 returns : tie.Need-returns
 returns c = entry (c .before .args .t .now) (c .before .args .b) (omega arith) (c .before .pre)
 

@@ -18,66 +18,51 @@ Inv-loop t s at base width v₀ i₀ v i = (i ≤ width) × (v < base ^ i) × (r
 abbrev μ-loop : tie.MeasureT-loop
 μ-loop t s at base width v₀ i₀ v i = width - i
 
--- src/digits.rt:52:9
 returns : tie.Need-returns Inv-loop μ-loop
 unfolding toldNumber
 returns c = sym (digits-short _ _ _ _ (simp length-drop (omega arith)))
 
--- src/digits.rt:54:8
 sub-if2 : tie.Need-sub-if2 Inv-loop μ-loop
 sub-if2 c = omega arith
 
--- src/digits.rt:55:9
 returns-2 : tie.Need-returns-2 Inv-loop μ-loop
 unfolding toldNumber
 returns-2 c = sym (digits-short _ _ _ _ (simp length-drop (omega arith)))
 
--- src/digits.rt:59:5
 loop-holds : tie.Need-loop-holds Inv-loop μ-loop
 loop-holds c = (omega arith, omega (arith, pow-zero (c .before .before .before .args .base)), rw (sub-zero, add-zero))
 
--- src/digits.rt:60:31
 add-digit-of : tie.Need-add-digit-of Inv-loop μ-loop
 add-digit-of c = omega arith
 
--- src/digits.rt:60:29
 shared-slice-read-digit-of : tie.Need-shared-slice-read-digit-of Inv-loop μ-loop
 shared-slice-read-digit-of c = omega arith
 
--- src/digits.rt:60:13
 digit-of-requires : tie.Need-digit-of-requires Inv-loop μ-loop
 digit-of-requires c κs = c .before .before .before .before .before .before .pre .0
 
--- src/digits.rt:62:13
 returns-3 : tie.Need-returns-3 Inv-loop μ-loop
 unfolding toldNumber
 returns-3 c = sym (c .before .before .before .before .loop .inv .2 ∙ digits-stop _ _ _ _ _ _ (omega arith) (omega arith) _ (c .before .digit-of .ensures) (omega arith))
 
--- src/digits.rt:64:13
 mul-v : tie.Need-mul-v Inv-loop μ-loop
 mul-v c = omega (arith, horner-fits (c .before .before .before .before .before .before .before .before .args .base) (c .before .before .before .before .loop .i) (c .before .before .before .before .before .before .before .before .args .width) (c .before .before .before .before .loop .v) (c .before .digit-of .result) (c .before .before .before .before .loop .inv .1) (omega arith) (omega arith) (c .before .before .before .before .before .before .before .before .pre .1 .1))
 
--- src/digits.rt:64:13
 add-v : tie.Need-add-v Inv-loop μ-loop
 add-v c = omega (arith, horner-fits (c .before .before .before .before .before .before .before .before .args .base) (c .before .before .before .before .loop .i) (c .before .before .before .before .before .before .before .before .args .width) (c .before .before .before .before .loop .v) (c .before .digit-of .result) (c .before .before .before .before .loop .inv .1) (omega arith) (omega arith) (c .before .before .before .before .before .before .before .before .pre .1 .1))
 
--- src/digits.rt:65:9
 add-i : tie.Need-add-i Inv-loop μ-loop
 add-i c = omega arith
 
--- src/digits.rt:59:5
 loop-less : tie.Need-loop-less Inv-loop μ-loop
 loop-less c = omega arith
 
--- src/digits.rt:59:5
 loop-again : tie.Need-loop-again Inv-loop μ-loop
 loop-again c = (omega arith, horner _ _ _ _ (c .before .before .before .before .loop .inv .1) (omega arith), c .before .before .before .before .loop .inv .2 ∙ digits-step _ _ _ _ _ _ (omega arith) (omega arith) _ (c .before .digit-of .ensures) (omega arith))
 
--- src/digits.rt:67:19
 add-t9 : tie.Need-add-t9 Inv-loop μ-loop
 add-t9 c = omega arith
 
--- src/digits.rt:46:1
 returns-4 : tie.Need-returns-4 Inv-loop μ-loop
 unfolding toldNumber readDigits
 returns-4 c = let e : c .before .loop .i ≡ c .before .before .before .before .before .args .width = omega arith in

@@ -17,49 +17,38 @@ Inv-loop t s start v₀ at₀ v at = (v < 0x1_0000_0000) × (decimals 0 (drop st
 abbrev μ-loop : tie.MeasureT-loop
 μ-loop t s start v₀ at₀ v at = length s - at
 
--- src/field.rt:123:5
 loop-holds : tie.Need-loop-holds Inv-loop μ-loop
 loop-holds c = (omega arith, refl)
 
--- src/field.rt:124:44
 shared-slice-read-digit-of : tie.Need-shared-slice-read-digit-of Inv-loop μ-loop
 shared-slice-read-digit-of c = omega arith
 
--- src/field.rt:124:13
 digit-of-requires : tie.Need-digit-of-requires Inv-loop μ-loop
 digit-of-requires c κs = c .before .before .before .before .pre
 
--- src/field.rt:128:17
 mul-u : tie.Need-mul-u Inv-loop μ-loop
 mul-u c = omega arith
 
--- src/field.rt:128:17
 add-u : tie.Need-add-u Inv-loop μ-loop
 add-u c = omega arith
 
--- src/field.rt:130:13
 returns : tie.Need-returns Inv-loop μ-loop
 unfolding toldNumber
 returns c = decimals-over (c .before .before .before .before .before .loop .v) (c .before .before .before .before .before .before .before .args .s .now) (c .before .before .before .before .before .loop .at) (c .before .before .digit-of .result) (c .before .before .before .before .loop-test .taken) (c .before .before .digit-of .ensures) (omega arith) (omega arith) ∙ sym (c .before .before .before .before .before .loop .inv .1)
 
--- src/field.rt:133:9
 add-at : tie.Need-add-at Inv-loop μ-loop
 add-at c = omega arith
 
--- src/field.rt:123:5
 loop-less : tie.Need-loop-less Inv-loop μ-loop
 loop-less c = omega arith
 
--- src/field.rt:123:5
 loop-again : tie.Need-loop-again Inv-loop μ-loop
 loop-again c = (omega arith, c .before .before .before .before .before .loop .inv .1 ∙ decimals-step (c .before .before .before .before .before .loop .v) (c .before .before .before .before .before .before .before .args .s .now) (c .before .before .before .before .before .loop .at) (c .before .before .digit-of .result) (c .before .before .before .before .loop-test .taken) (c .before .before .digit-of .ensures) (omega arith) (omega arith))
 
--- src/field.rt:117:1
 returns-2 : tie.Need-returns-2 Inv-loop μ-loop
 unfolding toldNumber
 returns-2 c = decimals-end (c .before .loop .v) (c .before .before .before .args .s .now) (c .before .loop .at) (c .loop-test .left) ∙ sym (c .before .loop .inv .1)
 
--- src/field.rt:117:1
 returns-3 : tie.Need-returns-3 Inv-loop μ-loop
 unfolding toldNumber
 returns-3 c = decimals-stop (c .before .before .before .before .loop .v) (c .before .before .before .before .before .before .args .s .now) (c .before .before .before .before .loop .at) (c .before .digit-of .result) (c .before .before .before .loop-test .taken) (c .before .digit-of .ensures) (c .if1 .taken) ∙ sym (c .before .before .before .before .loop .inv .1)

@@ -7,19 +7,15 @@ use Rattle.lines.proofs.field.next_digit.Reads as reads
 use Rattle.lines.proofs.field.next_digit.Lts as lts
 use Rattle.lines.proofs.digits.digit_of.Reads as digit-of-reads
 
--- src/field.rt:110:36
 shared-slice-read-digit-of : tie.Need-shared-slice-read-digit-of
 shared-slice-read-digit-of c = search needs
 
--- src/field.rt:110:9
 digit-of-requires : tie.Need-digit-of-requires
 digit-of-requires c κs = search needs
 
--- src/field.rt:105:1
 returns : tie.Need-returns
 returns c = c .digit-of .ensures ∙ next-digit-in (c .before .before .before .before .args .s .now) (c .before .before .before .before .args .at) (c .before .before .if1 .taken)
 
--- src/field.rt:105:1
 returns-2 : tie.Need-returns-2
 returns-2 c = next-digit-out (c .before .before .args .s .now) (c .before .before .args .at) (c .if1 .left)
 

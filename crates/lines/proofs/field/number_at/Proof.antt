@@ -11,37 +11,29 @@ use Rattle.lines.proofs.field.number_at.Lts as lts
 use Rattle.lines.proofs.digits.digits_at.Reads as digits-at-reads
 use Rattle.fields.proofs.bytes.next_is.Reads as next-is-reads
 
--- src/field.rt:63:31
 digits-at-requires : tie.Need-digits-at-requires
 digits-at-requires c κs = search needs
 
--- src/field.rt:63:20
 enum-known-v : tie.Need-enum-known-v
 enum-known-v c = search needs
 
--- src/field.rt:64:9
 enum-told : tie.Need-enum-told
 enum-told c = search needs
 
--- src/field.rt:64:9
 returns : tie.Need-returns
 unfolding numberForm toldNumber numberEnd
 returns c = (rw (told (toldNumber _) (c .before .before .digits-at .ensures) (c .enum-told .given .1)), omega arith)
 
--- src/field.rt:66:8
 next-is-requires : tie.Need-next-is-requires
 next-is-requires c κs = search needs
 
--- src/field.rt:67:23
 add-t12 : tie.Need-add-t12
 add-t12 c = omega (arith, next-inside (c .before .before .before .before .before .before .before .args .end) (c .before .before .before .before .before .before .before .args .s .now) (c .before .before .before .v .given .0 .1 .0) (sym (c .before .next-is .ensures) ∙ c .if1 .taken), c .before .before .before .before .before .before .before .good)
 
--- src/field.rt:58:1
 returns-2 : tie.Need-returns-2
 unfolding numberForm toldNumber numberEnd
 returns-2 c = (rw (told (toldNumber _) (c .before .before .before .before .before .digits-at .ensures) (c .before .before .before .v .given .1), sym (c .before .next-is .ensures) ∙ c .if1 .taken, tail-drop), omega (arith, next-inside (c .before .before .before .before .before .before .before .args .end) (c .before .before .before .before .before .before .before .args .s .now) (c .before .before .before .v .given .0 .1 .0) (sym (c .before .next-is .ensures) ∙ c .if1 .taken)))
 
--- src/field.rt:58:1
 returns-3 : tie.Need-returns-3
 unfolding numberForm toldNumber numberEnd
 returns-3 c = (rw (told (toldNumber _) (c .before .before .before .before .before .digits-at .ensures) (c .before .before .before .v .given .1), sym (c .before .next-is .ensures) ∙ c .if1 .left), omega arith)

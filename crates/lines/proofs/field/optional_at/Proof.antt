@@ -14,50 +14,39 @@ use Rattle.lines.proofs.field.optional_at.Lts as lts
 use Rattle.fields.proofs.bytes.next_is.Reads as next-is-reads
 use Rattle.lines.proofs.field.number_at.Reads as number-at-reads
 
--- src/field.rt:91:8
 next-is-requires : tie.Need-next-is-requires
 next-is-requires c κs = search needs
 
--- src/field.rt:92:20
 add-next : tie.Need-add-next
 add-next c = omega (arith, next-inside 45 (c .before .before .before .args .s .now) (c .before .before .before .args .at) (sym (c .before .next-is .ensures) ∙ c .if1 .taken), c .before .before .before .good)
 
--- src/field.rt:93:12
 next-is-requires-2 : tie.Need-next-is-requires-2
 next-is-requires-2 c κs = search needs
 
--- src/field.rt:94:51
 add-t12 : tie.Need-add-t12
 add-t12 c = omega (arith, next-inside (c .before .before .before .before .before .args .end) (c .before .before .before .before .before .args .s .now) (c .before .before .before .before .before .args .at + 1) (sym (c .before .next-is2 .ensures) ∙ c .if2 .taken), c .before .before .before .before .before .good)
 
--- src/field.rt:94:13
 returns : tie.Need-returns
 unfolding optionalForm toldOptional optionalEnd
 returns c = (rw (sym (c .before .before .before .next-is .ensures) ∙ c .before .before .if1 .taken, tail-drop, sym (c .before .next-is2 .ensures) ∙ c .if2 .taken, tail-drop), omega (arith, next-inside (c .before .before .before .before .before .args .end) (c .before .before .before .before .before .args .s .now) (c .before .before .before .before .before .args .at + 1) (sym (c .before .next-is2 .ensures) ∙ c .if2 .taken)))
 
--- src/field.rt:96:9
 returns-2 : tie.Need-returns-2
 unfolding optionalForm toldOptional optionalEnd
 returns-2 c = (rw (sym (c .before .before .before .next-is .ensures) ∙ c .before .before .if1 .taken, tail-drop, sym (c .before .next-is2 .ensures) ∙ c .if2 .left), omega arith)
 
--- src/field.rt:98:11
 number-at-requires : tie.Need-number-at-requires
 number-at-requires c κs = (c .before .before .before .pre .0, (c .before .before .before .pre .1 .0, pow-le-pow-right (omega arith) (c .before .before .before .pre .1 .1)))
 
--- src/field.rt:99:20
 enum-known-v : tie.Need-enum-known-v
 enum-known-v c = search needs
 
--- src/field.rt:100:24
 enum-told : tie.Need-enum-told
 enum-told c = search needs
 
--- src/field.rt:86:1
 returns-3 : tie.Need-returns-3
 unfolding optionalForm toldOptional toldNumber optionalEnd numberEnd
 returns-3 c = (rw (sym (c .before .before .before .before .before .next-is .ensures) ∙ c .before .before .before .before .if1 .left, told (toldNumber _) (c .before .before .before .number-at .ensures .0) (c .before .v .given .1)), reached numberEnd (c .before .before .before .number-at .ensures .1) (c .before .v .given .1))
 
--- src/field.rt:86:1
 returns-4 : tie.Need-returns-4
 unfolding optionalForm toldOptional toldNumber optionalEnd
 returns-4 c = (rw (sym (c .before .before .before .before .next-is .ensures) ∙ c .before .before .before .if1 .left, told (toldNumber _) (c .before .before .number-at .ensures .0) (c .enum-told .given .1)), omega arith)

@@ -16,73 +16,57 @@ use Rattle.lines.proofs.field.decimals_at.Reads as decimals-at-reads
 use Rattle.lines.proofs.field.next_digit.Reads as next-digit-reads
 use Rattle.fields.proofs.bytes.next_is.Reads as next-is-reads
 
--- src/field.rt:143:9
 next-digit-requires : tie.Need-next-digit-requires
 next-digit-requires c κs = search needs
 
--- src/field.rt:145:23
 add-next-is : tie.Need-add-next-is
 add-next-is c = omega (arith, next-digit-inside (c .before .before .before .args .s .now) (c .before .before .before .args .at) (omega (arith, c .before .next-digit .ensures)), c .before .before .before .good)
 
--- src/field.rt:145:12
 next-is-requires : tie.Need-next-is-requires
 next-is-requires c κs = search needs
 
--- src/field.rt:146:34
 add-t10 : tie.Need-add-t10
 add-t10 c = omega (arith, next-inside _ (c .before .before .before .before .before .args .s .now) (c .before .before .before .before .before .args .at + 1) (sym (c .before .next-is .ensures) ∙ c .if2 .taken), c .before .before .before .before .before .good)
 
--- src/field.rt:146:13
 returns : tie.Need-returns
 unfolding targetForm toldSingle
 returns c = let two : c .before .before .before .before .before .args .at + 2 ≡ c .before .before .before .before .before .args .at + 1 + 1 = omega arith in rw (← c .before .before .before .next-digit .ensures, eq-eqb _ _ (c .before .before .if1 .taken), tail-drop, sym (c .before .next-is .ensures) ∙ c .if2 .taken, tail-drop) (ap (λ (n : ℕ). got 0 (drop n (c .before .before .before .before .before .args .s .now))) two)
 
--- src/field.rt:148:9
 returns-2 : tie.Need-returns-2
 unfolding targetForm toldSingle
 returns-2 c = rw (← c .before .before .before .next-digit .ensures, eq-eqb _ _ (c .before .before .if1 .taken), tail-drop, sym (c .before .next-is .ensures) ∙ c .if2 .left)
 
--- src/field.rt:151:9
 returns-3 : tie.Need-returns-3
 unfolding targetForm toldSingle
 returns-3 c = rw (← c .before .before .next-digit .ensures, ne-eqb _ _ (c .before .if1 .left), le-ltb _ _ (c .if3 .taken))
 
--- src/field.rt:153:31
 decimals-at-requires : tie.Need-decimals-at-requires
 decimals-at-requires c κs = search needs
 
--- src/field.rt:153:20
 enum-known-v : tie.Need-enum-known-v
 enum-known-v c = search needs
 
--- src/field.rt:154:9
 enum-told : tie.Need-enum-told
 enum-told c = search needs
 
--- src/field.rt:154:9
 returns-4 : tie.Need-returns-4
 unfolding targetForm toldSingle toldNumber
 returns-4 c = rw (← c .before .before .before .before .before .next-digit .ensures, ne-eqb _ _ (c .before .before .before .before .if1 .left), lt-ltb _ _ (c .before .before .before .if3 .left), told (toldNumber _) (c .before .before .decimals-at .ensures) (c .enum-told .given .1))
 
--- src/field.rt:156:8
 next-is-requires-2 : tie.Need-next-is-requires-2
 next-is-requires-2 c κs = search needs
 
--- src/field.rt:157:20
 cast-t14 : tie.Need-cast-t14
 unfolding toldNumber
 cast-t14 c = omega (arith, decimals-lt 0 (drop (c .before .before .before .before .before .before .before .before .before .before .args .at) (c .before .before .before .before .before .before .before .before .before .before .args .s .now)) (c .before .before .before .v .given .0 .0) _ (omega arith) (told (toldNumber _) (c .before .before .before .before .before .decimals-at .ensures) (c .before .before .before .v .given .1)))
 
--- src/field.rt:157:30
 add-t15 : tie.Need-add-t15
 add-t15 c = omega (arith, next-inside 32 (c .before .before .before .before .before .before .before .before .before .before .args .s .now) (c .before .before .before .v .given .0 .1 .0) (sym (c .before .next-is2 .ensures) ∙ c .if4 .taken), c .before .before .before .before .before .before .before .before .before .before .good)
 
--- src/field.rt:139:1
 returns-5 : tie.Need-returns-5
 unfolding targetForm toldSingle toldNumber
 returns-5 c = rw (← c .before .before .before .before .before .before .before .before .next-digit .ensures, ne-eqb _ _ (c .before .before .before .before .before .before .before .if1 .left), lt-ltb _ _ (c .before .before .before .before .before .before .if3 .left), told (toldNumber _) (c .before .before .before .before .before .decimals-at .ensures) (c .before .before .before .v .given .1), sym (c .before .next-is2 .ensures) ∙ c .if4 .taken, tail-drop)
 
--- src/field.rt:139:1
 returns-6 : tie.Need-returns-6
 unfolding targetForm toldSingle toldNumber
 returns-6 c = rw (← c .before .before .before .before .before .before .before .before .next-digit .ensures, ne-eqb _ _ (c .before .before .before .before .before .before .before .if1 .left), lt-ltb _ _ (c .before .before .before .before .before .before .if3 .left), told (toldNumber _) (c .before .before .before .before .before .decimals-at .ensures) (c .before .before .before .v .given .1), sym (c .before .next-is2 .ensures) ∙ c .if4 .left)

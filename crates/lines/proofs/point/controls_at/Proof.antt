@@ -17,63 +17,49 @@ use Rattle.lines.proofs.point.controls_at.Lts as lts
 use Rattle.lines.proofs.field.single_at.Reads as single-at-reads
 use Rattle.fields.proofs.bytes.starts_with.Reads as starts-with-reads
 
--- src/point.rt:54:36
 single-at-requires : tie.Need-single-at-requires
 single-at-requires c κs = search needs
 
--- src/point.rt:54:24
 enum-known-cp1 : tie.Need-enum-known-cp1
 enum-known-cp1 c = search needs
 
--- src/point.rt:55:13
 enum-told : tie.Need-enum-told
 enum-told c = search needs
 
--- src/point.rt:55:13
 returns : tie.Need-returns
 unfolding controlsForm toldControls toldSingle
 returns c = rw (eq-eqb _ _ (c .before .before .before .if1 .taken), told (toldSingle _) (c .before .before .single-at .ensures) (c .enum-told .given .1))
 
--- src/point.rt:57:37
 single-at-requires-2 : tie.Need-single-at-requires-2
 single-at-requires-2 c κs = search needs
 
--- src/point.rt:57:24
 enum-known-cp2 : tie.Need-enum-known-cp2
 enum-known-cp2 c = search needs
 
--- src/point.rt:58:13
 enum-told-2 : tie.Need-enum-told-2
 enum-told-2 c = search needs
 
--- src/point.rt:58:13
 returns-2 : tie.Need-returns-2
 unfolding controlsForm toldControls toldSingle
 returns-2 c = rw (eq-eqb _ _ (c .before .before .before .before .before .before .before .if1 .taken), told (toldSingle _) (c .before .before .before .before .before .before .single-at .ensures) (c .before .before .before .before .cp1 .given .1), told (toldSingle _) (c .before .before .single-at2 .ensures) (c .enum-told2 .given .1))
 
--- src/point.rt:60:9
 returns-3 : tie.Need-returns-3
 unfolding controlsForm toldControls toldSingle
 returns-3 c = rw (eq-eqb _ _ (c .before .before .before .before .before .before .before .before .if1 .taken), told (toldSingle _) (c .before .before .before .before .before .before .before .single-at .ensures) (c .before .before .before .before .before .cp1 .given .1), told (toldSingle _) (c .before .before .before .single-at2 .ensures) (c .before .cp2 .given .1))
 
--- src/point.rt:62:41
 slice-aggregate-starts-with : tie.Need-slice-aggregate-starts-with
 slice-aggregate-starts-with c = search needs
 
--- src/point.rt:62:8
 starts-with-requires : tie.Need-starts-with-requires
 starts-with-requires c κs = search needs
 
--- src/point.rt:63:30
 add-t17 : tie.Need-add-t17
 add-t17 c = omega (arith, starts-with-length dashes (c .before .before .before .before .before .args .s .now) (c .before .before .before .before .before .args .at) (sym (c .before .starts-with .ensures) ∙ c .if2 .taken) (omega arith), c .before .before .before .before .before .good)
 
--- src/point.rt:49:1
 returns-4 : tie.Need-returns-4
 unfolding controlsForm toldControls
 returns-4 c = rw (ne-eqb _ _ (c .before .before .before .if1 .left), sym (c .before .starts-with .ensures) ∙ c .if2 .taken) (ap (λ (l : List ℕ). got (0, 0) l) (sym (drop-drop 4 (c .before .before .before .before .before .args .at) (c .before .before .before .before .before .args .s .now))))
 
--- src/point.rt:49:1
 returns-5 : tie.Need-returns-5
 unfolding controlsForm toldControls
 returns-5 c = rw (ne-eqb _ _ (c .before .before .before .if1 .left), sym (c .before .starts-with .ensures) ∙ c .if2 .left)

@@ -6,7 +6,6 @@ use Rattle.lines.proofs.point.finite32.Tie as tie
 use Rattle.lines.proofs.point.finite32.Reads as reads
 use Rattle.lines.proofs.point.finite32.Lts as lts
 
--- src/point.rt:102:1
 returns : tie.Need-returns
 returns c = sym (finite-bits binary32 (c .args .b))
 

@@ -6,7 +6,6 @@ use Rattle.lines.proofs.point.finite64.Tie as tie
 use Rattle.lines.proofs.point.finite64.Reads as reads
 use Rattle.lines.proofs.point.finite64.Lts as lts
 
--- src/point.rt:108:1
 returns : tie.Need-returns
 returns c = sym (finite-bits binary64 (c .args .b))
 

@@ -11,92 +11,71 @@ use Rattle.lines.proofs.field.optional_at.Reads as optional-at-reads
 use Rattle.lines.proofs.field.single_at.Reads as single-at-reads
 use Rattle.lines.proofs.point.controls_at.Reads as controls-at-reads
 
--- src/point.rt:73:33
 number-at-requires : tie.Need-number-at-requires
 number-at-requires c κs = search needs
 
--- src/point.rt:73:20
 enum-known-time : tie.Need-enum-known-time
 enum-known-time c = search needs
 
--- src/point.rt:74:9
 enum-told : tie.Need-enum-told
 enum-told c = search needs
 
--- src/point.rt:74:9
 returns : tie.Need-returns
 unfolding pointForm toldNumber toldOptional toldSingle toldControls toldPointForm
 returns c = rw (told (toldNumber _) (c .before .before .number-at .ensures .0) (c .enum-told .given .1))
 
--- src/point.rt:76:41
 optional-at-requires : tie.Need-optional-at-requires
 optional-at-requires c κs = search needs
 
--- src/point.rt:76:24
 enum-known-position : tie.Need-enum-known-position
 enum-known-position c = search needs
 
--- src/point.rt:77:9
 enum-told-2 : tie.Need-enum-told-2
 enum-told-2 c = search needs
 
--- src/point.rt:77:9
 returns-2 : tie.Need-returns-2
 unfolding pointForm toldNumber toldOptional toldSingle toldControls toldPointForm
 returns-2 c = rw (told (toldNumber _) (c .before .before .before .before .before .before .number-at .ensures .0) (c .before .before .before .before .time .given .1), told (toldOptional _) (c .before .before .optional-at .ensures .0) (c .enum-told2 .given .1))
 
--- src/point.rt:79:34
 single-at-requires : tie.Need-single-at-requires
 single-at-requires c κs = search needs
 
--- src/point.rt:79:20
 enum-known-value : tie.Need-enum-known-value
 enum-known-value c = search needs
 
--- src/point.rt:80:9
 enum-told-3 : tie.Need-enum-told-3
 enum-told-3 c = search needs
 
--- src/point.rt:80:9
 returns-3 : tie.Need-returns-3
 unfolding pointForm toldNumber toldOptional toldSingle toldControls toldPointForm
 returns-3 c = rw (told (toldNumber _) (c .before .before .before .before .before .before .before .before .before .before .number-at .ensures .0) (c .before .before .before .before .before .before .before .before .time .given .1), told (toldOptional _) (c .before .before .before .before .before .before .optional-at .ensures .0) (c .before .before .before .before .position .given .1), told (toldSingle _) (c .before .before .single-at .ensures) (c .enum-told3 .given .1))
 
--- src/point.rt:82:34
 single-at-requires-2 : tie.Need-single-at-requires-2
 single-at-requires-2 c κs = search needs
 
--- src/point.rt:82:20
 enum-known-curve : tie.Need-enum-known-curve
 enum-known-curve c = search needs
 
--- src/point.rt:83:9
 enum-told-4 : tie.Need-enum-told-4
 enum-told-4 c = search needs
 
--- src/point.rt:83:9
 returns-4 : tie.Need-returns-4
 unfolding pointForm toldNumber toldOptional toldSingle toldControls toldPointForm
 returns-4 c = rw (told (toldNumber _) (c .before .before .before .before .before .before .before .before .before .before .before .before .before .before .number-at .ensures .0) (c .before .before .before .before .before .before .before .before .before .before .before .before .time .given .1), told (toldOptional _) (c .before .before .before .before .before .before .before .before .before .before .optional-at .ensures .0) (c .before .before .before .before .before .before .before .before .position .given .1), told (toldSingle _) (c .before .before .before .before .before .before .single-at .ensures) (c .before .before .before .before .value .given .1), told (toldSingle _) (c .before .before .single-at2 .ensures) (c .enum-told4 .given .1))
 
--- src/point.rt:85:42
 controls-at-requires : tie.Need-controls-at-requires
 controls-at-requires c κs = search needs
 
--- src/point.rt:85:24
 enum-known-cp1 : tie.Need-enum-known-cp1
 enum-known-cp1 c = search needs
 
--- src/point.rt:86:9
 enum-told-5 : tie.Need-enum-told-5
 enum-told-5 c = search needs
 
--- src/point.rt:86:9
 returns-5 : tie.Need-returns-5
 unfolding pointForm toldNumber toldOptional toldSingle toldControls toldPointForm
 returns-5 c = rw (told (toldNumber _) (c .before .before .before .before .before .before .before .before .before .before .before .before .before .before .before .before .before .before .number-at .ensures .0) (c .before .before .before .before .before .before .before .before .before .before .before .before .before .before .before .before .time .given .1), told (toldOptional _) (c .before .before .before .before .before .before .before .before .before .before .before .before .before .before .optional-at .ensures .0) (c .before .before .before .before .before .before .before .before .before .before .before .before .position .given .1), told (toldSingle _) (c .before .before .before .before .before .before .before .before .before .before .single-at .ensures) (c .before .before .before .before .before .before .before .before .value .given .1), told (toldSingle _) (c .before .before .before .before .before .before .single-at2 .ensures) (c .before .before .before .before .curve .given .1), told (toldControls _) (c .before .before .controls-at .ensures) (c .enum-told5 .given .1))
 
--- src/point.rt:69:1
 returns-6 : tie.Need-returns-6
 unfolding pointForm toldNumber toldOptional toldSingle toldControls toldPointForm
 returns-6 c = rw (told (toldNumber _) (c .before .before .before .before .before .before .before .before .before .before .before .before .before .before .before .before .before .before .before .number-at .ensures .0) (c .before .before .before .before .before .before .before .before .before .before .before .before .before .before .before .before .before .time .given .1), told (toldOptional _) (c .before .before .before .before .before .before .before .before .before .before .before .before .before .before .before .optional-at .ensures .0) (c .before .before .before .before .before .before .before .before .before .before .before .before .before .position .given .1), told (toldSingle _) (c .before .before .before .before .before .before .before .before .before .before .before .single-at .ensures) (c .before .before .before .before .before .before .before .before .before .value .given .1), told (toldSingle _) (c .before .before .before .before .before .before .before .single-at2 .ensures) (c .before .before .before .before .before .curve .given .1), told (toldControls _) (c .before .before .before .controls-at .ensures) (c .before .cp1 .given .1))

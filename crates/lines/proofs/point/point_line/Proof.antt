@@ -9,41 +9,32 @@ use Rattle.lines.proofs.point.point_line.Lts as lts
 use Rattle.lines.proofs.point.point_form.Reads as point-form-reads
 use Rattle.lines.proofs.point.point_of.Reads as point-of-reads
 
--- src/point.rt:163:36
 point-form-requires : tie.Need-point-form-requires
 point-form-requires c κs = search needs
 
--- src/point.rt:163:23
 enum-known-raw : tie.Need-enum-known-raw
 enum-known-raw c = search needs
 
--- src/point.rt:164:35
 enum-told : tie.Need-enum-told
 enum-told c = search needs
 
--- src/point.rt:164:9
 returns : tie.Need-returns
 unfolding pointLine toldPointForm toldPointLine
 returns c = rw (told (toldPointForm _) (c .before .before .point-form .ensures) (c .enum-told .given .1))
 
--- src/point.rt:166:11
 point-of-requires : tie.Need-point-of-requires
 point-of-requires c κs = search needs
 
--- src/point.rt:167:28
 enum-known-r : tie.Need-enum-known-r
 enum-known-r c = search needs
 
--- src/point.rt:168:23
 enum-known-p : tie.Need-enum-known-p
 enum-known-p c = search needs
 
--- src/point.rt:159:1
 returns-2 : tie.Need-returns-2
 unfolding pointLine toldPointForm toldPoint toldPointLine
 returns-2 c = rw (told (toldPointForm _) (c .before .before .before .before .before .before .before .point-form .ensures) (c .before .before .before .before .before .raw .given .1), told toldPoint (c .before .before .before .point-of .ensures) (c .before .r .given .1))
 
--- src/point.rt:159:1
 returns-3 : tie.Need-returns-3
 unfolding pointLine toldPointForm toldPoint toldPointLine
 returns-3 c = rw (told (toldPointForm _) (c .before .before .before .before .before .before .before .point-form .ensures) (c .before .before .before .before .before .raw .given .1), told toldPoint (c .before .before .before .point-of .ensures) (c .before .p .given .1))

@@ -14,77 +14,60 @@ use Rattle.lines.proofs.point.finite32.Reads as finite32-reads
 use Rattle.lines.proofs.point.finite64.Reads as finite64-reads
 use Rattle.lines.proofs.point.position_of.Reads as position-of-reads
 
--- src/point.rt:128:9
 finite64-requires : tie.Need-finite64-requires
 finite64-requires c κs = search needs
 
--- src/point.rt:129:9
 returns : tie.Need-returns
 unfolding pointMeaning toldPoint
 returns c = rw (sym (c .before .finite64 .ensures) ∙ not-true _ (c .if1 .taken))
 
--- src/point.rt:131:9
 finite32-requires : tie.Need-finite32-requires
 finite32-requires c κs = search needs
 
--- src/point.rt:132:9
 returns-2 : tie.Need-returns-2
 unfolding pointMeaning toldPoint
 returns-2 c = rw (sym (c .before .before .before .finite64 .ensures) ∙ not-false _ (c .before .before .if1 .left), sym (c .before .finite32 .ensures) ∙ not-true _ (c .if2 .taken))
 
--- src/point.rt:135:9
 returns-3 : tie.Need-returns-3
 unfolding pointMeaning toldPoint
 returns-3 c = rw (sym (c .before .before .before .before .before .finite64 .ensures) ∙ not-false _ (c .before .before .before .before .if1 .left), sym (c .before .before .before .finite32 .ensures) ∙ not-false _ (c .before .before .if2 .left), eq-eqb _ _ (c .if3 .taken))
 
--- src/point.rt:138:9
 returns-4 : tie.Need-returns-4
 unfolding pointMeaning toldPoint
 returns-4 c = rw (sym (c .before .before .before .before .before .before .before .finite64 .ensures) ∙ not-false _ (c .before .before .before .before .before .before .if1 .left), sym (c .before .before .before .before .before .finite32 .ensures) ∙ not-false _ (c .before .before .before .before .if2 .left), ne-eqb _ _ (c .before .before .if3 .left), le-ltb _ _ (c .if4 .taken))
 
--- src/point.rt:140:9
 finite32-requires-2 : tie.Need-finite32-requires-2
 finite32-requires-2 c κs = search needs
 
--- src/point.rt:141:9
 returns-5 : tie.Need-returns-5
 unfolding pointMeaning toldPoint
 returns-5 c = rw (sym (c .before .before .before .before .before .before .before .before .before .finite64 .ensures) ∙ not-false _ (c .before .before .before .before .before .before .before .before .if1 .left), sym (c .before .before .before .before .before .before .before .finite32 .ensures) ∙ not-false _ (c .before .before .before .before .before .before .if2 .left), ne-eqb _ _ (c .before .before .before .before .if3 .left), lt-ltb _ _ (c .before .before .if4 .left), sym (c .before .finite322 .ensures) ∙ not-true _ (c .if5 .taken))
 
--- src/point.rt:143:9
 finite32-requires-3 : tie.Need-finite32-requires-3
 finite32-requires-3 c κs = search needs
 
--- src/point.rt:144:9
 returns-6 : tie.Need-returns-6
 unfolding pointMeaning toldPoint
 returns-6 c = rw (sym (c .before .before .before .before .before .before .before .before .before .before .before .finite64 .ensures) ∙ not-false _ (c .before .before .before .before .before .before .before .before .before .before .if1 .left), sym (c .before .before .before .before .before .before .before .before .before .finite32 .ensures) ∙ not-false _ (c .before .before .before .before .before .before .before .before .if2 .left), ne-eqb _ _ (c .before .before .before .before .before .before .if3 .left), lt-ltb _ _ (c .before .before .before .before .if4 .left), sym (c .before .before .before .finite322 .ensures) ∙ not-false _ (c .before .before .if5 .left), sym (c .before .finite323 .ensures) ∙ not-true _ (c .if6 .taken))
 
--- src/point.rt:146:15
 float-from-bits-cp1 : tie.Need-float-from-bits-cp1
 float-from-bits-cp1 c = finite-no-nan binary32 _ (sym (c .before .before .before .before .finite322 .ensures) ∙ not-false _ (c .before .before .before .if5 .left))
 
--- src/point.rt:147:15
 float-from-bits-cp2 : tie.Need-float-from-bits-cp2
 float-from-bits-cp2 c = finite-no-nan binary32 _ (sym (c .before .before .before .finite323 .ensures) ∙ not-false _ (c .before .before .if6 .left))
 
--- src/point.rt:148:9
 from-code-requires : tie.Need-from-code-requires
 from-code-requires c κs = search needs
 
--- src/point.rt:149:9
 position-of-requires : tie.Need-position-of-requires
 position-of-requires c κs = search needs
 
--- src/point.rt:151:15
 float-from-bits-t15 : tie.Need-float-from-bits-t15
 float-from-bits-t15 c = finite-no-nan binary64 _ (sym (c .before .before .before .before .before .before .before .before .before .before .before .before .before .before .before .before .finite64 .ensures) ∙ not-false _ (c .before .before .before .before .before .before .before .before .before .before .before .before .before .before .before .if1 .left))
 
--- src/point.rt:153:16
 float-from-bits-t16 : tie.Need-float-from-bits-t16
 float-from-bits-t16 c = finite-no-nan binary32 _ (sym (c .before .before .before .before .before .before .before .before .before .before .before .before .before .before .before .finite32 .ensures) ∙ not-false _ (c .before .before .before .before .before .before .before .before .before .before .before .before .before .before .if2 .left))
 
--- src/point.rt:124:1
 returns-7 : tie.Need-returns-7
 unfolding pointMeaning toldPoint
 returns-7 c = rw (sym (c .before .before .before .before .before .before .before .before .before .before .before .before .before .before .before .before .before .finite64 .ensures) ∙ not-false _ (c .before .before .before .before .before .before .before .before .before .before .before .before .before .before .before .before .if1 .left), sym (c .before .before .before .before .before .before .before .before .before .before .before .before .before .before .before .finite32 .ensures) ∙ not-false _ (c .before .before .before .before .before .before .before .before .before .before .before .before .before .before .if2 .left), ne-eqb _ _ (c .before .before .before .before .before .before .before .before .before .before .before .before .if3 .left), lt-ltb _ _ (c .before .before .before .before .before .before .before .before .before .before .if4 .left), sym (c .before .before .before .before .before .before .before .before .before .finite322 .ensures) ∙ not-false _ (c .before .before .before .before .before .before .before .before .if5 .left), sym (c .before .before .before .before .before .before .before .finite323 .ensures) ∙ not-false _ (c .before .before .before .before .before .before .if6 .left), c .before .before .before .from-code .ensures, c .before .before .position-of .ensures)

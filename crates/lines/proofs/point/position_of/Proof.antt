@@ -5,20 +5,16 @@ use Rattle.lines.proofs.point.position_of.Tie as tie
 use Rattle.lines.proofs.point.position_of.Reads as reads
 use Rattle.lines.proofs.point.position_of.Lts as lts
 
--- src/point.rt:118:27
 enum-told : tie.Need-enum-told
 enum-told c = search needs
 
--- src/point.rt:119:24
 enum-known-p : tie.Need-enum-known-p
 enum-known-p c = search needs
 
--- src/point.rt:114:1
 returns : tie.Need-returns
 unfolding positionOf
 returns c = rw (c .enum-told .given .1)
 
--- src/point.rt:114:1
 returns-2 : tie.Need-returns-2
 unfolding positionOf
 returns-2 c = rw (c .before .p .given .1)

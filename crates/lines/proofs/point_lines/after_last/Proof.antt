@@ -4,11 +4,9 @@ use Rattle.lines.proofs.point_lines.after_last.Tie as tie
 use Rattle.lines.proofs.point_lines.after_last.Reads as reads
 use Rattle.lines.proofs.point_lines.after_last.Lts as lts
 
--- src/point_lines.rt:54:1
 returns : tie.Need-returns
 returns c = rw (empty-in _ _ (c .if1 .taken))
 
--- src/point_lines.rt:54:1
 returns-2 : tie.Need-returns-2
 returns-2 c = rw (empty-out _ _ (c .if1 .left))
 

@@ -26,98 +26,75 @@ Inv-loop t s start program places₀ count₀ at₀ last₀ places count at last
 abbrev μ-loop : tie.MeasureT-loop
 μ-loop t s start program places₀ count₀ at₀ last₀ places count at last = 256 - count
 
--- src/point_lines.rt:76:9
 unused-requires : tie.Need-unused-requires Inv-loop μ-loop
 unused-requires c κs = tt
 
--- src/point_lines.rt:81:5
 loop-holds : tie.Need-loop-holds Inv-loop μ-loop
 loop-holds c = begun _ _ _ _ (c .unused .ensures)
 
--- src/point_lines.rt:81:12
 points-end-requires : tie.Need-points-end-requires Inv-loop μ-loop
 points-end-requires c κs = tt
 
--- src/point_lines.rt:82:21
 add-line : tie.Need-add-line Inv-loop μ-loop
 add-line c = omega (arith, c .before .before .loop .inv .few)
 
--- src/point_lines.rt:82:20
 cast-line : tie.Need-cast-line Inv-loop μ-loop
 cast-line c = omega (arith, c .before .before .loop .inv .few)
 
--- src/point_lines.rt:84:30
 after-last-requires : tie.Need-after-last-requires Inv-loop μ-loop
 after-last-requires c κs = tt
 
--- src/point_lines.rt:84:13
 no-points-requires : tie.Need-no-points-requires Inv-loop μ-loop
 no-points-requires c κs = tt
 
--- src/point_lines.rt:84:13
 returns : tie.Need-returns Inv-loop μ-loop
 returns c = handed (c .no-points .ensures .0) (c .no-points .ensures .1) _ (full (c .before .before .before .before .before .loop .inv) (sym (c .before .before .before .before .points-end .ensures) ∙ not-true _ (c .before .before .before .if1 .taken)) _ (c .before .after-last .ensures) (c .before .before .if2 .taken))
 
--- src/point_lines.rt:86:15
 point-line-requires : tie.Need-point-line-requires Inv-loop μ-loop
 point-line-requires c κs = c .before .before .before .before .before .before .pre
 
--- src/point_lines.rt:87:32
 enum-known-refusal : tie.Need-enum-known-refusal Inv-loop μ-loop
 enum-known-refusal c = search needs
 
--- src/point_lines.rt:88:17
 no-points-requires-2 : tie.Need-no-points-requires-2 Inv-loop μ-loop
 no-points-requires-2 c κs = tt
 
--- src/point_lines.rt:88:17
 returns-2 : tie.Need-returns-2 Inv-loop μ-loop
 unfolding toldPointLine
 returns-2 c = handed (c .no-points2 .ensures .0) (c .no-points2 .ensures .1) _ (refuses (c .before .before .before .before .before .before .before .before .loop .inv) (sym (c .before .before .before .before .before .before .before .points-end .ensures) ∙ not-true _ (c .before .before .before .before .before .before .if1 .taken)) (omega (arith, c .before .before .before .before .before .before .before .before .loop .inv .few, c .before .before .before .before .before .if2 .left)) _ (told (toldPointLine _) (c .before .before .before .before .point-line .ensures) (c .before .before .refusal .given .1)))
 
--- src/point_lines.rt:90:27
 enum-known-p : tie.Need-enum-known-p Inv-loop μ-loop
 enum-known-p c = search needs
 
--- src/point_lines.rt:91:21
 order-key-requires : tie.Need-order-key-requires Inv-loop μ-loop
 order-key-requires c κs = tt
 
--- src/point_lines.rt:93:21
 no-points-requires-3 : tie.Need-no-points-requires-3 Inv-loop μ-loop
 no-points-requires-3 c κs = tt
 
--- src/point_lines.rt:93:21
 returns-3 : tie.Need-returns-3 Inv-loop μ-loop
 unfolding toldPointLine
 returns-3 c = handed (c .no-points3 .ensures .0) (c .no-points3 .ensures .1) _ (falls (c .before .before .before .before .before .before .before .before .before .before .loop .inv) (sym (c .before .before .before .before .before .before .before .before .before .points-end .ensures) ∙ not-true _ (c .before .before .before .before .before .before .before .before .if1 .taken)) (omega (arith, c .before .before .before .before .before .before .before .before .before .before .loop .inv .few, c .before .before .before .before .before .before .before .if2 .left)) _ (c .before .before .before .before .p .given .0 .1 .0) (told (toldPointLine _) (c .before .before .before .before .before .before .point-line .ensures) (c .before .before .before .before .p .given .1)) (rw (← c .before .before .order-key .ensures) (c .before .if3 .taken)))
 
--- src/point_lines.rt:95:17
 mul-places : tie.Need-mul-places Inv-loop μ-loop
 mul-places c = omega (arith, c .before .before .before .before .before .before .before .before .before .loop .inv .few, c .before .before .before .before .before .before .if2 .left)
 
--- src/point_lines.rt:95:17
 array-set-from-places : tie.Need-array-set-from-places Inv-loop μ-loop
 array-set-from-places c = omega (arith, c .before .before .before .before .before .before .before .before .before .loop .inv .few, c .before .before .before .before .before .before .if2 .left)
 
--- src/point_lines.rt:96:17
 add-count : tie.Need-add-count Inv-loop μ-loop
 add-count c = omega (arith, c .before .before .before .before .before .before .before .before .before .loop .inv .few)
 
--- src/point_lines.rt:81:5
 loop-less : tie.Need-loop-less Inv-loop μ-loop
 loop-less c = omega (arith, c .before .before .before .before .before .before .before .before .before .loop .inv .few, c .before .before .before .before .before .before .if2 .left)
 
--- src/point_lines.rt:81:5
 loop-again : tie.Need-loop-again Inv-loop μ-loop
 unfolding toldPointLine
 loop-again c = rw (c .before .order-key .ensures) (goes-on (c .before .before .before .before .before .before .before .before .before .loop .inv) (sym (c .before .before .before .before .before .before .before .before .points-end .ensures) ∙ not-true _ (c .before .before .before .before .before .before .before .if1 .taken)) (omega (arith, c .before .before .before .before .before .before .before .before .before .loop .inv .few, c .before .before .before .before .before .before .if2 .left)) _ _ (told (toldPointLine _) (c .before .before .before .before .before .point-line .ensures) (c .before .before .before .p .given .1)) (rw (← c .before .order-key .ensures) (c .if3 .left)))
 
--- src/point_lines.rt:100:15
 place-within-requires : tie.Need-place-within-requires Inv-loop μ-loop
 place-within-requires c κs = tt
 
--- src/point_lines.rt:72:1
 returns-4 : tie.Need-returns-4 Inv-loop μ-loop
 unfolding toldPointLines
 returns-4 c = held-lines _ _ _ _ _ (c .place-within .ensures) (ended (c .before .before .before .loop .inv) (sym (c .before .before .points-end .ensures) ∙ not-false _ (c .before .if1 .left)))

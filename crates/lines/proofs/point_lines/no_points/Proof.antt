@@ -7,11 +7,9 @@ use Rattle.lines.proofs.point_lines.no_points.Reads as reads
 use Rattle.lines.proofs.point_lines.no_points.Lts as lts
 use Rattle.points.proofs.list.none.Reads as none-reads
 
--- src/point_lines.rt:63:9
 none-requires : tie.Need-none-requires
 none-requires c κs = search needs
 
--- src/point_lines.rt:60:1
 returns : tie.Need-returns
 unfolding toldPointLines
 returns c = (λ s. refl, λ s. rw (c .none .ensures))

@@ -7,20 +7,16 @@ use Rattle.lines.proofs.point_lines.points_end.Reads as reads
 use Rattle.lines.proofs.point_lines.points_end.Lts as lts
 use Rattle.fields.proofs.bytes.starts_with.Reads as starts-with-reads
 
--- src/point_lines.rt:47:42
 slice-aggregate-starts-with : tie.Need-slice-aggregate-starts-with
 slice-aggregate-starts-with c = search needs
 
--- src/point_lines.rt:47:9
 starts-with-requires : tie.Need-starts-with-requires
 starts-with-requires c κs = search needs
 
--- src/point_lines.rt:43:1
 returns : tie.Need-returns
 unfolding pointsEnd
 returns c = rw (c .before .before .if1 .taken) (c .starts-with .ensures)
 
--- src/point_lines.rt:43:1
 returns-2 : tie.Need-returns-2
 unfolding pointsEnd
 returns-2 c = rw (c .if1 .left) (empty-leb (c .before .before .args .s .now) (c .before .before .args .at))

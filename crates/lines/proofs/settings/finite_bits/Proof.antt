@@ -7,28 +7,22 @@ use Rattle.lines.proofs.settings.finite_bits.Reads as reads
 use Rattle.lines.proofs.settings.finite_bits.Lts as lts
 use Rattle.lines.proofs.point.finite32.Reads as finite32-reads
 
--- src/settings.rt:78:27
 enum-told : tie.Need-enum-told
 enum-told c = search needs
 
--- src/settings.rt:79:24
 enum-known-p : tie.Need-enum-known-p
 enum-known-p c = search needs
 
--- src/settings.rt:79:53
 cast-finite32 : tie.Need-cast-finite32
 cast-finite32 c = omega (arith, rw (c .before .p .given .1) at (c .before .before .before .pre))
 
--- src/settings.rt:79:30
 finite32-requires : tie.Need-finite32-requires
 finite32-requires c κs = search needs
 
--- src/settings.rt:73:1
 returns : tie.Need-returns
 unfolding finiteBits
 returns c = rw (c .enum-told .given .1)
 
--- src/settings.rt:73:1
 returns-2 : tie.Need-returns-2
 unfolding finiteBits
 returns-2 c = rw (c .before .before .p .given .1) (c .finite32 .ensures)

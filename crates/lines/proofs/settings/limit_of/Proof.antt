@@ -8,29 +8,23 @@ use Rattle.lines.proofs.settings.limit_of.Tie as tie
 use Rattle.lines.proofs.settings.limit_of.Reads as reads
 use Rattle.lines.proofs.settings.limit_of.Lts as lts
 
--- src/settings.rt:88:27
 enum-told : tie.Need-enum-told
 enum-told c = search needs
 
--- src/settings.rt:89:24
 enum-known-p : tie.Need-enum-known-p
 enum-known-p c = search needs
 
--- src/settings.rt:89:59
 cast-t4 : tie.Need-cast-t4
 cast-t4 c = omega (arith, rw (c .before .p .given .1) at (c .before .before .before .pre .0))
 
--- src/settings.rt:89:44
 float-from-bits-t5 : tie.Need-float-from-bits-t5
 unfolding finiteBits
 float-from-bits-t5 c = finite-no-nan binary32 _ (rw (c .before .p .given .1) at (c .before .before .before .pre .1))
 
--- src/settings.rt:83:1
 returns : tie.Need-returns
 unfolding limitOf
 returns c = rw (c .enum-told .given .1)
 
--- src/settings.rt:83:1
 returns-2 : tie.Need-returns-2
 unfolding limitOf
 returns-2 c = rw (c .before .p .given .1)

@@ -12,92 +12,71 @@ use Rattle.lines.proofs.field.optional_at.Reads as optional-at-reads
 use Rattle.lines.proofs.field.single_at.Reads as single-at-reads
 use Rattle.lines.proofs.field.target_at.Reads as target-at-reads
 
--- src/settings.rt:45:35
 target-at-requires : tie.Need-target-at-requires
 target-at-requires c κs = search needs
 
--- src/settings.rt:45:20
 enum-known-target : tie.Need-enum-known-target
 enum-known-target c = search needs
 
--- src/settings.rt:46:9
 enum-told : tie.Need-enum-told
 enum-told c = search needs
 
--- src/settings.rt:46:9
 returns : tie.Need-returns
 unfolding settingsForm toldSingle toldOptional toldSettingsForm settingsFormEnd
 returns c = (rw (told (toldSingle _) (c .before .before .target-at .ensures) (c .enum-told .given .1)), omega arith)
 
--- src/settings.rt:48:36
 single-at-requires : tie.Need-single-at-requires
 single-at-requires c κs = search needs
 
--- src/settings.rt:48:20
 enum-known-enabled : tie.Need-enum-known-enabled
 enum-known-enabled c = search needs
 
--- src/settings.rt:49:9
 enum-told-2 : tie.Need-enum-told-2
 enum-told-2 c = search needs
 
--- src/settings.rt:49:9
 returns-2 : tie.Need-returns-2
 unfolding settingsForm toldSingle toldOptional toldSettingsForm settingsFormEnd
 returns-2 c = (rw (told (toldSingle _) (c .before .before .before .before .before .before .target-at .ensures) (c .before .before .before .before .target .given .1), told (toldSingle _) (c .before .before .single-at .ensures) (c .enum-told2 .given .1)), omega arith)
 
--- src/settings.rt:51:36
 optional-at-requires : tie.Need-optional-at-requires
 optional-at-requires c κs = search needs
 
--- src/settings.rt:51:24
 enum-known-min : tie.Need-enum-known-min
 enum-known-min c = search needs
 
--- src/settings.rt:52:9
 enum-told-3 : tie.Need-enum-told-3
 enum-told-3 c = search needs
 
--- src/settings.rt:52:9
 returns-3 : tie.Need-returns-3
 unfolding settingsForm toldSingle toldOptional toldSettingsForm settingsFormEnd
 returns-3 c = (rw (told (toldSingle _) (c .before .before .before .before .before .before .before .before .before .before .target-at .ensures) (c .before .before .before .before .before .before .before .before .target .given .1), told (toldSingle _) (c .before .before .before .before .before .before .single-at .ensures) (c .before .before .before .before .enabled .given .1), told (toldOptional _) (c .before .before .optional-at .ensures .0) (c .enum-told3 .given .1)), omega arith)
 
--- src/settings.rt:54:36
 optional-at-requires-2 : tie.Need-optional-at-requires-2
 optional-at-requires-2 c κs = search needs
 
--- src/settings.rt:54:24
 enum-known-max : tie.Need-enum-known-max
 enum-known-max c = search needs
 
--- src/settings.rt:55:9
 enum-told-4 : tie.Need-enum-told-4
 enum-told-4 c = search needs
 
--- src/settings.rt:55:9
 returns-4 : tie.Need-returns-4
 unfolding settingsForm toldSingle toldOptional toldSettingsForm settingsFormEnd
 returns-4 c = (rw (told (toldSingle _) (c .before .before .before .before .before .before .before .before .before .before .before .before .before .before .target-at .ensures) (c .before .before .before .before .before .before .before .before .before .before .before .before .target .given .1), told (toldSingle _) (c .before .before .before .before .before .before .before .before .before .before .single-at .ensures) (c .before .before .before .before .before .before .before .before .enabled .given .1), told (toldOptional _) (c .before .before .before .before .before .before .optional-at .ensures .0) (c .before .before .before .before .min .given .1), told (toldOptional _) (c .before .before .optional-at2 .ensures .0) (c .enum-told4 .given .1)), omega arith)
 
--- src/settings.rt:57:38
 optional-at-requires-3 : tie.Need-optional-at-requires-3
 optional-at-requires-3 c κs = search needs
 
--- src/settings.rt:57:24
 enum-known-step : tie.Need-enum-known-step
 enum-known-step c = search needs
 
--- src/settings.rt:58:9
 enum-told-5 : tie.Need-enum-told-5
 enum-told-5 c = search needs
 
--- src/settings.rt:58:9
 returns-5 : tie.Need-returns-5
 unfolding settingsForm toldSingle toldOptional toldSettingsForm settingsFormEnd
 returns-5 c = (rw (told (toldSingle _) (c .before .before .before .before .before .before .before .before .before .before .before .before .before .before .before .before .before .before .target-at .ensures) (c .before .before .before .before .before .before .before .before .before .before .before .before .before .before .before .before .target .given .1), told (toldSingle _) (c .before .before .before .before .before .before .before .before .before .before .before .before .before .before .single-at .ensures) (c .before .before .before .before .before .before .before .before .before .before .before .before .enabled .given .1), told (toldOptional _) (c .before .before .before .before .before .before .before .before .before .before .optional-at .ensures .0) (c .before .before .before .before .before .before .before .before .min .given .1), told (toldOptional _) (c .before .before .before .before .before .before .optional-at2 .ensures .0) (c .before .before .before .before .max .given .1), told (toldOptional _) (c .before .before .optional-at3 .ensures .0) (c .enum-told5 .given .1)), omega arith)
 
--- src/settings.rt:41:1
 returns-6 : tie.Need-returns-6
 unfolding settingsForm toldSingle toldOptional toldSettingsForm optionalEnd settingsFormEnd
 returns-6 c = (rw (told (toldSingle _) (c .before .before .before .before .before .before .before .before .before .before .before .before .before .before .before .before .before .before .before .target-at .ensures) (c .before .before .before .before .before .before .before .before .before .before .before .before .before .before .before .before .before .target .given .1), told (toldSingle _) (c .before .before .before .before .before .before .before .before .before .before .before .before .before .before .before .single-at .ensures) (c .before .before .before .before .before .before .before .before .before .before .before .before .before .enabled .given .1), told (toldOptional _) (c .before .before .before .before .before .before .before .before .before .before .before .optional-at .ensures .0) (c .before .before .before .before .before .before .before .before .before .min .given .1), told (toldOptional _) (c .before .before .before .before .before .before .before .optional-at2 .ensures .0) (c .before .before .before .before .before .max .given .1), told (toldOptional _) (c .before .before .before .optional-at3 .ensures .0) (c .before .step .given .1)), reached optionalEnd (c .before .before .before .optional-at3 .ensures .1) (c .before .step .given .1))

@@ -13,46 +13,36 @@ use Rattle.fields.proofs.digits.table.Reads as table-reads
 use Rattle.lines.proofs.settings.settings_form.Reads as settings-form-reads
 use Rattle.lines.proofs.settings.settings_of.Reads as settings-of-reads
 
--- src/settings.rt:132:13
 table-requires : tie.Need-table-requires
 table-requires c κs = search needs
 
--- src/settings.rt:133:39
 settings-form-requires : tie.Need-settings-form-requires
 settings-form-requires c κs = search needs
 
--- src/settings.rt:133:26
 enum-known-raw : tie.Need-enum-known-raw
 enum-known-raw c = search needs
 
--- src/settings.rt:134:38
 enum-told : tie.Need-enum-told
 enum-told c = search needs
 
--- src/settings.rt:134:9
 returns : tie.Need-returns
 unfolding settingsLine toldSettingsForm toldSettingsLine settingsEnd
 returns c = (rw (told (toldSettingsForm _) (c .before .before .settings-form .ensures .0) (c .enum-told .given .1)), omega arith)
 
--- src/settings.rt:136:11
 settings-of-requires : tie.Need-settings-of-requires
 unfolding toldSettingsForm
 settings-of-requires c κs = settings-below _ _ _ (told (toldSettingsForm _) (c .before .before .before .settings-form .ensures .0) (c .before .raw .given .1))
 
--- src/settings.rt:137:31
 enum-known-r : tie.Need-enum-known-r
 enum-known-r c = search needs
 
--- src/settings.rt:138:26
 enum-known-e : tie.Need-enum-known-e
 enum-known-e c = search needs
 
--- src/settings.rt:129:1
 returns-2 : tie.Need-returns-2
 unfolding settingsLine toldSettingsForm toldSettings toldSettingsLine settingsEnd
 returns-2 c = (rw (told (toldSettingsForm _) (c .before .before .before .before .before .before .before .settings-form .ensures .0) (c .before .before .before .before .before .raw .given .1), told toldSettings (c .before .before .before .settings-of .ensures) (c .before .r .given .1)), omega arith)
 
--- src/settings.rt:129:1
 returns-3 : tie.Need-returns-3
 unfolding settingsLine toldSettingsForm toldSettings toldSettingsLine settingsFormEnd settingsEnd
 returns-3 c = (rw (told (toldSettingsForm _) (c .before .before .before .before .before .before .before .settings-form .ensures .0) (c .before .before .before .before .before .raw .given .1), told toldSettings (c .before .before .before .settings-of .ensures) (c .before .e .given .1)), reached settingsFormEnd (c .before .before .before .before .before .before .before .settings-form .ensures .1) (c .before .before .before .before .before .raw .given .1))

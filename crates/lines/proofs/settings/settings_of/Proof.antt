@@ -10,46 +10,36 @@ use Rattle.lines.proofs.settings.settings_of.Lts as lts
 use Rattle.lines.proofs.settings.finite_bits.Reads as finite-bits-reads
 use Rattle.lines.proofs.settings.limit_of.Reads as limit-of-reads
 
--- src/settings.rt:101:9
 finite-bits-requires : tie.Need-finite-bits-requires
 finite-bits-requires c κs = search needs
 
--- src/settings.rt:102:9
 returns : tie.Need-returns
 unfolding settingsMeaning toldSettings
 returns c = rw (sym (c .before .finite-bits .ensures) ∙ not-true _ (c .if1 .taken))
 
--- src/settings.rt:104:9
 finite-bits-requires-2 : tie.Need-finite-bits-requires-2
 finite-bits-requires-2 c κs = search needs
 
--- src/settings.rt:105:9
 returns-2 : tie.Need-returns-2
 unfolding settingsMeaning toldSettings
 returns-2 c = rw (sym (c .before .before .before .finite-bits .ensures) ∙ not-false _ (c .before .before .if1 .left), sym (c .before .finite-bits2 .ensures) ∙ not-true _ (c .if2 .taken))
 
--- src/settings.rt:107:9
 finite-bits-requires-3 : tie.Need-finite-bits-requires-3
 finite-bits-requires-3 c κs = search needs
 
--- src/settings.rt:108:9
 returns-3 : tie.Need-returns-3
 unfolding settingsMeaning toldSettings
 returns-3 c = rw (sym (c .before .before .before .before .before .finite-bits .ensures) ∙ not-false _ (c .before .before .before .before .if1 .left), sym (c .before .before .before .finite-bits2 .ensures) ∙ not-false _ (c .before .before .if2 .left), sym (c .before .finite-bits3 .ensures) ∙ not-true _ (c .if3 .taken))
 
--- src/settings.rt:110:9
 limit-of-requires : tie.Need-limit-of-requires
 limit-of-requires c κs = (c .before .before .before .before .before .before .pre .0, sym (c .before .before .before .before .before .finite-bits .ensures) ∙ not-false _ (c .before .before .before .before .if1 .left))
 
--- src/settings.rt:111:9
 limit-of-requires-2 : tie.Need-limit-of-requires-2
 limit-of-requires-2 c κs = (c .before .before .before .before .before .before .before .pre .1 .0, sym (c .before .before .before .before .finite-bits2 .ensures) ∙ not-false _ (c .before .before .before .if2 .left))
 
--- src/settings.rt:112:9
 limit-of-requires-3 : tie.Need-limit-of-requires-3
 limit-of-requires-3 c κs = (c .before .before .before .before .before .before .before .before .pre .1 .1, sym (c .before .before .before .finite-bits3 .ensures) ∙ not-false _ (c .before .before .if3 .left))
 
--- src/settings.rt:94:1
 returns-4 : tie.Need-returns-4
 unfolding settingsMeaning toldSettings
 returns-4 c = rw (sym (c .before .before .before .before .before .before .before .before .before .finite-bits .ensures) ∙ not-false _ (c .before .before .before .before .before .before .before .before .if1 .left), sym (c .before .before .before .before .before .before .before .finite-bits2 .ensures) ∙ not-false _ (c .before .before .before .before .before .before .if2 .left), sym (c .before .before .before .before .before .finite-bits3 .ensures) ∙ not-false _ (c .before .before .before .before .if3 .left), c .before .before .before .limit-of .ensures, c .before .before .limit-of2 .ensures, c .before .limit-of3 .ensures)

@@ -8,16 +8,13 @@ use Rattle.play.proofs.text.bits_of.Tie as tie
 use Rattle.play.proofs.text.bits_of.Reads as reads
 use Rattle.play.proofs.text.bits_of.Lts as lts
 
--- src/text.rt:47:9
 returns : tie.Need-returns
 unfolding toBits
 returns c = ap (toBits binary32) (sym (differs-from-itself (c .before .args .x) (yes (c .if1 .taken))))
 
--- src/text.rt:49:5
 float-to-bits-result : tie.Need-float-to-bits-result
 float-to-bits-result c = equals-itself (c .before .args .x) (c .if1 .left)
 
--- src/text.rt:43:1
 returns-2 : tie.Need-returns-2
 returns-2 c = search needs
 

@@ -8,23 +8,18 @@ use Rattle.play.proofs.text.bits_of.Reads as bits-of-reads
 use Rattle.fields.proofs.write.fit_bits.Reads as fit-bits-reads
 use Rattle.fields.proofs.write.fit_decimal.Reads as fit-decimal-reads
 
--- src/text.rt:56:9
 fit-decimal-requires : tie.Need-fit-decimal-requires
 fit-decimal-requires c κs = search needs
 
--- src/text.rt:57:42
 bits-of-requires : tie.Need-bits-of-requires
 bits-of-requires c κs = search needs
 
--- src/text.rt:57:5
 fit-bits-requires : tie.Need-fit-bits-requires
 fit-bits-requires c κs = search needs
 
--- src/text.rt:52:1
 same-length : tie.Need-same-length
 same-length c = search needs
 
--- src/text.rt:52:1
 returns : tie.Need-returns
 returns c = line-made (c .before .before .before .before .before .before .before .before .before .before .args .number) (c .before .before .before .before .before .before .before .before .before .before .args .x) (c .before .before .before .before .before .before .before .before .before .before .pre) (c .before .before .before .before .before .before .before .fit-decimal .ensures) (rw (c .before .before .before .bits-of .ensures) at (c .before .before .fit-bits .ensures))
 

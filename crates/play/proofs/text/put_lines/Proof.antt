@@ -19,48 +19,37 @@ Inv-loop out₀ samples first n at₀ i₀ out at i = (i ≤ n) × Put out₀ 0 
 abbrev μ-loop : tie.MeasureT-loop
 μ-loop out₀ samples first n at₀ i₀ out at i = n - i
 
--- src/text.rt:67:5
 loop-holds : tie.Need-loop-holds Inv-loop μ-loop
 unfolding sampleLines
 loop-holds c = (omega arith, record { next = refl; bytes = refl })
 
--- src/text.rt:68:38
 add-put-line : tie.Need-add-put-line Inv-loop μ-loop
 add-put-line c = omega arith
 
--- src/text.rt:68:37
 cast-put-line : tie.Need-cast-put-line Inv-loop μ-loop
 cast-put-line c = omega arith
 
--- src/text.rt:68:56
 mul-put-line : tie.Need-mul-put-line Inv-loop μ-loop
 mul-put-line c = omega arith
 
--- src/text.rt:68:56
 element-copy-out-put-line : tie.Need-element-copy-out-put-line Inv-loop μ-loop
 element-copy-out-put-line c = omega arith
 
--- src/text.rt:68:9
 put-line-requires : tie.Need-put-line-requires Inv-loop μ-loop
 put-line-requires c κs = line-room (c .before .before .before .before .before .args .first) (c .before .before .before .loop .i) (c .before .before .before .before .before .args .samples .now) nan (omega arith) (c .before .before .before .loop .inv .1) (c .before .before .before .before .before .args .n) (omega arith) (omega arith)
 
--- src/text.rt:69:9
 add-i : tie.Need-add-i Inv-loop μ-loop
 add-i c = omega arith
 
--- src/text.rt:67:5
 loop-less : tie.Need-loop-less Inv-loop μ-loop
 loop-less c = omega arith
 
--- src/text.rt:67:5
 loop-again : tie.Need-loop-again Inv-loop μ-loop
 loop-again c = (omega arith, line-put (c .before .before .before .before .before .before .before .before .args .first) (c .before .before .before .before .before .before .loop .i) (c .before .before .before .before .before .before .before .before .args .samples .now) nan (omega arith) (c .before .before .before .before .before .before .loop .inv .1) (c .before .before .put-line .ensures))
 
--- src/text.rt:61:1
 same-length : tie.Need-same-length Inv-loop μ-loop
 same-length c = put-length (c .before .loop .inv .1)
 
--- src/text.rt:61:1
 returns : tie.Need-returns Inv-loop μ-loop
 returns c = let e : c .before .loop .i ≡ c .before .before .before .args .n = omega arith in rw e at (c .before .loop .inv .1)
 

@@ -9,31 +9,24 @@ use Rattle.points.proofs.refusal.Refusal.number.Reads as number-reads
 use Rattle.fields.proofs.write.fit_decimal.Reads as fit-decimal-reads
 use Rattle.fields.proofs.write.fit_text.Reads as fit-text-reads
 
--- src/text.rt:37:50
 slice-aggregate-fit-text : tie.Need-slice-aggregate-fit-text
 slice-aggregate-fit-text c = search needs
 
--- src/text.rt:37:9
 fit-text-requires : tie.Need-fit-text-requires
 fit-text-requires c κs = search needs
 
--- src/text.rt:38:53
 number-requires : tie.Need-number-requires
 number-requires c κs = search needs
 
--- src/text.rt:38:9
 fit-decimal-requires : tie.Need-fit-decimal-requires
 fit-decimal-requires c κs = search needs
 
--- src/text.rt:39:5
 fit-decimal-requires-2 : tie.Need-fit-decimal-requires-2
 fit-decimal-requires-2 c κs = search needs
 
--- src/text.rt:33:1
 same-length : tie.Need-same-length
 same-length c = search needs
 
--- src/text.rt:33:1
 returns : tie.Need-returns
 returns c = refusal-made (number (c .before .before .before .before .before .before .before .before .before .before .before .before .before .before .before .args .why)) (c .before .before .before .before .before .before .before .before .before .before .before .before .before .before .before .args .line) (c .before .before .before .before .before .before .before .before .before .before .before .before .before .before .before .pre) (c .before .before .before .before .before .before .before .before .before .before .before .fit-text .ensures) (rw (c .before .before .before .before .before .before .before .number .ensures) at (c .before .before .before .before .before .before .fit-decimal .ensures)) (c .before .before .fit-decimal2 .ensures)
 

@@ -10,26 +10,21 @@ use Rattle.points.proofs.AutomationPoint.eq_exact.Lts as lts
 use Rattle.points.proofs.AutomationPoint.is_finite.Reads as is-finite-reads
 use Rattle.points.proofs.AutomationPoint.same_exact.Reads as same-exact-reads
 
--- src/point.rt:94:12
 is-finite-requires : tie.Need-is-finite-requires
 is-finite-requires c κs = search needs
 
--- src/point.rt:94:31
 is-finite-requires-2 : tie.Need-is-finite-requires-2
 is-finite-requires-2 c κs = search needs
 
--- src/point.rt:95:26
 same-exact-requires : tie.Need-same-exact-requires
 same-exact-requires c κs = search needs
 
--- src/point.rt:91:5
 returns : tie.Need-returns
 unfolding pointsEqual
 returns c =
     let t = sym (and-both (c .before .before .before .is-finite .ensures) (c .before .before .is-finite2 .ensures)) ∙ c .before .if1 .taken in
     rw t (ap gives (c .same-exact .ensures))
 
--- src/point.rt:91:5
 returns-2 : tie.Need-returns-2
 unfolding pointsEqual
 returns-2 c =

@@ -7,19 +7,15 @@ use Rattle.curve.proofs.CurveType.is_finite.Reads as CurveType-is-finite-reads
 use Rattle.numbers.proofs.order.is_finite.Reads as order-is-finite-reads
 use Rattle.numbers.proofs.order.is_finitef.Reads as is-finitef-reads
 
--- src/point.rt:48:9
 is-finite-requires : tie.Need-is-finite-requires
 is-finite-requires c κs = search needs
 
--- src/point.rt:48:48
 is-finitef-requires : tie.Need-is-finitef-requires
 is-finitef-requires c κs = search needs
 
--- src/point.rt:48:89
 is-finite-requires-2 : tie.Need-is-finite-requires-2
 is-finite-requires-2 c κs = search needs
 
--- src/point.rt:44:5
 returns : tie.Need-returns
 returns c = cc
 

@@ -8,23 +8,18 @@ use Rattle.points.proofs.SamplePosition.is_none.Reads as is-none-reads
 use Rattle.points.proofs.point.plus_zero.Reads as plus-zero-reads
 use Rattle.points.proofs.point.plus_zerof.Reads as plus-zerof-reads
 
--- src/point.rt:56:9
 plus-zero-requires : tie.Need-plus-zero-requires
 plus-zero-requires c κs = search needs
 
--- src/point.rt:56:32
 is-none-requires : tie.Need-is-none-requires
 is-none-requires c κs = search needs
 
--- src/point.rt:56:53
 plus-zerof-requires : tie.Need-plus-zerof-requires
 plus-zerof-requires c κs = search needs
 
--- src/point.rt:56:78
 is-linear-requires : tie.Need-is-linear-requires
 is-linear-requires c κs = search needs
 
--- src/point.rt:51:5
 returns : tie.Need-returns
 returns c = cc
 

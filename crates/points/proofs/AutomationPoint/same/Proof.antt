@@ -8,7 +8,6 @@ use Rattle.points.proofs.AutomationPoint.same.Tie as tie
 use Rattle.points.proofs.AutomationPoint.same.Reads as reads
 use Rattle.points.proofs.AutomationPoint.same.Lts as lts
 
--- src/point.rt:60:5
 returns : tie.Need-returns
 unfolding ofBits
 returns c = sym (and-both (abs-below _ 1 (negsuc 51)) (abs-below _ 1 (negsuc 22)))

@@ -6,15 +6,12 @@ use Rattle.points.proofs.AutomationPoint.same_exact.Lts as lts
 use Rattle.curve.proofs.CurveType.eq.Reads as eq-reads
 use Rattle.points.proofs.AutomationPoint.same.Reads as same-reads
 
--- src/point.rt:77:9
 same-requires : tie.Need-same-requires
 same-requires c κs = search needs
 
--- src/point.rt:77:28
 eq-requires : tie.Need-eq-requires
 eq-requires c κs = search needs
 
--- src/point.rt:72:5
 returns : tie.Need-returns
 returns c = cc
 

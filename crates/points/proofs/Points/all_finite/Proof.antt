@@ -19,42 +19,33 @@ Inv-loop self n ok₀ i₀ ok i = (i ≤ n) × (ok ≡ every finitePoint (take i
 abbrev μ-loop : tie.MeasureT-loop
 μ-loop self n ok₀ i₀ ok i = n - i
 
--- src/list.rt:31:13
 used-requires : tie.Need-used-requires Inv-loop μ-loop
 used-requires c κs = tt
 
--- src/list.rt:34:9
 loop-holds : tie.Need-loop-holds Inv-loop μ-loop
 unfolding every
 loop-holds c = (omega arith, refl)
 
--- src/list.rt:35:21
 mul-p : tie.Need-mul-p Inv-loop μ-loop
 mul-p c = omega arith
 
--- src/list.rt:35:21
 element-copy-out-p : tie.Need-element-copy-out-p Inv-loop μ-loop
 element-copy-out-p c = omega arith
 
--- src/list.rt:36:23
 is-finite-requires : tie.Need-is-finite-requires Inv-loop μ-loop
 is-finite-requires c κs = tt
 
--- src/list.rt:37:13
 add-i : tie.Need-add-i Inv-loop μ-loop
 add-i c = omega arith
 
--- src/list.rt:34:9
 loop-less : tie.Need-loop-less Inv-loop μ-loop
 loop-less c = omega arith
 
--- src/list.rt:34:9
 loop-again : tie.Need-loop-again Inv-loop μ-loop
 loop-again c =
     let len = places (c .before .before .before .before .before .args .t1) _ (c .before .before .before .before .before .good .0) in
     (omega arith, cc (every-more finitePoint (c .before .before .before .before .before .args .t1 .places) (c .before .before .before .loop .i) anyPoint (omega arith)))
 
--- src/list.rt:28:5
 returns : tie.Need-returns Inv-loop μ-loop
 returns c =
     let ps = c .before .before .before .args .t1 in

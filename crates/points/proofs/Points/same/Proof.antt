@@ -19,15 +19,12 @@ Inv-loop exact self other n ok₀ i₀ ok i = (i ≤ n) × (ok ≡ everyPair (ma
 abbrev μ-loop : tie.MeasureT-loop
 μ-loop exact self other n ok₀ i₀ ok i = n - i
 
--- src/list.rt:94:13
 used-requires : tie.Need-used-requires Inv-loop μ-loop
 used-requires c κs = tt
 
--- src/list.rt:95:17
 used-requires-2 : tie.Need-used-requires-2 Inv-loop μ-loop
 used-requires-2 c κs = tt
 
--- src/list.rt:96:13
 returns : tie.Need-returns Inv-loop μ-loop
 returns c =
     let a = c .before .before .before .args .t1 in
@@ -38,39 +35,30 @@ returns c =
     let kb = length-take (b .count) (b .places) in
     sym (pair-length (matching (c .before .before .before .args .exact)) (listOf a) (listOf b) (λ (e : length (listOf a) ≡ length (listOf b)). c .if1 .taken (omega (arith, c .before .before .used .ensures, c .before .used2 .ensures))))
 
--- src/list.rt:100:9
 loop-holds : tie.Need-loop-holds Inv-loop μ-loop
 loop-holds c = (omega arith, pair-none (matching (c .before .before .before .args .exact)))
 
--- src/list.rt:101:21
 mul-p : tie.Need-mul-p Inv-loop μ-loop
 mul-p c = omega arith
 
--- src/list.rt:101:21
 element-copy-out-p : tie.Need-element-copy-out-p Inv-loop μ-loop
 element-copy-out-p c = omega arith
 
--- src/list.rt:102:21
 mul-q : tie.Need-mul-q Inv-loop μ-loop
 mul-q c = omega arith
 
--- src/list.rt:102:21
 element-copy-out-q : tie.Need-element-copy-out-q Inv-loop μ-loop
 element-copy-out-q c = omega arith
 
--- src/list.rt:103:23
 match-points-requires : tie.Need-match-points-requires Inv-loop μ-loop
 match-points-requires c κs = tt
 
--- src/list.rt:104:13
 add-i : tie.Need-add-i Inv-loop μ-loop
 add-i c = omega arith
 
--- src/list.rt:100:9
 loop-less : tie.Need-loop-less Inv-loop μ-loop
 loop-less c = omega arith
 
--- src/list.rt:100:9
 loop-again : tie.Need-loop-again Inv-loop μ-loop
 loop-again c =
     let a = c .before .before .before .before .before .before .before .before .args .t1 in
@@ -79,7 +67,6 @@ loop-again c =
     let lb : length (b .places) ≡ 256 = places b _ (c .before .before .before .before .before .before .before .before .good .1 .0) in
     (omega arith, cc (pair-more (matching (c .before .before .before .before .before .before .before .before .args .exact)) (a .places) (b .places) (c .before .before .before .before .loop .i) anyPoint (omega arith) (omega arith)))
 
--- src/list.rt:91:5
 returns-2 : tie.Need-returns-2 Inv-loop μ-loop
 returns-2 c =
     let a = c .before .before .before .before .before .args .t1 in

@@ -19,57 +19,44 @@ Inv-loop self n ok₀ i₀ ok i = (1 ≤ i) × (i ≤ max 1 n) × (ok ≡ rising
 abbrev μ-loop : tie.MeasureT-loop
 μ-loop self n ok₀ i₀ ok i = n - i
 
--- src/list.rt:45:13
 used-requires : tie.Need-used-requires Inv-loop μ-loop
 used-requires c κs = tt
 
--- src/list.rt:48:9
 loop-holds : tie.Need-loop-holds Inv-loop μ-loop
 loop-holds c = (omega arith, omega arith, sym (rising-one timeKey (c .before .args .t1 .places)))
 
--- src/list.rt:49:33
 sub-p : tie.Need-sub-p Inv-loop μ-loop
 sub-p c = omega arith
 
--- src/list.rt:49:21
 mul-p : tie.Need-mul-p Inv-loop μ-loop
 mul-p c = omega arith
 
--- src/list.rt:49:21
 element-copy-out-p : tie.Need-element-copy-out-p Inv-loop μ-loop
 element-copy-out-p c = omega arith
 
--- src/list.rt:50:21
 mul-q : tie.Need-mul-q Inv-loop μ-loop
 mul-q c = omega arith
 
--- src/list.rt:50:21
 element-copy-out-q : tie.Need-element-copy-out-q Inv-loop μ-loop
 element-copy-out-q c = omega arith
 
--- src/list.rt:51:24
 order-key-requires : tie.Need-order-key-requires Inv-loop μ-loop
 order-key-requires c κs = tt
 
--- src/list.rt:51:60
 order-key-requires-2 : tie.Need-order-key-requires-2 Inv-loop μ-loop
 order-key-requires-2 c κs = tt
 
--- src/list.rt:52:13
 add-i : tie.Need-add-i Inv-loop μ-loop
 add-i c = omega arith
 
--- src/list.rt:48:9
 loop-less : tie.Need-loop-less Inv-loop μ-loop
 loop-less c = omega arith
 
--- src/list.rt:48:9
 loop-again : tie.Need-loop-again Inv-loop μ-loop
 loop-again c =
     let len = places (c .before .before .before .before .before .before .before .args .t1) _ (c .before .before .before .before .before .before .before .good .0) in
     (omega arith, omega arith, cc (rising-next timeKey (c .before .before .before .before .before .before .before .args .t1 .places) (c .before .before .before .before .before .loop .i) anyPoint (omega arith) (omega arith)))
 
--- src/list.rt:42:5
 returns : tie.Need-returns Inv-loop μ-loop
 returns c =
     let ps = c .before .before .before .args .t1 in

@@ -6,19 +6,15 @@ use Rattle.points.proofs.list.match_points.Lts as lts
 use Rattle.points.proofs.AutomationPoint.same.Reads as same-reads
 use Rattle.points.proofs.AutomationPoint.same_exact.Reads as same-exact-reads
 
--- src/list.rt:86:16
 same-exact-requires : tie.Need-same-exact-requires
 same-exact-requires c κs = search needs
 
--- src/list.rt:86:41
 same-requires : tie.Need-same-requires
 same-requires c κs = search needs
 
--- src/list.rt:83:1
 returns : tie.Need-returns
 returns c = rw (c .before .if1 .taken) (c .same-exact .ensures)
 
--- src/list.rt:83:1
 returns-2 : tie.Need-returns-2
 returns-2 c = rw (c .before .if1 .left) (c .same .ensures)
 

@@ -9,11 +9,9 @@ use Rattle.points.proofs.list.none.Reads as reads
 use Rattle.points.proofs.list.none.Lts as lts
 use Rattle.points.proofs.point.unused.Reads as unused-reads
 
--- src/list.rt:13:9
 unused-requires : tie.Need-unused-requires
 unused-requires c κs = search needs
 
--- src/list.rt:10:1
 returns : tie.Need-returns
 returns c = ap {B = Points} (λ (p : AutomationPoint). record { count = 0; places = replicate 256 p }) (c .unused .ensures)
 

@@ -5,7 +5,6 @@ use Rattle.points.proofs.point.unused.Tie as tie
 use Rattle.points.proofs.point.unused.Reads as reads
 use Rattle.points.proofs.point.unused.Lts as lts
 
--- src/point.rt:32:1
 returns : tie.Need-returns
 unfolding ofBits
 returns c = refl

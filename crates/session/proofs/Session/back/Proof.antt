@@ -16,27 +16,21 @@ use Rattle.session.proofs.Session.refuse.Reads as refuse-reads
 use Rattle.session.proofs.Session.step_over.Reads as step-over-reads
 use Rattle.session.proofs.slot_before.Reads as slot-before-reads
 
--- src/lib.rt:229:12
 is-valid-requires : tie.Need-is-valid-requires
 is-valid-requires c κs = search needs
 
--- src/lib.rt:233:21
 refuse-requires : tie.Need-refuse-requires
 refuse-requires c κs = search needs
 
--- src/lib.rt:235:25
 slot-before-requires : tie.Need-slot-before-requires
 slot-before-requires c κs = let o = in-order (c .before .before .before .before .before .before .before .args .self) (and-right (validEnvelope (c .before .before .before .before .before .before .before .args .self .envelope)) (inOrder (c .before .before .before .before .before .before .before .args .self)) (sym (c .before .before .before .before .before .is-valid .ensures) ∙ c .before .before .before .before .if1 .taken)) in omega (arith, o .room, c .before .if3 .left)
 
--- src/lib.rt:236:48
 sub-step-over : tie.Need-sub-step-over
 sub-step-over c = search needs
 
--- src/lib.rt:236:58
 add-step-over : tie.Need-add-step-over
 add-step-over c = let o = in-order (c .before .before .before .before .before .before .before .before .before .args .self) (and-right (validEnvelope (c .before .before .before .before .before .before .before .before .before .args .self .envelope)) (inOrder (c .before .before .before .before .before .before .before .before .before .args .self)) (sym (c .before .before .before .before .before .before .before .is-valid .ensures) ∙ c .before .before .before .before .before .before .if1 .taken)) in omega (arith, o .room, c .before .before .before .if3 .left, c .before .before .before .before .if2 .taken)
 
--- src/lib.rt:236:21
 step-over-requires : tie.Need-step-over-requires
 step-over-requires c κs =
     let s = c .before .before .before .before .before .before .before .before .before .before .args .self in
@@ -45,39 +39,32 @@ step-over-requires c κs =
     let l = before-below s (c .before .before .slot-before .result) o (omega (arith, c .before .before .before .before .if3 .left)) (c .before .before .slot-before .ensures) in
     (omega (arith, l, c .before .before .before .before .before .if2 .taken), and-left (validEnvelope (s .envelope)) (inOrder s) v)
 
--- src/lib.rt:239:17
 refuse-requires-2 : tie.Need-refuse-requires-2
 refuse-requires-2 c κs = search needs
 
--- src/lib.rt:242:13
 refuse-requires-3 : tie.Need-refuse-requires-3
 refuse-requires-3 c κs = search needs
 
--- src/lib.rt:226:5
 returns : tie.Need-returns
 returns c =
     let a = c .before .before .before .before .before .before .before .args in
     ap (λ (x : SessionAnswer). called x (now (a .memory))) (c .refuse .ensures)
     ∙ back-none (a .self) (now (a .memory)) (sym (c .before .before .before .before .before .is-valid .ensures) ∙ c .before .before .before .before .if1 .taken) (c .before .before .if2 .taken) (called (c .refuse .result) (now (a .memory))) (c .before .if3 .taken)
 
--- src/lib.rt:226:5
 same-length : tie.Need-same-length
 same-length c = search needs
 
--- src/lib.rt:226:5
 returns-2 : tie.Need-returns-2
 returns-2 c =
     let a = c .before .before .before .before .before .before .before .before .before .before .before .before .before .args in
     back-over (a .self) (now (a .memory)) (sym (c .before .before .before .before .before .before .before .before .before .before .before .is-valid .ensures) ∙ c .before .before .before .before .before .before .before .before .before .before .if1 .taken) (c .before .before .before .before .before .before .before .before .if2 .taken) _ (c .before .before .before .before .before .slot-before .result) (omega (arith, c .before .before .before .before .before .before .before .if3 .left)) (c .before .before .before .before .before .slot-before .ensures) (c .before .before .step-over .ensures)
 
--- src/lib.rt:226:5
 returns-3 : tie.Need-returns-3
 unfolding backCall
 returns-3 c =
     let a = c .before .before .before .before .before .before .args in
     ap (λ (x : SessionAnswer). called x (now (a .memory))) (c .refuse2 .ensures) ∙ gate-eleven (a .self) (now (a .memory)) _ (sym (c .before .before .before .before .is-valid .ensures) ∙ c .before .before .before .if1 .taken) (c .before .if2 .left)
 
--- src/lib.rt:226:5
 returns-4 : tie.Need-returns-4
 unfolding backCall
 returns-4 c =

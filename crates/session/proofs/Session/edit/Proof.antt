@@ -20,15 +20,12 @@ use Rattle.session.proofs.Session.refuse.Reads as refuse-reads
 use Rattle.session.proofs.Session.refuse_length.Reads as refuse-length-reads
 use Rattle.session.proofs.Session.settle.Reads as settle-reads
 
--- src/lib.rt:188:12
 in-order-requires : tie.Need-in-order-requires
 in-order-requires c κs = search needs
 
--- src/lib.rt:190:29
 edit-requires : tie.Need-edit-requires
 edit-requires c κs = search needs
 
--- src/lib.rt:190:17
 settle-requires : tie.Need-settle-requires
 settle-requires c κs =
     let a = c .before .before .before .before .before .before .before .before .args in (
@@ -39,23 +36,18 @@ settle-requires c κs =
       ),
     )
 
--- src/lib.rt:192:36
 is-valid-requires : tie.Need-is-valid-requires
 is-valid-requires c κs = search needs
 
--- src/lib.rt:192:17
 refuse-length-requires : tie.Need-refuse-length-requires
 refuse-length-requires c κs = search needs
 
--- src/lib.rt:195:13
 refuse-requires : tie.Need-refuse-requires
 refuse-requires c κs = search needs
 
--- src/lib.rt:184:5
 same-length : tie.Need-same-length
 same-length c = search needs
 
--- src/lib.rt:184:5
 returns : tie.Need-returns
 returns c =
     let a = c .before .before .before .before .before .before .before .before .before .before .before .args in
@@ -64,7 +56,6 @@ returns c =
     ∙ edit-own true (editOf (a .e) (a .self .envelope)) (a .self) (now (a .memory)) (λ h. edit-one (a .e) (a .self .envelope) (sym (and-true (validEnvelope (a .self .envelope))) ∙ h))
     (sym (c .before .before .before .before .before .before .before .before .in-order .ensures) ∙ c .before .before .before .before .before .before .before .if1 .taken) (c .before .before .before .before .before .if2 .taken)
 
--- src/lib.rt:184:5
 returns-2 : tie.Need-returns-2
 returns-2 c =
     let a = c .before .before .before .before .before .before .before .before .args in
@@ -72,7 +63,6 @@ returns-2 c =
     ∙ edit-length true (editOf (a .e) (a .self .envelope)) (a .self) (now (a .memory)) (c .before .is-valid .result) (sym (c .before .before .before .before .before .in-order .ensures) ∙ c .before .before .before .before .if1 .taken) (c .before .before .if2 .left)
     (c .before .is-valid .ensures ∙ sym (and-true (validEnvelope (a .self .envelope))))
 
--- src/lib.rt:184:5
 returns-3 : tie.Need-returns-3
 returns-3 c =
     let a = c .before .before .before .before .before .args in

@@ -8,19 +8,15 @@ use Rattle.session.proofs.Session.get_value_at.Lts as lts
 use Rattle.envelope.proofs.AutomationEnvelope.get_value_at.Reads as get-value-at-reads
 use Rattle.session.proofs.Session.in_order.Reads as in-order-reads
 
--- src/play.rt:15:12
 in-order-requires : tie.Need-in-order-requires
 in-order-requires c κs = search needs
 
--- src/play.rt:17:13
 get-value-at-requires : tie.Need-get-value-at-requires
 get-value-at-requires c κs = search needs
 
--- src/play.rt:12:5
 returns : tie.Need-returns
 returns c = c .get-value-at .ensures ∙ value-own (c .before .before .before .before .args .self) (c .before .before .before .before .args .time) (sym (c .before .before .before .in-order .ensures) ∙ c .before .before .if1 .taken)
 
--- src/play.rt:12:5
 returns-2 : tie.Need-returns-2
 returns-2 c = value-not (c .before .before .args .self) (c .before .before .args .time) (sym (c .before .in-order .ensures) ∙ c .if1 .left)
 

@@ -8,19 +8,15 @@ use Rattle.session.proofs.Session.get_value_at_sample.Lts as lts
 use Rattle.envelope.proofs.AutomationEnvelope.get_value_at_sample.Reads as get-value-at-sample-reads
 use Rattle.session.proofs.Session.in_order.Reads as in-order-reads
 
--- src/play.rt:26:12
 in-order-requires : tie.Need-in-order-requires
 in-order-requires c κs = search needs
 
--- src/play.rt:28:13
 get-value-at-sample-requires : tie.Need-get-value-at-sample-requires
 get-value-at-sample-requires c κs = search needs
 
--- src/play.rt:23:5
 returns : tie.Need-returns
 returns c = c .get-value-at-sample .ensures ∙ sample-own (c .before .before .before .before .args .self) (c .before .before .before .before .args .sample) (sym (c .before .before .before .in-order .ensures) ∙ c .before .before .if1 .taken)
 
--- src/play.rt:23:5
 returns-2 : tie.Need-returns-2
 returns-2 c = sample-not (c .before .before .args .self) (c .before .before .args .sample) (sym (c .before .in-order .ensures) ∙ c .if1 .left)
 

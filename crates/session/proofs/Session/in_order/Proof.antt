@@ -6,15 +6,12 @@ use Rattle.session.proofs.Session.in_order.Reads as reads
 use Rattle.session.proofs.Session.in_order.Lts as lts
 use Rattle.session.proofs.place_below.Reads as place-below-reads
 
--- src/lib.rt:105:44
 place-below-requires : tie.Need-place-below-requires
 place-below-requires c κs = search needs
 
--- src/lib.rt:99:5
 returns : tie.Need-returns
 returns c = order-yes (c .before .before .before .before .args .self) (c .place-below .result) (c .before .before .if1 .taken) (c .place-below .ensures)
 
--- src/lib.rt:99:5
 returns-2 : tie.Need-returns-2
 returns-2 c = order-no (c .before .before .args .self) (c .if1 .left)
 

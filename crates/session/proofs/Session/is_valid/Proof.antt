@@ -7,15 +7,12 @@ use Rattle.session.proofs.Session.is_valid.Lts as lts
 use Rattle.envelope.proofs.AutomationEnvelope.is_valid.Reads as is-valid-reads
 use Rattle.session.proofs.Session.in_order.Reads as in-order-reads
 
--- src/lib.rt:115:9
 is-valid-requires : tie.Need-is-valid-requires
 is-valid-requires c κs = search needs
 
--- src/lib.rt:115:31
 in-order-requires : tie.Need-in-order-requires
 in-order-requires c κs = search needs
 
--- src/lib.rt:111:5
 returns : tie.Need-returns
 returns c = λ i. c .before .is-valid .ensures i && c .in-order .ensures i
 

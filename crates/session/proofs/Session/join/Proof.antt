@@ -20,15 +20,12 @@ use Rattle.session.proofs.Session.refuse.Reads as refuse-reads
 use Rattle.session.proofs.Session.refuse_length.Reads as refuse-length-reads
 use Rattle.session.proofs.Session.settle.Reads as settle-reads
 
--- src/lib.rt:205:12
 in-order-requires : tie.Need-in-order-requires
 in-order-requires c κs = search needs
 
--- src/lib.rt:207:29
 join-requires : tie.Need-join-requires
 join-requires c κs = search needs
 
--- src/lib.rt:207:17
 settle-requires : tie.Need-settle-requires
 settle-requires c κs =
     let a = c .before .before .before .before .before .before .before .before .args in (
@@ -40,27 +37,21 @@ settle-requires c κs =
       ),
     )
 
--- src/lib.rt:209:36
 is-valid-requires : tie.Need-is-valid-requires
 is-valid-requires c κs = search needs
 
--- src/lib.rt:209:58
 is-valid-requires-2 : tie.Need-is-valid-requires-2
 is-valid-requires-2 c κs = search needs
 
--- src/lib.rt:209:17
 refuse-length-requires : tie.Need-refuse-length-requires
 refuse-length-requires c κs = search needs
 
--- src/lib.rt:212:13
 refuse-requires : tie.Need-refuse-requires
 refuse-requires c κs = search needs
 
--- src/lib.rt:201:5
 same-length : tie.Need-same-length
 same-length c = search needs
 
--- src/lib.rt:201:5
 returns : tie.Need-returns
 returns c =
     let a = c .before .before .before .before .before .before .before .before .before .before .before .args in
@@ -69,7 +60,6 @@ returns c =
     ∙ edit-own (validEnvelope (a .other)) (joinOf (a .join) (a .self .envelope) (a .other)) (a .self) (now (a .memory)) (λ h. join-one (a .join) (a .self .envelope) (a .other) h)
     (sym (c .before .before .before .before .before .before .before .before .in-order .ensures) ∙ c .before .before .before .before .before .before .before .if1 .taken) (c .before .before .before .before .before .if2 .taken)
 
--- src/lib.rt:201:5
 returns-2 : tie.Need-returns-2
 returns-2 c =
     let a = c .before .before .before .before .before .before .before .before .before .args in
@@ -77,7 +67,6 @@ returns-2 c =
     ∙ edit-length (validEnvelope (a .other)) (joinOf (a .join) (a .self .envelope) (a .other)) (a .self) (now (a .memory)) (c .before .before .is-valid .result && c .before .is-valid2 .result) (sym (c .before .before .before .before .before .before .in-order .ensures) ∙ c .before .before .before .before .before .if1 .taken) (c .before .before .before .if2 .left)
     (λ i. c .before .before .is-valid .ensures i && c .before .is-valid2 .ensures i)
 
--- src/lib.rt:201:5
 returns-3 : tie.Need-returns-3
 returns-3 c =
     let a = c .before .before .before .before .before .args in

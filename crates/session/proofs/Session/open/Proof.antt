@@ -10,11 +10,9 @@ use Rattle.session.proofs.Session.open.Reads as reads
 use Rattle.session.proofs.Session.open.Lts as lts
 use Rattle.envelope.proofs.AutomationEnvelope.new.Reads as new-reads
 
--- src/lib.rt:88:13
 new-requires : tie.Need-new-requires
 new-requires c κs = search needs
 
--- src/lib.rt:85:5
 returns : tie.Need-returns
 unfolding openSession
 returns c = ap (λ (e : AutomationEnvelope). opened e (length (now (c .before .before .args .memory)))) (c .new .ensures)

@@ -9,19 +9,15 @@ use Rattle.session.proofs.Session.refuse_length.Reads as reads
 use Rattle.session.proofs.Session.refuse_length.Lts as lts
 use Rattle.session.proofs.Session.refuse.Reads as refuse-reads
 
--- src/lib.rt:151:13
 refuse-requires : tie.Need-refuse-requires
 refuse-requires c κs = search needs
 
--- src/lib.rt:153:13
 refuse-requires-2 : tie.Need-refuse-requires-2
 refuse-requires-2 c κs = search needs
 
--- src/lib.rt:147:5
 returns : tie.Need-returns
 returns c = c .refuse .ensures ∙ ap (λ (b : Bool). refusedBy (c .before .before .args .self) (cond b MemoryLength NotValid)) (sym (c .before .if1 .taken))
 
--- src/lib.rt:147:5
 returns-2 : tie.Need-returns-2
 returns-2 c = c .refuse2 .ensures ∙ ap (λ (b : Bool). refusedBy (c .before .before .args .self) (cond b MemoryLength NotValid)) (sym (c .before .if1 .left))
 

@@ -10,25 +10,20 @@ use Rattle.session.proofs.Session.render.Lts as lts
 use Rattle.envelope.proofs.AutomationEnvelope.render.Reads as render-reads
 use Rattle.session.proofs.Session.in_order.Reads as in-order-reads
 
--- src/play.rt:39:12
 in-order-requires : tie.Need-in-order-requires
 in-order-requires c κs = search needs
 
--- src/play.rt:41:13
 render-requires : tie.Need-render-requires
 render-requires c κs = search needs
 
--- src/play.rt:35:5
 same-length : tie.Need-same-length
 same-length c = search needs
 
--- src/play.rt:35:5
 returns : tie.Need-returns
 returns c =
     let a = c .before .before .before .before .before .before .before .before .args in
     answers {x = renderOf (a .self .envelope) (a .rate) (a .first) (a .count) (a .place) (now (a .out))} (c .before .before .render .ensures .0) (c .before .before .render .ensures .1) (render-own (a .self) (a .rate) (a .first) (a .count) (a .place) (now (a .out)) (sym (c .before .before .before .before .before .before .in-order .ensures) ∙ c .before .before .before .before .before .if1 .taken))
 
--- src/play.rt:35:5
 returns-2 : tie.Need-returns-2
 returns-2 c =
     let a = c .before .before .before .args in

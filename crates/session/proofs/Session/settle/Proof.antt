@@ -13,58 +13,46 @@ use Rattle.session.proofs.one_more.Reads as one-more-reads
 use Rattle.session.proofs.slot_after.Reads as slot-after-reads
 use Rattle.session.proofs.store.Reads as store-reads
 
--- src/lib.rt:166:29
 enum-told : tie.Need-enum-told
 enum-told c = search needs
 
--- src/lib.rt:168:21
 slot-after-requires : tie.Need-slot-after-requires
 slot-after-requires c κs = in-order (c .before .before .before .before .args .self) (c .before .before .before .before .pre .0) .at-most
 
--- src/lib.rt:169:21
 one-more-requires : tie.Need-one-more-requires
 one-more-requires c κs = search needs
 
--- src/lib.rt:172:21
 moved-requires : tie.Need-moved-requires
 moved-requires c κs = search needs
 
--- src/lib.rt:175:21
 store-requires : tie.Need-store-requires
 store-requires c κs =
     let o = in-order (c .before .before .before .before .before .before .before .before .before .before .args .self) (c .before .before .before .before .before .before .before .before .before .before .pre .0) in
     let l = o .below (omega (arith, c .before .before .if1 .left)) in
     (omega (arith, c .before .before .before .before .before .before .before .before .before .before .pre .1 .0), c .before .before .before .before .before .before .before .before .before .before .pre .1 .1 (c .before .before .before .before .before .before .before .enum-told .given .1))
 
--- src/lib.rt:176:21
 moved-requires-2 : tie.Need-moved-requires-2
 moved-requires-2 c κs = search needs
 
--- src/lib.rt:179:29
 enum-known-answer : tie.Need-enum-known-answer
 enum-known-answer c = search needs
 
--- src/lib.rt:179:41
 refuse-requires : tie.Need-refuse-requires
 refuse-requires c κs = search needs
 
--- src/lib.rt:158:5
 returns : tie.Need-returns
 returns c =
     let a = c .before .before .before .before .before .before .before .before .before .args in
     settle-none (a .self) (now (a .memory)) (a .r) _ _ _ _ (c .moved .ensures) (c .before .before .before .before .before .before .enum-told .given .1) (c .before .before .before .before .slot-after .ensures) (c .before .before .before .one-more .ensures) (c .before .if1 .taken) refl
 
--- src/lib.rt:158:5
 same-length : tie.Need-same-length
 same-length c = search needs
 
--- src/lib.rt:158:5
 returns-2 : tie.Need-returns-2
 returns-2 c =
     let a = c .before .before .before .before .before .before .before .before .before .before .before .before .before .before .args in
     settle-put (a .self) (now (a .memory)) (a .r) _ _ _ _ (c .moved2 .ensures) (c .before .before .before .before .before .before .before .before .before .before .before .enum-told .given .1) (c .before .before .before .before .before .before .before .before .before .slot-after .ensures) (c .before .before .before .before .before .before .before .before .one-more .ensures) (c .before .before .before .before .before .before .if1 .left) (c .before .before .before .store .ensures)
 
--- src/lib.rt:158:5
 returns-3 : tie.Need-returns-3
 returns-3 c =
     let a = c .before .before .before .before .before .args in

@@ -10,45 +10,35 @@ use Rattle.session.proofs.Session.refuse.Reads as refuse-reads
 use Rattle.session.proofs.load.Reads as load-reads
 use Rattle.session.proofs.store.Reads as store-reads
 
--- src/lib.rt:213:13
 load-requires : tie.Need-load-requires
 load-requires c κs = search needs
 
--- src/lib.rt:217:21
 enum-told : tie.Need-enum-told
 enum-told c = search needs
 
--- src/lib.rt:219:17
 store-requires : tie.Need-store-requires
 store-requires c κs = search needs
 
--- src/lib.rt:220:17
 moved-requires : tie.Need-moved-requires
 moved-requires c κs = search needs
 
--- src/lib.rt:222:47
 enum-told-2 : tie.Need-enum-told-2
 enum-told-2 c = search needs
 
--- src/lib.rt:222:35
 refuse-requires : tie.Need-refuse-requires
 refuse-requires c κs = search needs
 
--- src/lib.rt:202:5
 same-length : tie.Need-same-length
 same-length c = search needs
 
--- src/lib.rt:202:5
 returns : tie.Need-returns
 returns c =
     let a = c .before .before .before .before .before .before .before .before .before .before .before .before .args in
     step-done (a .self) (now (a .memory)) (a .slot) (a .at) (a .kept) (a .ahead) (c .before .before .before .before .before .before .before .before .before .load .result) _ _ (c .moved .ensures) (c .before .before .before .before .before .before .before .before .before .load .ensures) (c .before .before .before .before .before .before .before .enum-told .given .1) (c .before .before .before .store .ensures)
 
--- src/lib.rt:202:5
 same-length-2 : tie.Need-same-length-2
 same-length-2 c = search needs
 
--- src/lib.rt:202:5
 returns-2 : tie.Need-returns-2
 returns-2 c =
     let a = c .before .before .before .before .before .before .args in

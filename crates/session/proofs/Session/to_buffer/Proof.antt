@@ -10,25 +10,20 @@ use Rattle.session.proofs.Session.to_buffer.Lts as lts
 use Rattle.envelope.proofs.AutomationEnvelope.to_buffer.Reads as to-buffer-reads
 use Rattle.session.proofs.Session.in_order.Reads as in-order-reads
 
--- src/play.rt:52:12
 in-order-requires : tie.Need-in-order-requires
 in-order-requires c κs = search needs
 
--- src/play.rt:54:13
 to-buffer-requires : tie.Need-to-buffer-requires
 to-buffer-requires c κs = search needs
 
--- src/play.rt:48:5
 same-length : tie.Need-same-length
 same-length c = search needs
 
--- src/play.rt:48:5
 returns : tie.Need-returns
 returns c =
     let a = c .before .before .before .before .before .before .before .before .args in
     answers {x = toBufferOf (a .self .envelope) (a .rate) (a .duration) (a .place) (now (a .out))} (c .before .before .to-buffer .ensures .0) (c .before .before .to-buffer .ensures .1) (buffer-own (a .self) (a .rate) (a .duration) (a .place) (now (a .out)) (sym (c .before .before .before .before .before .before .in-order .ensures) ∙ c .before .before .before .before .before .if1 .taken))
 
--- src/play.rt:48:5
 returns-2 : tie.Need-returns-2
 returns-2 c =
     let a = c .before .before .before .args in

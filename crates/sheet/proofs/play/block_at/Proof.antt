@@ -15,53 +15,41 @@ use Rattle.sheet.proofs.play.block_at.Lts as lts
 use Rattle.lines.proofs.block.block_line.Reads as block-line-reads
 use Rattle.sheet.proofs.play.no_input.Reads as no-input-reads
 
--- src/play.rt:44:17
 add-line : tie.Need-add-line
 add-line c = search needs
 
--- src/play.rt:44:16
 cast-line : tie.Need-cast-line
 cast-line c = search needs
 
--- src/play.rt:45:39
 add-block-line : tie.Need-add-block-line
 add-block-line c = omega (arith, starts-with-length blockNames (c .before .before .before .args .s .now) (c .before .before .before .args .at) (c .before .before .before .pre .1) (omega arith), c .before .before .before .good)
 
--- src/play.rt:45:11
 block-line-requires : tie.Need-block-line-requires
 block-line-requires c κs = search needs
 
--- src/play.rt:46:28
 enum-known-refusal : tie.Need-enum-known-refusal
 enum-known-refusal c = search needs
 
--- src/play.rt:46:40
 no-input-requires : tie.Need-no-input-requires
 no-input-requires c κs = search needs
 
--- src/play.rt:47:23
 enum-known-block : tie.Need-enum-known-block
 enum-known-block c = search needs
 
--- src/play.rt:49:53
 add-no-input : tie.Need-add-no-input
 add-no-input c = search needs
 
--- src/play.rt:49:17
 no-input-requires-2 : tie.Need-no-input-requires-2
 no-input-requires-2 c κs = search needs
 
--- src/play.rt:49:17
 returns : tie.Need-returns
 unfolding toldBlockLine
 returns c = rw (drop-drop 14 (c .before .before .before .before .before .before .before .before .before .args .at) (c .before .before .before .before .before .before .before .before .before .args .s .now), told (toldBlockLine _) (c .before .before .before .before .before .block-line .ensures .0) (c .before .before .before .block .given .1), empty-in (c .before .before .before .before .before .before .before .before .before .args .s .now) (c .before .before .before .block .given .0 .1 .0) (c .before .if1 .taken)) (c .no-input2 .ensures)
 
--- src/play.rt:39:1
 returns-2 : tie.Need-returns-2
 unfolding toldBlockLine
 returns-2 c = rw (drop-drop 14 (c .before .before .before .before .before .before .before .before .args .at) (c .before .before .before .before .before .before .before .before .args .s .now), told (toldBlockLine _) (c .before .before .before .before .block-line .ensures .0) (c .before .before .refusal .given .1)) (c .no-input .ensures)
 
--- src/play.rt:39:1
 returns-3 : tie.Need-returns-3
 unfolding toldBlockLine toldInput
 returns-3 c = rw (drop-drop 14 (c .before .before .before .before .before .before .before .before .args .at) (c .before .before .before .before .before .before .before .before .args .s .now), told (toldBlockLine _) (c .before .before .before .before .block-line .ensures .0) (c .before .before .block .given .1), empty-out (c .before .before .before .before .before .before .before .before .args .s .now) (c .before .before .block .given .0 .1 .0) (c .if1 .left)) (refl, refl)

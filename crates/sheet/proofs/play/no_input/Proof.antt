@@ -8,11 +8,9 @@ use Rattle.sheet.proofs.play.no_input.Reads as reads
 use Rattle.sheet.proofs.play.no_input.Lts as lts
 use Rattle.envelope.proofs.AutomationEnvelope.new.Reads as new-reads
 
--- src/play.rt:76:9
 new-requires : tie.Need-new-requires
 new-requires c κs = search needs
 
--- src/play.rt:73:1
 returns : tie.Need-returns
 unfolding toldInput ofBits
 returns c = (refl, rw (c .new .ensures))

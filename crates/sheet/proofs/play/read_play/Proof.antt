@@ -13,34 +13,27 @@ use Rattle.sheet.proofs.play.block_at.Reads as block-at-reads
 use Rattle.sheet.proofs.play.no_input.Reads as no-input-reads
 use Rattle.sheet.proofs.read.sheet_lines.Reads as sheet-lines-reads
 
--- src/play.rt:65:9
 sheet-lines-requires : tie.Need-sheet-lines-requires
 sheet-lines-requires c κs = search needs
 
--- src/play.rt:68:25
 enum-known-answer : tie.Need-enum-known-answer
 enum-known-answer c = search needs
 
--- src/play.rt:68:37
 no-input-requires : tie.Need-no-input-requires
 no-input-requires c κs = search needs
 
--- src/play.rt:70:17
 enum-told : tie.Need-enum-told
 enum-told c = search needs
 
--- src/play.rt:71:13
 block-at-requires : tie.Need-block-at-requires
 unfolding pointsEnd
 block-at-requires c κs = let w = sheet-read true _ _ _ (accepted-lines _ _ (c .before .before .before .sheet-lines .ensures) (c .before .enum-told .given .1)) in
     (few (c .before .before .before .sheet-lines .result .envelope) (w .valid), w .end)
 
--- src/play.rt:62:1
 returns : tie.Need-returns
 unfolding playInput
 returns c = rw (refused-lines _ _ (c .before .before .before .before .sheet-lines .ensures) (c .before .before .answer .given .1)) (c .no-input .ensures)
 
--- src/play.rt:62:1
 returns-2 : tie.Need-returns-2
 unfolding playInput
 returns-2 c = rw (accepted-lines _ _ (c .before .before .before .before .sheet-lines .ensures) (c .before .before .enum-told .given .1)) (c .block-at .ensures)

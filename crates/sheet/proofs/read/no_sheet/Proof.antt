@@ -7,11 +7,9 @@ use Rattle.sheet.proofs.read.no_sheet.Reads as reads
 use Rattle.sheet.proofs.read.no_sheet.Lts as lts
 use Rattle.envelope.proofs.AutomationEnvelope.new.Reads as new-reads
 
--- src/read.rt:112:9
 new-requires : tie.Need-new-requires
 new-requires c κs = search needs
 
--- src/read.rt:109:1
 returns : tie.Need-returns
 unfolding toldSheetLines
 returns c = λ s. refl

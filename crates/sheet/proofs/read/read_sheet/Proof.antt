@@ -10,28 +10,22 @@ use Rattle.sheet.proofs.read.read_sheet.Lts as lts
 use Rattle.envelope.proofs.AutomationEnvelope.new.Reads as new-reads
 use Rattle.sheet.proofs.read.sheet_lines.Reads as sheet-lines-reads
 
--- src/read.rt:97:9
 sheet-lines-requires : tie.Need-sheet-lines-requires
 sheet-lines-requires c κs = search needs
 
--- src/read.rt:100:25
 enum-known-answer : tie.Need-enum-known-answer
 enum-known-answer c = search needs
 
--- src/read.rt:101:17
 new-requires : tie.Need-new-requires
 new-requires c κs = search needs
 
--- src/read.rt:108:17
 enum-told : tie.Need-enum-told
 enum-told c = search needs
 
--- src/read.rt:93:1
 returns : tie.Need-returns
 unfolding readSheet toldRead
 returns c = rw (refused-lines _ _ (c .before .before .before .before .sheet-lines .ensures) (c .before .before .answer .given .1), c .new .ensures) (refl, refl)
 
--- src/read.rt:93:1
 returns-2 : tie.Need-returns-2
 unfolding readSheet toldRead
 returns-2 c = rw (accepted-lines _ _ (c .before .before .before .sheet-lines .ensures) (c .before .enum-told .given .1)) (refl, refl)

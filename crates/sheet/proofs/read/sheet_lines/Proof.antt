@@ -21,74 +21,57 @@ use Rattle.lines.proofs.settings.settings_line.Reads as settings-line-reads
 use Rattle.sheet.proofs.read.no_sheet.Reads as no-sheet-reads
 use Rattle.sheet.proofs.read.with_settings.Reads as with-settings-reads
 
--- src/read.rt:76:42
 slice-aggregate-starts-with : tie.Need-slice-aggregate-starts-with
 slice-aggregate-starts-with c = search needs
 
--- src/read.rt:76:9
 starts-with-requires : tie.Need-starts-with-requires
 starts-with-requires c κs = search needs
 
--- src/read.rt:77:9
 no-sheet-requires : tie.Need-no-sheet-requires
 no-sheet-requires c κs = search needs
 
--- src/read.rt:77:9
 returns : tie.Need-returns
 unfolding sheetLines
 returns c = rw (sym (c .before .before .starts-with .ensures) ∙ not-true _ (c .before .if1 .taken)) (c .no-sheet .ensures _)
 
--- src/read.rt:79:11
 settings-line-requires : tie.Need-settings-line-requires
 settings-line-requires c κs = search needs
 
--- src/read.rt:80:31
 enum-known-refusal : tie.Need-enum-known-refusal
 enum-known-refusal c = search needs
 
--- src/read.rt:80:43
 no-sheet-requires-2 : tie.Need-no-sheet-requires-2
 no-sheet-requires-2 c κs = search needs
 
--- src/read.rt:81:26
 enum-known-settings : tie.Need-enum-known-settings
 enum-known-settings c = search needs
 
--- src/read.rt:82:51
 slice-aggregate-starts-with-2 : tie.Need-slice-aggregate-starts-with-2
 slice-aggregate-starts-with-2 c = search needs
 
--- src/read.rt:82:17
 starts-with-requires-2 : tie.Need-starts-with-requires-2
 starts-with-requires-2 c κs = search needs
 
--- src/read.rt:83:17
 no-sheet-requires-3 : tie.Need-no-sheet-requires-3
 no-sheet-requires-3 c κs = search needs
 
--- src/read.rt:83:17
 returns-2 : tie.Need-returns-2
 unfolding sheetLines toldSettingsLine
 returns-2 c = rw (sym (c .before .before .before .before .before .before .before .before .before .starts-with .ensures) ∙ not-false _ (c .before .before .before .before .before .before .before .before .if1 .left), told (toldSettingsLine _) (c .before .before .before .before .before .before .before .settings-line .ensures .0) (c .before .before .before .before .before .settings .given .1), sym (c .before .before .starts-with2 .ensures) ∙ not-true _ (c .before .if2 .taken)) (c .no-sheet3 .ensures _)
 
--- src/read.rt:87:52
 add-point-lines : tie.Need-add-point-lines
 add-point-lines c = omega (arith, starts-with-length pointNames (c .before .before .before .before .before .before .before .before .before .before .before .args .s .now) (c .before .before .before .before .settings .given .0 .1 .0) (sym (c .before .starts-with2 .ensures) ∙ not-false _ (c .if2 .left)) (omega arith), c .before .before .before .before .before .before .before .before .before .before .before .good)
 
--- src/read.rt:87:17
 point-lines-requires : tie.Need-point-lines-requires
 point-lines-requires c κs = search needs
 
--- src/read.rt:85:13
 with-settings-requires : tie.Need-with-settings-requires
 with-settings-requires c κs = search needs
 
--- src/read.rt:73:1
 returns-3 : tie.Need-returns-3
 unfolding sheetLines toldSettingsLine
 returns-3 c = rw (sym (c .before .before .before .before .before .before .starts-with .ensures) ∙ not-false _ (c .before .before .before .before .before .if1 .left), told (toldSettingsLine _) (c .before .before .before .before .settings-line .ensures .0) (c .before .before .refusal .given .1)) (c .no-sheet2 .ensures _)
 
--- src/read.rt:73:1
 returns-4 : tie.Need-returns-4
 unfolding sheetLines toldSettingsLine
 returns-4 c = rw (sym (c .before .before .before .before .before .before .before .before .before .before .starts-with .ensures) ∙ not-false _ (c .before .before .before .before .before .before .before .before .before .if1 .left), told (toldSettingsLine _) (c .before .before .before .before .before .before .before .before .settings-line .ensures .0) (c .before .before .before .before .before .before .settings .given .1), sym (c .before .before .before .starts-with2 .ensures) ∙ not-false _ (c .before .before .if2 .left)) (c .with-settings .ensures _ ∙ ap (λ (x : Lines Points). withSettings (c .before .before .before .before .before .before .settings .given .0 .0) x) (c .before .point-lines .ensures .0 ∙ ap (λ (l : List ℕ). pointLines (c .before .before .before .before .before .before .before .before .before .before .before .before .before .args .program) 256 [] l) (sym (drop-drop 34 (c .before .before .before .before .before .before .settings .given .0 .1 .0) (c .before .before .before .before .before .before .before .before .before .before .before .before .before .args .s .now)))))

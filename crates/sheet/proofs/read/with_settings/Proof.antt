@@ -6,7 +6,6 @@ use Rattle.sheet.proofs.read.with_settings.Tie as tie
 use Rattle.sheet.proofs.read.with_settings.Reads as reads
 use Rattle.sheet.proofs.read.with_settings.Lts as lts
 
--- src/read.rt:49:1
 returns : tie.Need-returns
 unfolding toldPointLines toldSheetLines
 returns c = λ s. with-settings (c .before .args .r .answer) _ _ _ _

@@ -5,11 +5,9 @@ use Rattle.sheet.proofs.write.controls_length.Tie as tie
 use Rattle.sheet.proofs.write.controls_length.Reads as reads
 use Rattle.sheet.proofs.write.controls_length.Lts as lts
 
--- src/write.rt:221:1
 returns : tie.Need-returns
 returns c = sym (five-length (c .before .args .code) 0 0 (c .if1 .taken))
 
--- src/write.rt:221:1
 returns-2 : tie.Need-returns-2
 returns-2 c = sym (other-length (c .before .args .code) 0 0 (c .if1 .left))
 

@@ -8,27 +8,21 @@ use Rattle.sheet.proofs.write.limit_bits.Tie as tie
 use Rattle.sheet.proofs.write.limit_bits.Reads as reads
 use Rattle.sheet.proofs.write.limit_bits.Lts as lts
 
--- src/write.rt:150:24
 enum-told : tie.Need-enum-told
 enum-told c = search needs
 
--- src/write.rt:151:23
 enum-known-p : tie.Need-enum-known-p
 enum-known-p c = search needs
 
--- src/write.rt:151:44
 float-to-bits-t4 : tie.Need-float-to-bits-t4
 float-to-bits-t4 c = number-no-nan _ (rw (c .before .p .given .1) at (c .before .before .before .pre))
 
--- src/write.rt:151:44
 cast-t5 : tie.Need-cast-t5
 cast-t5 c = omega (arith, toBits-lt binary32 (c .before .p .given .0 .0) (search needs))
 
--- src/write.rt:145:1
 returns : tie.Need-returns
 returns c = search needs
 
--- src/write.rt:145:1
 returns-2 : tie.Need-returns-2
 returns-2 c = rw (c .before .p .given .1)
 

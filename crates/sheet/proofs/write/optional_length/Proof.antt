@@ -6,23 +6,18 @@ use Rattle.sheet.proofs.write.optional_length.Tie as tie
 use Rattle.sheet.proofs.write.optional_length.Reads as reads
 use Rattle.sheet.proofs.write.optional_length.Lts as lts
 
--- src/write.rt:208:27
 enum-told : tie.Need-enum-told
 enum-told c = search needs
 
--- src/write.rt:209:30
 enum-told-2 : tie.Need-enum-told-2
 enum-told-2 c = search needs
 
--- src/write.rt:209:30
 add-result : tie.Need-add-result
 add-result c = search needs
 
--- src/write.rt:203:1
 returns : tie.Need-returns
 returns c = sym (none-length (c .before .before .args .width) 0 (c .enum-told .given .1))
 
--- src/write.rt:203:1
 returns-2 : tie.Need-returns-2
 returns-2 c = sym (some-length (c .before .before .args .width) 0 _ (c .enum-told2 .given .1))
 

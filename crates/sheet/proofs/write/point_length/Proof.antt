@@ -10,23 +10,18 @@ use Rattle.sheet.proofs.write.point_length.Lts as lts
 use Rattle.sheet.proofs.write.controls_length.Reads as controls-length-reads
 use Rattle.sheet.proofs.write.optional_length.Reads as optional-length-reads
 
--- src/write.rt:231:10
 optional-length-requires : tie.Need-optional-length-requires
 optional-length-requires c κs = search needs
 
--- src/write.rt:231:5
 add-result : tie.Need-add-result
 add-result c = omega (arith, c .optional-length .ensures, length-le 16 0 (c .before .args .r .position))
 
--- src/write.rt:231:42
 controls-length-requires : tie.Need-controls-length-requires
 controls-length-requires c κs = search needs
 
--- src/write.rt:231:5
 add-result-2 : tie.Need-add-result-2
 add-result-2 c = omega (arith, c .before .optional-length .ensures, length-le 16 0 (c .before .before .args .r .position), c .controls-length .ensures, controls-le (c .before .before .args .r .curve) 0 0)
 
--- src/write.rt:227:1
 returns : tie.Need-returns
 returns c = omega (arith, c .before .optional-length .ensures, c .controls-length .ensures, point-length (c .before .before .args .r))
 

@@ -24,50 +24,39 @@ Inv-loop points n total₀ i₀ total i = (i ≤ n) × (total ≡ length (pointT
 abbrev μ-loop : tie.MeasureT-loop
 μ-loop points n total₀ i₀ total i = n - i
 
--- src/write.rt:234:9
 used-requires : tie.Need-used-requires Inv-loop μ-loop
 used-requires c κs = tt
 
--- src/write.rt:237:5
 loop-holds : tie.Need-loop-holds Inv-loop μ-loop
 unfolding pointTexts
 loop-holds c = (omega arith, refl, omega arith)
 
--- src/write.rt:238:17
 mul-p : tie.Need-mul-p Inv-loop μ-loop
 mul-p c = omega (arith, c .before .before .used .ensures)
 
--- src/write.rt:238:17
 element-copy-out-p : tie.Need-element-copy-out-p Inv-loop μ-loop
 element-copy-out-p c = omega (arith, c .before .before .used .ensures)
 
--- src/write.rt:239:31
 raw-point-requires : tie.Need-raw-point-requires Inv-loop μ-loop
 raw-point-requires c κs = every-at finitePoint (c .before .before .before .before .args .t1 .places) (c .before .before .before .before .args .t1 .count) (c .before .before .loop .i) anyPoint (c .before .before .before .before .pre) (omega (arith, c .before .before .before .used .ensures)) (let len = places (c .before .before .before .before .args .t1) _ (c .before .before .before .before .good .0) in omega (arith, c .before .before .before .used .ensures))
 
--- src/write.rt:239:18
 point-length-requires : tie.Need-point-length-requires Inv-loop μ-loop
 point-length-requires c κs = tt
 
--- src/write.rt:239:9
 add-total : tie.Need-add-total Inv-loop μ-loop
 add-total c = omega (arith, c .before .before .before .before .before .used .ensures, c .point-length .ensures, point-le (c .before .raw-point .result))
 
--- src/write.rt:240:9
 add-i : tie.Need-add-i Inv-loop μ-loop
 add-i c = omega (arith, c .before .before .before .before .before .used .ensures)
 
--- src/write.rt:237:5
 loop-less : tie.Need-loop-less Inv-loop μ-loop
 loop-less c = omega arith
 
--- src/write.rt:237:5
 loop-again : tie.Need-loop-again Inv-loop μ-loop
 loop-again c = let len = places (c .before .before .before .before .before .before .args .t1) _ (c .before .before .before .before .before .before .good .0) in
     let e = texts-more (c .before .before .before .before .before .before .args .t1 .places) (c .before .before .before .before .loop .i) anyPoint (omega (arith, c .before .before .before .before .before .used .ensures)) in
     (omega arith, omega (arith, ap length e, length-append (pointTexts (take (c .before .before .before .before .loop .i) (c .before .before .before .before .before .before .args .t1 .places))) (pointText (rawPoint (getD (c .before .before .before .before .before .before .args .t1 .places) (c .before .before .before .before .loop .i) anyPoint))), c .point-length .ensures ∙ ap (λ (r : RawPoint). length (pointText r)) (c .before .raw-point .ensures)), omega (arith, c .point-length .ensures, point-le (c .before .raw-point .result)))
 
--- src/write.rt:230:1
 returns : tie.Need-returns Inv-loop μ-loop
 returns c = let at : c .before .loop .i ≡ c .before .before .used .result = omega arith in
     c .before .loop .inv .1 ∙ ap (λ (l : List AutomationPoint). length (pointTexts l)) (ap (λ (k : ℕ). take k (c .before .before .before .args .t1 .places)) (at ∙ c .before .before .used .ensures) ∙ take-min (c .before .before .before .args .t1 .count) (c .before .before .before .args .t1 .places) 256 (places (c .before .before .before .args .t1) _ (c .before .before .before .good .0)))

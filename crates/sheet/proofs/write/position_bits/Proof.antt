@@ -4,19 +4,15 @@ use Rattle.sheet.proofs.write.position_bits.Tie as tie
 use Rattle.sheet.proofs.write.position_bits.Reads as reads
 use Rattle.sheet.proofs.write.position_bits.Lts as lts
 
--- src/write.rt:178:33
 enum-told : tie.Need-enum-told
 enum-told c = search needs
 
--- src/write.rt:179:28
 enum-known-p : tie.Need-enum-known-p
 enum-known-p c = search needs
 
--- src/write.rt:174:1
 returns : tie.Need-returns
 returns c = search needs
 
--- src/write.rt:174:1
 returns-2 : tie.Need-returns-2
 returns-2 c = rw (c .before .p .given .1)
 

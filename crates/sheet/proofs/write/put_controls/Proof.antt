@@ -14,35 +14,27 @@ use Rattle.sheet.proofs.write.put_controls.Lts as lts
 use Rattle.fields.proofs.write.fit_bits.Reads as fit-bits-reads
 use Rattle.fields.proofs.write.fit_text.Reads as fit-text-reads
 
--- src/write.rt:35:13
 fit-bits-requires : tie.Need-fit-bits-requires
 fit-bits-requires c κs = search needs
 
--- src/write.rt:36:9
 fit-bits-requires-2 : tie.Need-fit-bits-requires-2
 fit-bits-requires-2 c κs = search needs
 
--- src/write.rt:38:48
 slice-aggregate-fit-text : tie.Need-slice-aggregate-fit-text
 slice-aggregate-fit-text c = search needs
 
--- src/write.rt:38:9
 fit-text-requires : tie.Need-fit-text-requires
 fit-text-requires c κs = search needs
 
--- src/write.rt:30:1
 same-length : tie.Need-same-length
 same-length c = search needs
 
--- src/write.rt:30:1
 returns : tie.Need-returns
 returns c = let h = subst (λ (l : List ℕ). c .before .before .before .before .before .before .before .before .before .before .args .at + length l ≤ length (c .before .before .before .before .before .before .before .before .before .before .args .out .now)) (sym (controls-five (c .before .before .before .before .before .before .before .before .before .before .args .code) (c .before .before .before .before .before .before .before .before .before .before .args .cp1) (c .before .before .before .before .before .before .before .before .before .before .args .cp2) (c .before .before .before .before .before .before .before .before .if1 .taken))) (c .before .before .before .before .before .before .before .before .before .before .pre) in subst (λ (l : List ℕ). Put (c .before .before .before .before .before .before .before .before .before .before .args .out .now) (c .before .before .before .before .before .before .before .before .before .before .args .at) l (c .before .before .fit-bits2 .last .0) (c .before .before .fit-bits2 .result)) (controls-five (c .before .before .before .before .before .before .before .before .before .before .args .code) (c .before .before .before .before .before .before .before .before .before .before .args .cp1) (c .before .before .before .before .before .before .before .before .before .before .args .cp2) (c .before .before .before .before .before .before .before .before .if1 .taken)) (fit-then (c .before .before .before .before .before .before .fit-bits .ensures) (numberText 16 8 10 (c .before .before .before .before .before .before .before .before .before .before .args .cp2)) h (put-fits (c .before .before .fit-bits2 .ensures) (room-after (c .before .before .before .before .before .before .fit-bits .ensures) (numberText 16 8 10 (c .before .before .before .before .before .before .before .before .before .before .args .cp2)) h)))
 
--- src/write.rt:30:1
 same-length-2 : tie.Need-same-length-2
 same-length-2 c = search needs
 
--- src/write.rt:30:1
 returns-2 : tie.Need-returns-2
 returns-2 c = let h = subst (λ (l : List ℕ). c .before .before .before .before .before .before .before .args .at + length l ≤ length (c .before .before .before .before .before .before .before .args .out .now)) (sym (controls-other (c .before .before .before .before .before .before .before .args .code) (c .before .before .before .before .before .before .before .args .cp1) (c .before .before .before .before .before .before .before .args .cp2) (c .before .before .before .before .before .if1 .left))) (c .before .before .before .before .before .before .before .pre) in subst (λ (l : List ℕ). Put (c .before .before .before .before .before .before .before .args .out .now) (c .before .before .before .before .before .before .before .args .at) l (c .before .before .fit-text .last .0) (c .before .before .fit-text .result)) (controls-other (c .before .before .before .before .before .before .before .args .code) (c .before .before .before .before .before .before .before .args .cp1) (c .before .before .before .before .before .before .before .args .cp2) (c .before .before .before .before .before .if1 .left)) (put-fits (c .before .before .fit-text .ensures) h)
 

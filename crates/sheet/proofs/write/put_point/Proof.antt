@@ -11,36 +11,28 @@ use Rattle.fields.proofs.write.fit_hex.Reads as fit-hex-reads
 use Rattle.fields.proofs.write.fit_optional.Reads as fit-optional-reads
 use Rattle.sheet.proofs.write.put_controls.Reads as put-controls-reads
 
--- src/write.rt:48:9
 fit-hex-requires : tie.Need-fit-hex-requires
 fit-hex-requires c κs = search needs
 
--- src/write.rt:49:9
 fit-optional-requires : tie.Need-fit-optional-requires
 fit-optional-requires c κs = search needs
 
--- src/write.rt:50:9
 fit-bits-requires : tie.Need-fit-bits-requires
 fit-bits-requires c κs = search needs
 
--- src/write.rt:51:53
 cast-fit-digits : tie.Need-cast-fit-digits
 cast-fit-digits c = search needs
 
--- src/write.rt:51:9
 fit-digits-requires : tie.Need-fit-digits-requires
 fit-digits-requires c κs = search needs
 
--- src/write.rt:52:5
 put-controls-requires : tie.Need-put-controls-requires
 unfolding pointText
 put-controls-requires c κs = fifth-room (controlsText (c .before .before .before .before .before .before .before .before .before .before .before .before .before .before .before .before .before .before .before .args .r .curve) (c .before .before .before .before .before .before .before .before .before .before .before .before .before .before .before .before .before .before .before .args .r .cp1) (c .before .before .before .before .before .before .before .before .before .before .before .before .before .before .before .before .before .before .before .args .r .cp2)) (c .before .before .before .before .before .before .before .before .before .before .before .before .before .before .before .before .before .before .before .pre) (c .before .before .before .before .before .before .before .before .before .before .before .before .before .before .before .before .fit-hex .ensures) (c .before .before .before .before .before .before .before .before .before .before .before .before .fit-optional .ensures) (c .before .before .before .before .before .before .before .before .fit-bits .ensures) (c .before .before .before .fit-digits .ensures)
 
--- src/write.rt:43:1
 same-length : tie.Need-same-length
 same-length c = search needs
 
--- src/write.rt:43:1
 returns : tie.Need-returns
 unfolding pointText
 returns c = five-put (controlsText (c .before .before .before .before .before .before .before .before .before .before .before .before .before .before .before .before .before .before .before .before .before .before .args .r .curve) (c .before .before .before .before .before .before .before .before .before .before .before .before .before .before .before .before .before .before .before .before .before .before .args .r .cp1) (c .before .before .before .before .before .before .before .before .before .before .before .before .before .before .before .before .before .before .before .before .before .before .args .r .cp2)) (c .before .before .before .before .before .before .before .before .before .before .before .before .before .before .before .before .before .before .before .before .before .before .pre) (c .before .before .before .before .before .before .before .before .before .before .before .before .before .before .before .before .before .before .before .fit-hex .ensures) (c .before .before .before .before .before .before .before .before .before .before .before .before .before .before .before .fit-optional .ensures) (c .before .before .before .before .before .before .before .before .before .before .before .fit-bits .ensures) (c .before .before .before .before .before .before .fit-digits .ensures) (c .before .before .put-controls .ensures)

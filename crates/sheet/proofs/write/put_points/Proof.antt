@@ -26,48 +26,37 @@ Inv-loop out₀ start points n at₀ i₀ out at i = (i ≤ n) × (length out �
 abbrev μ-loop : tie.MeasureT-loop
 μ-loop out₀ start points n at₀ i₀ out at i = n - i
 
--- src/write.rt:254:9
 used-requires : tie.Need-used-requires Inv-loop μ-loop
 used-requires c κs = tt
 
--- src/write.rt:257:5
 loop-holds : tie.Need-loop-holds Inv-loop μ-loop
 unfolding pointTexts
 loop-holds c = (omega arith, refl, record { next = sym (add-zero (c .before .before .args .start)); bytes = refl })
 
--- src/write.rt:258:17
 mul-p : tie.Need-mul-p Inv-loop μ-loop
 mul-p c = omega (arith, c .before .before .used .ensures)
 
--- src/write.rt:258:17
 element-copy-out-p : tie.Need-element-copy-out-p Inv-loop μ-loop
 element-copy-out-p c = omega (arith, c .before .before .used .ensures)
 
--- src/write.rt:259:39
 raw-point-requires : tie.Need-raw-point-requires Inv-loop μ-loop
 raw-point-requires c κs = every-at finitePoint (c .before .before .before .before .before .before .args .t3 .places) (c .before .before .before .before .before .before .args .t3 .count) (c .before .before .before .loop .i) anyPoint (c .before .before .before .before .before .before .pre .0) (omega (arith, c .before .before .before .before .used .ensures)) (let len = places (c .before .before .before .before .before .before .args .t3) _ (c .before .before .before .before .before .before .good .1 .1 .0) in omega (arith, c .before .before .before .before .used .ensures))
 
--- src/write.rt:259:9
 put-point-requires : tie.Need-put-point-requires Inv-loop μ-loop
 put-point-requires c κs = rw (c .raw-point .ensures) (text-fits (c .before .before .before .before .before .before .before .args .t3 .places) (c .before .before .before .before .loop .i) anyPoint (let len = places (c .before .before .before .before .before .before .before .args .t3) _ (c .before .before .before .before .before .before .before .good .1 .1 .0) in omega (arith, c .before .before .before .before .before .used .ensures)) (c .before .before .before .before .loop .inv .2) (c .before .before .before .before .before .before .before .args .t3 .count) (omega (arith, c .before .before .before .before .before .used .ensures)) (c .before .before .before .before .before .before .before .pre .1))
 
--- src/write.rt:260:9
 add-i : tie.Need-add-i Inv-loop μ-loop
 add-i c = omega (arith, c .before .before .before .before .before .before .before .before .used .ensures)
 
--- src/write.rt:257:5
 loop-less : tie.Need-loop-less Inv-loop μ-loop
 loop-less c = omega arith
 
--- src/write.rt:257:5
 loop-again : tie.Need-loop-again Inv-loop μ-loop
 loop-again c = (omega arith, put-length (c .before .before .put-point .ensures) ∙ c .before .before .before .before .before .before .before .loop .inv .1, text-put (c .before .before .before .before .before .before .before .before .before .before .args .t3 .places) (c .before .before .before .before .before .before .before .loop .i) anyPoint (let len = places (c .before .before .before .before .before .before .before .before .before .before .args .t3) _ (c .before .before .before .before .before .before .before .before .before .before .good .1 .1 .0) in omega (arith, c .before .before .before .before .before .before .before .before .used .ensures)) (c .before .before .before .before .before .before .before .loop .inv .2) (rw (c .before .before .before .raw-point .ensures) at (c .before .before .put-point .ensures)))
 
--- src/write.rt:249:1
 same-length : tie.Need-same-length Inv-loop μ-loop
 same-length c = c .before .loop .inv .1
 
--- src/write.rt:249:1
 returns : tie.Need-returns Inv-loop μ-loop
 returns c = let at : c .before .loop .i ≡ c .before .before .used .result = omega arith in
     subst (λ (l : List AutomationPoint). Put (c .before .before .before .before .args .out .now) (c .before .before .before .before .args .start) (pointTexts l) (c .before .loop .out) (c .before .loop .at)) (ap (λ (k : ℕ). take k (c .before .before .before .before .args .t3 .places)) (at ∙ c .before .before .used .ensures) ∙ take-min (c .before .before .before .before .args .t3 .count) (c .before .before .before .before .args .t3 .places) 256 (places (c .before .before .before .before .args .t3) _ (c .before .before .before .before .good .1 .1 .0))) (c .before .loop .inv .2)

@@ -11,31 +11,24 @@ use Rattle.fields.proofs.write.fit_decimal.Reads as fit-decimal-reads
 use Rattle.fields.proofs.write.fit_flag.Reads as fit-flag-reads
 use Rattle.fields.proofs.write.fit_optional.Reads as fit-optional-reads
 
--- src/write.rt:63:9
 fit-decimal-requires : tie.Need-fit-decimal-requires
 fit-decimal-requires c κs = search needs
 
--- src/write.rt:64:9
 fit-flag-requires : tie.Need-fit-flag-requires
 fit-flag-requires c κs = search needs
 
--- src/write.rt:65:9
 fit-optional-requires : tie.Need-fit-optional-requires
 fit-optional-requires c κs = search needs
 
--- src/write.rt:66:9
 fit-optional-requires-2 : tie.Need-fit-optional-requires-2
 fit-optional-requires-2 c κs = search needs
 
--- src/write.rt:67:5
 fit-optional-requires-3 : tie.Need-fit-optional-requires-3
 fit-optional-requires-3 c κs = search needs
 
--- src/write.rt:56:1
 same-length : tie.Need-same-length
 same-length c = search needs
 
--- src/write.rt:56:1
 returns : tie.Need-returns
 unfolding settingsText
 returns c = let u = optionalText 8 10 (c .before .before .before .before .before .before .before .before .before .before .before .before .before .before .before .before .before .before .before .before .before .args .r .step) in five-put u (c .before .before .before .before .before .before .before .before .before .before .before .before .before .before .before .before .before .before .before .before .before .pre) (c .before .before .before .before .before .before .before .before .before .before .before .before .before .before .before .before .before .before .fit-decimal .ensures) (c .before .before .before .before .before .before .before .before .before .before .before .before .before .before .fit-flag .ensures) (c .before .before .before .before .before .before .before .before .before .before .fit-optional .ensures) (c .before .before .before .before .before .before .fit-optional2 .ensures) (put-fits (c .before .before .fit-optional3 .ensures) (fifth-room u (c .before .before .before .before .before .before .before .before .before .before .before .before .before .before .before .before .before .before .before .before .before .pre) (c .before .before .before .before .before .before .before .before .before .before .before .before .before .before .before .before .before .before .fit-decimal .ensures) (c .before .before .before .before .before .before .before .before .before .before .before .before .before .before .fit-flag .ensures) (c .before .before .before .before .before .before .before .before .before .before .fit-optional .ensures) (c .before .before .before .before .before .before .fit-optional2 .ensures)))

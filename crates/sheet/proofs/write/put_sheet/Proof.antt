@@ -10,39 +10,30 @@ use Rattle.sheet.proofs.write.put_points.Reads as put-points-reads
 use Rattle.sheet.proofs.write.put_settings.Reads as put-settings-reads
 use Rattle.sheet.proofs.write.raw_settings.Reads as raw-settings-reads
 
--- src/write.rt:220:51
 slice-aggregate-fit-text : tie.Need-slice-aggregate-fit-text
 slice-aggregate-fit-text c = search needs
 
--- src/write.rt:220:9
 fit-text-requires : tie.Need-fit-text-requires
 fit-text-requires c κs = search needs
 
--- src/write.rt:221:40
 raw-settings-requires : tie.Need-raw-settings-requires
 raw-settings-requires c κs = limits-finite (c .before .before .before .before .before .before .before .before .args .e) (c .before .before .before .before .before .before .before .before .pre .0)
 
--- src/write.rt:221:9
 put-settings-requires : tie.Need-put-settings-requires
 put-settings-requires c κs = rw (c .raw-settings .ensures) (settings-room (c .before .before .before .before .before .before .before .before .before .args .e) (c .before .before .before .before .before .before .before .before .before .pre .1) (c .before .before .before .before .fit-text .ensures))
 
--- src/write.rt:222:51
 slice-aggregate-fit-text-2 : tie.Need-slice-aggregate-fit-text-2
 slice-aggregate-fit-text-2 c = search needs
 
--- src/write.rt:222:9
 fit-text-requires-2 : tie.Need-fit-text-requires-2
 fit-text-requires-2 c κs = search needs
 
--- src/write.rt:223:5
 put-points-requires : tie.Need-put-points-requires
 put-points-requires c κs = (points-finite (c .before .before .before .before .before .before .before .before .before .before .before .before .before .before .before .before .before .before .args .e) (c .before .before .before .before .before .before .before .before .before .before .before .before .before .before .before .before .before .before .pre .0), points-room (c .before .before .before .before .before .before .before .before .before .before .before .before .before .before .before .before .before .before .args .e) (c .before .before .before .before .before .before .before .before .before .before .before .before .before .before .before .before .before .before .pre .1) (c .before .before .before .before .before .before .before .before .before .before .before .before .before .fit-text .ensures) (rw (c .before .before .before .before .before .before .before .before .before .raw-settings .ensures) at (c .before .before .before .before .before .before .before .before .put-settings .ensures)) (c .before .before .before .fit-text2 .ensures))
 
--- src/write.rt:214:1
 same-length : tie.Need-same-length
 same-length c = search needs
 
--- src/write.rt:214:1
 returns : tie.Need-returns
 returns c = sheet-put (c .before .before .before .before .before .before .before .before .before .before .before .before .before .before .before .before .before .before .before .before .before .args .e) (c .before .before .before .before .before .before .before .before .before .before .before .before .before .before .before .before .before .before .before .before .before .pre .1) (c .before .before .before .before .before .before .before .before .before .before .before .before .before .before .before .before .fit-text .ensures) (rw (c .before .before .before .before .before .before .before .before .before .before .before .before .raw-settings .ensures) at (c .before .before .before .before .before .before .before .before .before .before .before .put-settings .ensures)) (c .before .before .before .before .before .before .fit-text2 .ensures) (c .before .before .put-points .ensures)
 

@@ -10,35 +10,27 @@ use Rattle.curve.proofs.CurveType.code.Reads as code-reads
 use Rattle.curve.proofs.CurveType.controls.Reads as controls-reads
 use Rattle.sheet.proofs.write.position_bits.Reads as position-bits-reads
 
--- src/write.rt:189:9
 controls-requires : tie.Need-controls-requires
 controls-requires c κs = search needs
 
--- src/write.rt:190:9
 position-bits-requires : tie.Need-position-bits-requires
 position-bits-requires c κs = search needs
 
--- src/write.rt:192:15
 float-to-bits-t6 : tie.Need-float-to-bits-t6
 float-to-bits-t6 c = number-no-nan _ (finite-time (c .before .before .before .args .p) (c .before .before .before .pre))
 
--- src/write.rt:194:16
 float-to-bits-t7 : tie.Need-float-to-bits-t7
 float-to-bits-t7 c = number-no-nan _ (finite-value (c .before .before .before .before .args .p) (c .before .before .before .before .pre))
 
--- src/write.rt:195:16
 code-requires : tie.Need-code-requires
 code-requires c κs = search needs
 
--- src/write.rt:196:14
 float-to-bits-t9 : tie.Need-float-to-bits-t9
 float-to-bits-t9 c = rw (c .before .before .before .before .before .controls .ensures) (number-no-nan _ (finite-cp1 (c .before .before .before .before .before .before .args .p) (c .before .before .before .before .before .before .pre)))
 
--- src/write.rt:197:14
 float-to-bits-t10 : tie.Need-float-to-bits-t10
 float-to-bits-t10 c = rw (c .before .before .before .before .before .before .controls .ensures) (number-no-nan _ (finite-cp2 (c .before .before .before .before .before .before .before .args .p) (c .before .before .before .before .before .before .before .pre)))
 
--- src/write.rt:183:1
 returns : tie.Need-returns
 unfolding rawPoint
 returns c = rw (c .before .before .before .before .before .before .controls .ensures, c .before .before .before .before .before .position-bits .ensures, c .before .before .code .ensures)

@@ -8,23 +8,18 @@ use Rattle.sheet.proofs.write.raw_settings.Lts as lts
 use Rattle.sheet.proofs.write.enabled_digit.Reads as enabled-digit-reads
 use Rattle.sheet.proofs.write.limit_bits.Reads as limit-bits-reads
 
--- src/write.rt:161:9
 limit-bits-requires : tie.Need-limit-bits-requires
 limit-bits-requires c κs = finite-min (c .args .e) (c .pre)
 
--- src/write.rt:162:9
 limit-bits-requires-2 : tie.Need-limit-bits-requires-2
 limit-bits-requires-2 c κs = finite-max (c .before .args .e) (c .before .pre)
 
--- src/write.rt:163:9
 limit-bits-requires-3 : tie.Need-limit-bits-requires-3
 limit-bits-requires-3 c κs = finite-step (c .before .before .args .e) (c .before .before .pre)
 
--- src/write.rt:166:18
 enabled-digit-requires : tie.Need-enabled-digit-requires
 enabled-digit-requires c κs = search needs
 
--- src/write.rt:154:1
 returns : tie.Need-returns
 unfolding rawSettings
 returns c = rw (c .before .before .before .limit-bits .ensures, c .before .before .limit-bits2 .ensures, c .before .limit-bits3 .ensures, c .enabled-digit .ensures)

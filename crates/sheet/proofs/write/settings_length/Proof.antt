@@ -10,39 +10,30 @@ use Rattle.sheet.proofs.write.settings_length.Lts as lts
 use Rattle.sheet.proofs.write.optional_length.Reads as optional-length-reads
 use Rattle.fields.proofs.write.places_of.Reads as places-of-reads
 
--- src/write.rt:219:5
 places-of-requires : tie.Need-places-of-requires
 places-of-requires c κs = search needs
 
--- src/write.rt:219:5
 add-result : tie.Need-add-result
 add-result c = omega (arith, c .places-of .ensures, places-le 10 (c .before .args .r .target))
 
--- src/write.rt:219:31
 optional-length-requires : tie.Need-optional-length-requires
 optional-length-requires c κs = search needs
 
--- src/write.rt:219:5
 add-result-2 : tie.Need-add-result-2
 add-result-2 c = omega (arith, c .before .places-of .ensures, places-le 10 (c .before .before .args .r .target), c .optional-length .ensures, length-le 8 0 (c .before .before .args .r .min))
 
--- src/write.rt:219:57
 optional-length-requires-2 : tie.Need-optional-length-requires-2
 optional-length-requires-2 c κs = search needs
 
--- src/write.rt:219:5
 add-result-3 : tie.Need-add-result-3
 add-result-3 c = omega (arith, c .before .before .places-of .ensures, places-le 10 (c .before .before .before .args .r .target), c .before .optional-length .ensures, length-le 8 0 (c .before .before .before .args .r .min), c .optional-length2 .ensures, length-le 8 0 (c .before .before .before .args .r .max))
 
--- src/write.rt:219:83
 optional-length-requires-3 : tie.Need-optional-length-requires-3
 optional-length-requires-3 c κs = search needs
 
--- src/write.rt:219:5
 add-result-4 : tie.Need-add-result-4
 add-result-4 c = omega (arith, c .before .before .before .places-of .ensures, places-le 10 (c .before .before .before .before .args .r .target), c .before .before .optional-length .ensures, length-le 8 0 (c .before .before .before .before .args .r .min), c .before .optional-length2 .ensures, length-le 8 0 (c .before .before .before .before .args .r .max), c .optional-length3 .ensures, length-le 8 0 (c .before .before .before .before .args .r .step))
 
--- src/write.rt:213:1
 returns : tie.Need-returns
 returns c = omega (arith, c .before .before .before .places-of .ensures, c .before .before .optional-length .ensures, c .before .optional-length2 .ensures, c .optional-length3 .ensures, settings-length (c .before .before .before .before .args .r))
 

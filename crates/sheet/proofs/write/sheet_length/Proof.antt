@@ -14,31 +14,24 @@ use Rattle.sheet.proofs.write.points_length.Reads as points-length-read
 use Rattle.sheet.proofs.write.raw_settings.Reads as raw-settings-reads
 use Rattle.sheet.proofs.write.settings_length.Reads as settings-length-reads
 
--- src/write.rt:250:26
 raw-settings-requires : tie.Need-raw-settings-requires
 raw-settings-requires c κs = limits-finite (c .before .args .e) (c .before .pre)
 
--- src/write.rt:250:10
 settings-length-requires : tie.Need-settings-length-requires
 settings-length-requires c κs = search needs
 
--- src/write.rt:250:5
 add-result : tie.Need-add-result
 add-result c = omega (arith, c .settings-length .ensures, settings-le (c .before .raw-settings .result))
 
--- src/write.rt:250:5
 add-result-2 : tie.Need-add-result-2
 add-result-2 c = omega (arith, c .settings-length .ensures, settings-le (c .before .raw-settings .result))
 
--- src/write.rt:250:50
 points-length-requires : tie.Need-points-length-requires
 points-length-requires c κs = points-finite (c .before .before .before .args .e) (c .before .before .before .pre)
 
--- src/write.rt:250:5
 add-result-3 : tie.Need-add-result-3
 add-result-3 c = omega (arith, c .before .settings-length .ensures, settings-le (c .before .before .raw-settings .result), c .points-length .ensures, texts-few (c .before .before .before .before .args .e) (few (c .before .before .before .before .args .e) (c .before .before .before .before .pre)))
 
--- src/write.rt:245:1
 returns : tie.Need-returns
 returns c = omega (arith, c .before .settings-length .ensures ∙ ap (λ (r : RawSettings). length (settingsText r)) (c .before .before .raw-settings .ensures), c .points-length .ensures, sheet-length (c .before .before .before .before .args .e))
 

@@ -16,34 +16,27 @@ use Rattle.envelope.proofs.AutomationEnvelope.is_valid.Reads as is-valid-reads
 use Rattle.sheet.proofs.write.put_sheet.Reads as put-sheet-reads
 use Rattle.sheet.proofs.write.sheet_length.Reads as sheet-length-reads
 
--- src/write.rt:282:9
 is-valid-requires : tie.Need-is-valid-requires
 is-valid-requires c κs = search needs
 
--- src/write.rt:283:9
 returns : tie.Need-returns
 unfolding writeSheet toldWritten
 returns c = (rw (sym (c .before .is-valid .ensures) ∙ not-true _ (c .if1 .taken)), rw (sym (c .before .is-valid .ensures) ∙ not-true _ (c .if1 .taken)))
 
--- src/write.rt:285:20
 sheet-length-requires : tie.Need-sheet-length-requires
 sheet-length-requires c κs = sym (c .before .is-valid .ensures) ∙ not-false _ (c .if1 .left)
 
--- src/write.rt:286:9
 returns-2 : tie.Need-returns-2
 unfolding writeSheet toldWritten
 returns-2 c = let short = lt-leb (length (sheetText (c .before .before .before .before .before .args .envelope))) (length (c .before .before .before .before .before .args .out .now)) (omega (arith, c .before .sheet-length .ensures, c .if2 .taken)) in
     (rw (sym (c .before .before .before .is-valid .ensures) ∙ not-false _ (c .before .before .if1 .left), short), rw (sym (c .before .before .before .is-valid .ensures) ∙ not-false _ (c .before .before .if1 .left), short))
 
--- src/write.rt:288:9
 put-sheet-requires : tie.Need-put-sheet-requires
 put-sheet-requires c κs = (sym (c .before .before .before .before .is-valid .ensures) ∙ not-false _ (c .before .before .before .if1 .left), omega (arith, c .before .before .sheet-length .ensures, c .before .if2 .left))
 
--- src/write.rt:278:1
 same-length : tie.Need-same-length
 same-length c = search needs
 
--- src/write.rt:278:1
 returns-3 : tie.Need-returns-3
 unfolding writeSheet toldWritten
 returns-3 c = let fits = le-leb (length (sheetText (c .before .before .before .before .before .before .before .before .before .args .envelope))) (length (c .before .before .before .before .before .before .before .before .before .args .out .now)) (omega (arith, c .before .before .before .before .before .sheet-length .ensures, c .before .before .before .before .if2 .left)) in

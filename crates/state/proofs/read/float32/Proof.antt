@@ -6,19 +6,15 @@ use Rattle.state.proofs.read.float32.Tie as tie
 use Rattle.state.proofs.read.float32.Reads as reads
 use Rattle.state.proofs.read.float32.Lts as lts
 
--- src/read.rt:41:24
 cast-result : tie.Need-cast-result
 cast-result c = search needs
 
--- src/read.rt:41:9
 float-from-bits-result : tie.Need-float-from-bits-result
 float-from-bits-result c = number-read binary32 (c .before .args .b) (c .if1 .left)
 
--- src/read.rt:34:1
 returns : tie.Need-returns
 returns c = nan-read binary32 (c .before .args .b) (c .if1 .taken)
 
--- src/read.rt:34:1
 returns-2 : tie.Need-returns-2
 returns-2 c = search needs
 

@@ -6,15 +6,12 @@ use Rattle.state.proofs.read.float64.Tie as tie
 use Rattle.state.proofs.read.float64.Reads as reads
 use Rattle.state.proofs.read.float64.Lts as lts
 
--- src/read.rt:30:9
 float-from-bits-result : tie.Need-float-from-bits-result
 float-from-bits-result c = number-read binary64 (c .before .args .b) (c .if1 .left)
 
--- src/read.rt:24:1
 returns : tie.Need-returns
 returns c = nan-read binary64 (c .before .args .b) (c .if1 .taken)
 
--- src/read.rt:24:1
 returns-2 : tie.Need-returns-2
 returns-2 c = search needs
 

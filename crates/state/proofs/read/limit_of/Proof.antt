@@ -7,15 +7,12 @@ use Rattle.state.proofs.read.limit_of.Reads as reads
 use Rattle.state.proofs.read.limit_of.Lts as lts
 use Rattle.state.proofs.read.float32.Reads as float32-reads
 
--- src/read.rt:50:23
 float32-requires : tie.Need-float32-requires
 float32-requires c κs = search needs
 
--- src/read.rt:45:1
 returns : tie.Need-returns
 returns c = rw (c .before .if1 .taken) (ap limit.Number (c .float32 .ensures))
 
--- src/read.rt:45:1
 returns-2 : tie.Need-returns-2
 returns-2 c = search needs
 

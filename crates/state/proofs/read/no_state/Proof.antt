@@ -9,11 +9,9 @@ use Rattle.state.proofs.read.no_state.Reads as reads
 use Rattle.state.proofs.read.no_state.Lts as lts
 use Rattle.envelope.proofs.AutomationEnvelope.new.Reads as new-reads
 
--- src/read.rt:164:19
 new-requires : tie.Need-new-requires
 new-requires c κs = search needs
 
--- src/read.rt:159:1
 returns : tie.Need-returns
 returns c = ap (λ (e : AutomationEnvelope). refusedEdit e StoredState) (c .new .ensures)
 

@@ -4,11 +4,9 @@ use Rattle.state.proofs.read.position_of.Tie as tie
 use Rattle.state.proofs.read.position_of.Reads as reads
 use Rattle.state.proofs.read.position_of.Lts as lts
 
--- src/read.rt:56:1
 returns : tie.Need-returns
 returns c = rw (c .if1 .taken)
 
--- src/read.rt:56:1
 returns-2 : tie.Need-returns-2
 returns-2 c = search needs
 

@@ -19,99 +19,75 @@ use Rattle.state.proofs.read.high.Reads as high-reads
 use Rattle.state.proofs.read.low.Reads as low-reads
 use Rattle.state.proofs.read.position_of.Reads as position-of-reads
 
--- src/read.rt:94:26
 add-controls : tie.Need-add-controls
 add-controls c = search needs
 
--- src/read.rt:94:20
 mul-controls : tie.Need-mul-controls
 mul-controls c = search needs
 
--- src/read.rt:94:20
 shared-slice-read-controls : tie.Need-shared-slice-read-controls
 shared-slice-read-controls c = search needs
 
--- src/read.rt:95:23
 add-value : tie.Need-add-value
 add-value c = search needs
 
--- src/read.rt:95:17
 mul-value : tie.Need-mul-value
 mul-value c = search needs
 
--- src/read.rt:95:17
 shared-slice-read-value : tie.Need-shared-slice-read-value
 shared-slice-read-value c = search needs
 
--- src/read.rt:96:9
 high-requires : tie.Need-high-requires
 high-requires c κs = search needs
 
--- src/read.rt:97:23
 low-requires : tie.Need-low-requires
 low-requires c κs = search needs
 
--- src/read.rt:97:9
 float32-requires : tie.Need-float32-requires
 float32-requires c κs = search needs
 
--- src/read.rt:98:23
 high-requires-2 : tie.Need-high-requires-2
 high-requires-2 c κs = search needs
 
--- src/read.rt:98:9
 float32-requires-2 : tie.Need-float32-requires-2
 float32-requires-2 c κs = search needs
 
--- src/read.rt:100:23
 mul-float64 : tie.Need-mul-float64
 mul-float64 c = search needs
 
--- src/read.rt:100:23
 shared-slice-read-float64 : tie.Need-shared-slice-read-float64
 shared-slice-read-float64 c = search needs
 
--- src/read.rt:100:15
 float64-requires : tie.Need-float64-requires
 float64-requires c κs = search needs
 
--- src/read.rt:101:38
 bit-requires : tie.Need-bit-requires
 bit-requires c κs = search needs
 
--- src/read.rt:101:57
 add-position-of : tie.Need-add-position-of
 add-position-of c = search needs
 
--- src/read.rt:101:51
 mul-position-of : tie.Need-mul-position-of
 mul-position-of c = search needs
 
--- src/read.rt:101:51
 shared-slice-read-position-of : tie.Need-shared-slice-read-position-of
 shared-slice-read-position-of c = search needs
 
--- src/read.rt:101:26
 position-of-requires : tie.Need-position-of-requires
 position-of-requires c κs = search needs
 
--- src/read.rt:102:24
 low-requires-2 : tie.Need-low-requires-2
 low-requires-2 c κs = search needs
 
--- src/read.rt:102:16
 float32-requires-3 : tie.Need-float32-requires-3
 float32-requires-3 c κs = search needs
 
--- src/read.rt:103:37
 cast-from-code : tie.Need-cast-from-code
 cast-from-code c = search needs
 
--- src/read.rt:103:16
 from-code-requires : tie.Need-from-code-requires
 from-code-requires c κs = search needs
 
--- src/read.rt:90:1
 returns : tie.Need-returns
 unfolding pointOf
 returns c =

@@ -18,35 +18,27 @@ use Rattle.state.proofs.read.read_places.Reads as read-places-reads
 use Rattle.state.proofs.read.same_settings.Reads as same-settings-reads
 use Rattle.state.proofs.read.with_places.Reads as with-places-reads
 
--- src/read.rt:196:9
 no-state-requires : tie.Need-no-state-requires
 no-state-requires c κs = search needs
 
--- src/read.rt:196:9
 returns : tie.Need-returns
 returns c = refused (c .before .before .before .args .words .now) false (c .no-state .result) (other-length (c .before .before .before .args .words .now) (c .before .if1 .taken)) refl (c .no-state .ensures)
 
--- src/read.rt:198:9
 read-places-requires : tie.Need-read-places-requires
 read-places-requires c κs = search needs
 
--- src/read.rt:200:9
 with-places-requires : tie.Need-with-places-requires
 with-places-requires c κs = search needs
 
--- src/read.rt:201:8
 is-valid-requires : tie.Need-is-valid-requires
 is-valid-requires c κs = search needs
 
--- src/read.rt:201:31
 same-settings-requires : tie.Need-same-settings-requires
 same-settings-requires c κs = search needs
 
--- src/read.rt:207:9
 no-state-requires-2 : tie.Need-no-state-requires-2
 no-state-requires-2 c κs = search needs
 
--- src/read.rt:192:1
 returns-2 : tie.Need-returns-2
 returns-2 c =
     let w = c .before .before .before .before .before .before .before .before .before .args .words .now in
@@ -58,7 +50,6 @@ returns-2 c =
     (tested w valid settings places (c .before .before .before .before .before .before .before .if1 .left) (c .before .before .before .is-valid .ensures ∙ ap validEnvelope s) (c .before .before .same-settings .ensures ∙ ap (λ (e : AutomationEnvelope). everyPair eqb (packSettings e) (take 4 w)) s) (c .before .before .before .before .before .before .read-places .ensures .1))
     (c .if2 .taken) s
 
--- src/read.rt:192:1
 returns-3 : tie.Need-returns-3
 returns-3 c =
     let w = c .before .before .before .before .before .before .before .before .before .before .args .words .now in

@@ -15,67 +15,51 @@ use Rattle.state.proofs.write.controls_word.Reads as controls-word-read
 use Rattle.state.proofs.write.position_word.Reads as position-word-reads
 use Rattle.state.proofs.write.value_word.Reads as value-word-reads
 
--- src/read.rt:114:6
 bits64-requires : tie.Need-bits64-requires
 bits64-requires c κs = search needs
 
--- src/read.rt:114:38
 mul-result : tie.Need-mul-result
 mul-result c = search needs
 
--- src/read.rt:114:38
 shared-slice-read-result : tie.Need-shared-slice-read-result
 shared-slice-read-result c = search needs
 
--- src/read.rt:115:13
 position-word-requires : tie.Need-position-word-requires
 position-word-requires c κs = search needs
 
--- src/read.rt:115:60
 add-result : tie.Need-add-result
 add-result c = search needs
 
--- src/read.rt:115:54
 mul-result-2 : tie.Need-mul-result-2
 mul-result-2 c = search needs
 
--- src/read.rt:115:54
 shared-slice-read-result-2 : tie.Need-shared-slice-read-result-2
 shared-slice-read-result-2 c = search needs
 
--- src/read.rt:116:17
 controls-word-requires : tie.Need-controls-word-requires
 controls-word-requires c κs = search needs
 
--- src/read.rt:116:61
 add-result-2 : tie.Need-add-result-2
 add-result-2 c = search needs
 
--- src/read.rt:116:55
 mul-result-3 : tie.Need-mul-result-3
 mul-result-3 c = search needs
 
--- src/read.rt:116:55
 shared-slice-read-result-3 : tie.Need-shared-slice-read-result-3
 shared-slice-read-result-3 c = search needs
 
--- src/read.rt:117:20
 value-word-requires : tie.Need-value-word-requires
 value-word-requires c κs = search needs
 
--- src/read.rt:117:57
 add-result-3 : tie.Need-add-result-3
 add-result-3 c = search needs
 
--- src/read.rt:117:51
 mul-result-4 : tie.Need-mul-result-4
 mul-result-4 c = search needs
 
--- src/read.rt:117:51
 shared-slice-read-result-4 : tie.Need-shared-slice-read-result-4
 shared-slice-read-result-4 c = search needs
 
--- src/read.rt:108:1
 returns : tie.Need-returns
 unfolding packPoint
 returns c =

@@ -16,39 +16,30 @@ use Rattle.state.proofs.write.bounds_word.Reads as bounds-word-reads
 use Rattle.state.proofs.write.flags_word.Reads as flags-word-reads
 use Rattle.state.proofs.write.limit_bits.Reads as limit-bits-reads
 
--- src/read.rt:173:9
 limits-requires : tie.Need-limits-requires
 limits-requires c κs = search needs
 
--- src/read.rt:176:6
 flags-word-requires : tie.Need-flags-word-requires
 flags-word-requires c κs = search needs
 
--- src/read.rt:176:77
 shared-slice-read-result : tie.Need-shared-slice-read-result
 shared-slice-read-result c = search needs
 
--- src/read.rt:177:36
 shared-slice-read-result-2 : tie.Need-shared-slice-read-result-2
 shared-slice-read-result-2 c = search needs
 
--- src/read.rt:178:17
 bounds-word-requires : tie.Need-bounds-word-requires
 bounds-word-requires c κs = search needs
 
--- src/read.rt:178:54
 shared-slice-read-result-3 : tie.Need-shared-slice-read-result-3
 shared-slice-read-result-3 c = search needs
 
--- src/read.rt:179:20
 limit-bits-requires : tie.Need-limit-bits-requires
 limit-bits-requires c κs = search needs
 
--- src/read.rt:179:54
 shared-slice-read-result-4 : tie.Need-shared-slice-read-result-4
 shared-slice-read-result-4 c = search needs
 
--- src/read.rt:169:1
 returns : tie.Need-returns
 unfolding packSettings
 returns c =

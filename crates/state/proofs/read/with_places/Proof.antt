@@ -11,75 +11,57 @@ use Rattle.state.proofs.read.high.Reads as high-reads
 use Rattle.state.proofs.read.limit_of.Reads as limit-of-reads
 use Rattle.state.proofs.read.low.Reads as low-reads
 
--- src/read.rt:151:17
 shared-slice-read-first : tie.Need-shared-slice-read-first
 shared-slice-read-first c = search needs
 
--- src/read.rt:152:9
 high-requires : tie.Need-high-requires
 high-requires c κs = search needs
 
--- src/read.rt:153:18
 shared-slice-read-bounds : tie.Need-shared-slice-read-bounds
 shared-slice-read-bounds c = search needs
 
--- src/read.rt:155:16
 shared-slice-read-t8 : tie.Need-shared-slice-read-t8
 shared-slice-read-t8 c = search needs
 
--- src/read.rt:159:17
 low-requires : tie.Need-low-requires
 low-requires c κs = search needs
 
--- src/read.rt:159:17
 cast-t12 : tie.Need-cast-t12
 cast-t12 c = search needs
 
--- src/read.rt:161:18
 bit-requires : tie.Need-bit-requires
 bit-requires c κs = search needs
 
--- src/read.rt:162:29
 bit-requires-2 : tie.Need-bit-requires-2
 bit-requires-2 c κs = search needs
 
--- src/read.rt:162:44
 low-requires-2 : tie.Need-low-requires-2
 low-requires-2 c κs = search needs
 
--- src/read.rt:162:20
 limit-of-requires : tie.Need-limit-of-requires
 limit-of-requires c κs = search needs
 
--- src/read.rt:163:29
 bit-requires-3 : tie.Need-bit-requires-3
 bit-requires-3 c κs = search needs
 
--- src/read.rt:163:44
 high-requires-2 : tie.Need-high-requires-2
 high-requires-2 c κs = search needs
 
--- src/read.rt:163:20
 limit-of-requires-2 : tie.Need-limit-of-requires-2
 limit-of-requires-2 c κs = search needs
 
--- src/read.rt:164:29
 bit-requires-4 : tie.Need-bit-requires-4
 bit-requires-4 c κs = search needs
 
--- src/read.rt:164:48
 shared-slice-read-low : tie.Need-shared-slice-read-low
 shared-slice-read-low c = search needs
 
--- src/read.rt:164:44
 low-requires-3 : tie.Need-low-requires-3
 low-requires-3 c κs = search needs
 
--- src/read.rt:164:20
 limit-of-requires-3 : tie.Need-limit-of-requires-3
 limit-of-requires-3 c κs = search needs
 
--- src/read.rt:146:1
 returns : tie.Need-returns
 unfolding stateOf
 returns c =

@@ -9,20 +9,16 @@ use Rattle.state.proofs.write.bits32.Tie as tie
 use Rattle.state.proofs.write.bits32.Reads as reads
 use Rattle.state.proofs.write.bits32.Lts as lts
 
--- src/write.rt:37:9
 float-to-bits-result : tie.Need-float-to-bits-result
 float-to-bits-result c = equals-itself _ (c .if1 .left)
 
--- src/write.rt:37:9
 cast-result : tie.Need-cast-result
 cast-result c = omega (arith, toBits-lt binary32 (c .before .args .x) (search needs))
 
--- src/write.rt:30:1
 returns : tie.Need-returns
 unfolding toBits
 returns c = (nan-bits binary32 (c .before .args .x) (c .if1 .taken), omega arith)
 
--- src/write.rt:30:1
 returns-2 : tie.Need-returns-2
 returns-2 c = (search needs, omega (arith, toBits-lt binary32 (c .before .args .x) (search needs)))
 

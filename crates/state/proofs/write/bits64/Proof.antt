@@ -7,16 +7,13 @@ use Rattle.state.proofs.write.bits64.Tie as tie
 use Rattle.state.proofs.write.bits64.Reads as reads
 use Rattle.state.proofs.write.bits64.Lts as lts
 
--- src/write.rt:26:9
 float-to-bits-result : tie.Need-float-to-bits-result
 float-to-bits-result c = equals-itself _ (c .if1 .left)
 
--- src/write.rt:20:1
 returns : tie.Need-returns
 unfolding toBits
 returns c = nan-bits binary64 (c .before .args .x) (c .if1 .taken)
 
--- src/write.rt:20:1
 returns-2 : tie.Need-returns-2
 returns-2 c = search needs
 

@@ -11,32 +11,25 @@ use Rattle.state.proofs.write.controls_word.Reads as reads
 use Rattle.state.proofs.write.controls_word.Lts as lts
 use Rattle.state.proofs.write.bits32.Reads as bits32-reads
 
--- src/write.rt:114:30
 enum-known-curve : tie.Need-enum-known-curve
 enum-known-curve c = search needs
 
--- src/write.rt:115:9
 bits32-requires : tie.Need-bits32-requires
 bits32-requires c κs = search needs
 
--- src/write.rt:115:9
 mul-result : tie.Need-mul-result
 mul-result c = search needs
 
--- src/write.rt:115:39
 bits32-requires-2 : tie.Need-bits32-requires-2
 bits32-requires-2 c κs = search needs
 
--- src/write.rt:115:9
 add-result : tie.Need-add-result
 add-result c = search needs
 
--- src/write.rt:111:1
 returns : tie.Need-returns
 unfolding controls
 returns c = (λ i. halves (c .before .bits32 .ensures .0 i) (c .bits322 .ensures .0 i)) ∙ ap controlsWord (sym (c .before .before .before .curve .given .1))
 
--- src/write.rt:111:1
 returns-2 : tie.Need-returns-2
 unfolding ofBits toBits
 returns-2 c = ap (λ (k : Controls). halves (toBits binary32 (k .cp2)) (toBits binary32 (k .cp1))) (sym (no-controls _ (c .match .keys2)))

@@ -7,23 +7,18 @@ use Rattle.state.proofs.write.limit_bits.Reads as reads
 use Rattle.state.proofs.write.limit_bits.Lts as lts
 use Rattle.state.proofs.write.bits32.Reads as bits32-reads
 
--- src/write.rt:63:24
 enum-told : tie.Need-enum-told
 enum-told c = search needs
 
--- src/write.rt:64:23
 enum-known-l : tie.Need-enum-known-l
 enum-known-l c = search needs
 
--- src/write.rt:64:29
 bits32-requires : tie.Need-bits32-requires
 bits32-requires c κs = search needs
 
--- src/write.rt:58:1
 returns : tie.Need-returns
 returns c = search needs
 
--- src/write.rt:58:1
 returns-2 : tie.Need-returns-2
 returns-2 c = (c .bits32 .ensures .0 ∙ ap limitBits (sym (c .before .before .l .given .1)), c .bits32 .ensures .1)
 

@@ -15,71 +15,54 @@ use Rattle.state.proofs.write.controls_word.Reads as controls-word-read
 use Rattle.state.proofs.write.position_word.Reads as position-word-reads
 use Rattle.state.proofs.write.value_word.Reads as value-word-reads
 
--- src/write.rt:149:17
 bits64-requires : tie.Need-bits64-requires
 bits64-requires c κs = search needs
 
--- src/write.rt:149:5
 mul-words : tie.Need-mul-words
 mul-words c = search needs
 
--- src/write.rt:149:5
 slice-write-words : tie.Need-slice-write-words
 slice-write-words c = search needs
 
--- src/write.rt:150:21
 position-word-requires : tie.Need-position-word-requires
 position-word-requires c κs = search needs
 
--- src/write.rt:150:11
 add-words : tie.Need-add-words
 add-words c = search needs
 
--- src/write.rt:150:5
 mul-words-2 : tie.Need-mul-words-2
 mul-words-2 c = search needs
 
--- src/write.rt:150:5
 slice-write-words-2 : tie.Need-slice-write-words-2
 slice-write-words-2 c = simp length-set (omega (arith, c .before .before .before .pre))
 
--- src/write.rt:151:21
 controls-word-requires : tie.Need-controls-word-requires
 controls-word-requires c κs = search needs
 
--- src/write.rt:151:11
 add-words-2 : tie.Need-add-words-2
 add-words-2 c = search needs
 
--- src/write.rt:151:5
 mul-words-3 : tie.Need-mul-words-3
 mul-words-3 c = search needs
 
--- src/write.rt:151:5
 slice-write-words-3 : tie.Need-slice-write-words-3
 slice-write-words-3 c = simp length-set (omega (arith, c .before .before .before .before .pre))
 
--- src/write.rt:152:21
 value-word-requires : tie.Need-value-word-requires
 value-word-requires c κs = search needs
 
--- src/write.rt:152:11
 add-words-3 : tie.Need-add-words-3
 add-words-3 c = search needs
 
--- src/write.rt:152:5
 mul-words-4 : tie.Need-mul-words-4
 mul-words-4 c = search needs
 
--- src/write.rt:152:5
 slice-write-words-4 : tie.Need-slice-write-words-4
 slice-write-words-4 c = simp length-set (omega (arith, c .before .before .before .before .before .pre))
 
--- src/write.rt:143:1
 same-length : tie.Need-same-length
 same-length c = search needs
 
--- src/write.rt:143:1
 returns : tie.Need-returns
 unfolding packPoint
 returns c =

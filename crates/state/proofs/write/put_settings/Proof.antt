@@ -15,43 +15,33 @@ use Rattle.state.proofs.write.bounds_word.Reads as bounds-word-reads
 use Rattle.state.proofs.write.flags_word.Reads as flags-word-reads
 use Rattle.state.proofs.write.limit_bits.Reads as limit-bits-reads
 
--- src/write.rt:133:9
 limits-requires : tie.Need-limits-requires
 limits-requires c κs = search needs
 
--- src/write.rt:136:16
 flags-word-requires : tie.Need-flags-word-requires
 flags-word-requires c κs = search needs
 
--- src/write.rt:136:5
 slice-write-words : tie.Need-slice-write-words
 slice-write-words c = search needs
 
--- src/write.rt:137:5
 slice-write-words-2 : tie.Need-slice-write-words-2
 slice-write-words-2 c = simp length-set (omega (arith, c .before .before .before .before .pre))
 
--- src/write.rt:138:16
 bounds-word-requires : tie.Need-bounds-word-requires
 bounds-word-requires c κs = search needs
 
--- src/write.rt:138:5
 slice-write-words-3 : tie.Need-slice-write-words-3
 slice-write-words-3 c = simp length-set (omega (arith, c .before .before .before .before .before .pre))
 
--- src/write.rt:139:16
 limit-bits-requires : tie.Need-limit-bits-requires
 limit-bits-requires c κs = search needs
 
--- src/write.rt:139:5
 slice-write-words-4 : tie.Need-slice-write-words-4
 slice-write-words-4 c = search needs
 
--- src/write.rt:129:1
 same-length : tie.Need-same-length
 same-length c = search needs
 
--- src/write.rt:129:1
 returns : tie.Need-returns
 unfolding packSettings
 returns c =

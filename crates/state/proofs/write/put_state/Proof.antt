@@ -21,54 +21,42 @@ Inv-loop words₀ points i₀ words i = (i ≤ 256) × (Stored words₀ 4 (packP
 abbrev μ-loop : tie.MeasureT-loop
 μ-loop words₀ points i₀ words i = 256 - i
 
--- src/write.rt:159:5
 put-settings-requires : tie.Need-put-settings-requires Inv-loop μ-loop
 put-settings-requires c κs = omega (arith, c .before .before .pre)
 
--- src/write.rt:162:5
 loop-holds : tie.Need-loop-holds Inv-loop μ-loop
 loop-holds c = (omega arith, put-none (c .before .before .before .before .before .before .args .envelope .points .places))
 
--- src/write.rt:163:17
 mul-p : tie.Need-mul-p Inv-loop μ-loop
 mul-p c = search needs
 
--- src/write.rt:163:17
 element-copy-out-p : tie.Need-element-copy-out-p Inv-loop μ-loop
 element-copy-out-p c = search needs
 
--- src/write.rt:164:39
 mul-put-point : tie.Need-mul-put-point Inv-loop μ-loop
 mul-put-point c = search needs
 
--- src/write.rt:164:35
 add-put-point : tie.Need-add-put-point Inv-loop μ-loop
 add-put-point c = search needs
 
--- src/write.rt:164:9
 put-point-requires : tie.Need-put-point-requires Inv-loop μ-loop
 put-point-requires c κs = omega (arith, c .before .before .before .before .before .before .before .before .before .before .pre, stored-length (c .before .before .before .loop .inv .1), ap length (c .before .before .before .before .before .before .before .put-settings .ensures) ∙ length-sets (c .before .before .before .before .before .before .before .before .before .before .args .words .now) 0 (packSettings (c .before .before .before .before .before .before .before .before .before .before .args .envelope)))
 
--- src/write.rt:165:9
 add-i : tie.Need-add-i Inv-loop μ-loop
 add-i c = search needs
 
--- src/write.rt:162:5
 loop-less : tie.Need-loop-less Inv-loop μ-loop
 loop-less c = search needs
 
--- src/write.rt:162:5
 loop-again : tie.Need-loop-again Inv-loop μ-loop
 loop-again c =
     let e = c .before .before .before .before .before .before .before .before .before .before .before .before .before .args .envelope in
     let len = places e _ (c .before .before .before .before .before .before .before .before .before .before .before .before .before .good .0) in
     (omega arith, put-turn (e .points .places) (c .before .before .before .before .before .before .loop .i) anyPoint (omega arith) (c .before .before .before .before .before .before .loop .inv .1) (c .before .before .put-point .ensures))
 
--- src/write.rt:155:1
 same-length : tie.Need-same-length Inv-loop μ-loop
 same-length c = stored-length (c .before .loop .inv .1) ∙ ap length (c .before .before .before .before .before .put-settings .ensures) ∙ length-sets (c .before .before .before .before .before .before .before .before .args .words .now) 0 (packSettings (c .before .before .before .before .before .before .before .before .args .envelope))
 
--- src/write.rt:155:1
 returns : tie.Need-returns Inv-loop μ-loop
 returns c =
     let e = c .before .before .before .before .before .before .before .before .args .envelope in

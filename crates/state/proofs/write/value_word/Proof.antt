@@ -9,39 +9,30 @@ use Rattle.curve.proofs.CurveType.code.Reads as code-reads
 use Rattle.state.proofs.write.bits32.Reads as bits32-reads
 use Rattle.state.proofs.write.position_flag.Reads as position-flag-reads
 
--- src/write.rt:124:7
 code-requires : tie.Need-code-requires
 code-requires c κs = search needs
 
--- src/write.rt:124:7
 cast-result : tie.Need-cast-result
 cast-result c = search needs
 
--- src/write.rt:124:6
 mul-result : tie.Need-mul-result
 mul-result c = search needs
 
--- src/write.rt:124:34
 position-flag-requires : tie.Need-position-flag-requires
 position-flag-requires c κs = search needs
 
--- src/write.rt:124:6
 add-result : tie.Need-add-result
 add-result c = search needs
 
--- src/write.rt:124:5
 mul-result-2 : tie.Need-mul-result-2
 mul-result-2 c = omega (arith, c .before .code .ensures, code-lt (c .before .before .args .p .curve), c .position-flag .ensures .1)
 
--- src/write.rt:124:77
 bits32-requires : tie.Need-bits32-requires
 bits32-requires c κs = search needs
 
--- src/write.rt:124:5
 add-result-2 : tie.Need-add-result-2
 add-result-2 c = omega (arith, c .before .before .code .ensures, code-lt (c .before .before .before .args .p .curve), c .before .position-flag .ensures .1, c .bits32 .ensures .1)
 
--- src/write.rt:119:1
 returns : tie.Need-returns
 returns c = search needs
 

@@ -10,29 +10,23 @@ use Rattle.state.proofs.write.write_state.Lts as lts
 use Rattle.envelope.proofs.AutomationEnvelope.is_valid.Reads as is-valid-reads
 use Rattle.state.proofs.write.put_state.Reads as put-state-reads
 
--- src/write.rt:177:9
 is-valid-requires : tie.Need-is-valid-requires
 is-valid-requires c κs = search needs
 
--- src/write.rt:178:9
 returns : tie.Need-returns
 returns c = let told = not-valid (c .before .before .before .args .envelope) (c .before .before .before .args .words .now) (sym (c .before .is-valid .ensures) ∙ not-true _ (c .if1 .taken)) in
     (ap (λ (t : WordsTold). t .said) told, ap (λ (t : WordsTold). t .words) told)
 
--- src/write.rt:181:9
 returns-2 : tie.Need-returns-2
 returns-2 c = let told = no-room (c .before .before .before .before .args .envelope) (c .before .before .before .before .args .words .now) (sym (c .before .before .is-valid .ensures) ∙ not-false _ (c .before .if1 .left)) (c .if2 .taken) in
     (ap (λ (t : WordsTold). t .said) told, ap (λ (t : WordsTold). t .words) told)
 
--- src/write.rt:183:5
 put-state-requires : tie.Need-put-state-requires
 put-state-requires c κs = search needs
 
--- src/write.rt:173:1
 same-length : tie.Need-same-length
 same-length c = search needs
 
--- src/write.rt:173:1
 returns-3 : tie.Need-returns-3
 returns-3 c = let told = room (c .before .before .before .before .before .before .before .before .args .envelope) (c .before .before .before .before .before .before .before .before .args .words .now) (sym (c .before .before .before .before .before .before .is-valid .ensures) ∙ not-false _ (c .before .before .before .before .before .if1 .left)) (c .before .before .before .before .if2 .left) in
     (ap (λ (t : WordsTold). t .said) told, c .before .before .put-state .ensures ∙ ap (λ (t : WordsTold). t .words) told)

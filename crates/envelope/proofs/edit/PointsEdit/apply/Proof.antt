@@ -23,236 +23,182 @@ use Rattle.shape.proofs.reverse.Reads as reverse-reads
 use Rattle.shape.proofs.simplify.Reads as simplify-reads
 use Rattle.shape.proofs.trim.Reads as trim-reads
 
--- src/edit.rt:58:34
 enum-known-self : tie.Need-enum-known-self
 enum-known-self c = search needs
 
--- src/edit.rt:58:40
 add-point-requires : tie.Need-add-point-requires
 add-point-requires c κs = search needs
 
--- src/edit.rt:59:39
 enum-known-self-2 : tie.Need-enum-known-self-2
 enum-known-self-2 c = search needs
 
--- src/edit.rt:59:48
 remove-point-at-requires : tie.Need-remove-point-at-requires
 remove-point-at-requires c κs = search needs
 
--- src/edit.rt:60:37
 enum-known-self-3 : tie.Need-enum-known-self-3
 enum-known-self-3 c = search needs
 
--- src/edit.rt:60:48
 shift-points-requires : tie.Need-shift-points-requires
 shift-points-requires c κs = search needs
 
--- src/edit.rt:61:35
 enum-known-self-4 : tie.Need-enum-known-self-4
 enum-known-self-4 c = search needs
 
--- src/edit.rt:61:46
 scale-time-requires : tie.Need-scale-time-requires
 scale-time-requires c κs = search needs
 
--- src/edit.rt:62:30
 enum-known-self-5 : tie.Need-enum-known-self-5
 enum-known-self-5 c = search needs
 
--- src/edit.rt:62:45
 trim-requires : tie.Need-trim-requires
 trim-requires c κs = search needs
 
--- src/edit.rt:63:36
 enum-told : tie.Need-enum-told
 enum-told c = search needs
 
--- src/edit.rt:63:36
 reverse-requires : tie.Need-reverse-requires
 reverse-requires c κs = search needs
 
--- src/edit.rt:64:38
 enum-known-self-6 : tie.Need-enum-known-self-6
 enum-known-self-6 c = search needs
 
--- src/edit.rt:64:51
 invert-values-requires : tie.Need-invert-values-requires
 invert-values-requires c κs = search needs
 
--- src/edit.rt:65:38
 enum-known-self-7 : tie.Need-enum-known-self-7
 enum-known-self-7 c = search needs
 
--- src/edit.rt:65:47
 quantize-time-requires : tie.Need-quantize-time-requires
 quantize-time-requires c κs = search needs
 
--- src/edit.rt:66:34
 enum-known-self-8 : tie.Need-enum-known-self-8
 enum-known-self-8 c = search needs
 
--- src/edit.rt:66:48
 simplify-requires : tie.Need-simplify-requires
 simplify-requires c κs = search needs
 
--- src/edit.rt:67:35
 enum-known-self-9 : tie.Need-enum-known-self-9
 enum-known-self-9 c = search needs
 
--- src/edit.rt:67:48
 normalize-requires : tie.Need-normalize-requires
 normalize-requires c κs = search needs
 
--- src/edit.rt:68:31
 enum-known-self-10 : tie.Need-enum-known-self-10
 enum-known-self-10 c = search needs
 
--- src/edit.rt:68:42
 scale-requires : tie.Need-scale-requires
 scale-requires c κs = search needs
 
--- src/edit.rt:69:32
 enum-known-self-11 : tie.Need-enum-known-self-11
 enum-known-self-11 c = search needs
 
--- src/edit.rt:69:43
 offset-requires : tie.Need-offset-requires
 offset-requires c κs = search needs
 
--- src/edit.rt:70:37
 enum-known-self-12 : tie.Need-enum-known-self-12
 enum-known-self-12 c = search needs
 
--- src/edit.rt:70:50
 clamp-values-requires : tie.Need-clamp-values-requires
 clamp-values-requires c κs = search needs
 
--- src/edit.rt:71:37
 enum-known-self-13 : tie.Need-enum-known-self-13
 enum-known-self-13 c = search needs
 
--- src/edit.rt:71:53
 apply-fade-in-requires : tie.Need-apply-fade-in-requires
 apply-fade-in-requires c κs = search needs
 
--- src/edit.rt:72:38
 enum-known-self-14 : tie.Need-enum-known-self-14
 enum-known-self-14 c = search needs
 
--- src/edit.rt:72:54
 apply-fade-out-requires : tie.Need-apply-fade-out-requires
 apply-fade-out-requires c κs = search needs
 
--- src/edit.rt:77:36
 enum-known-self-15 : tie.Need-enum-known-self-15
 enum-known-self-15 c = search needs
 
--- src/edit.rt:77:61
 apply-fades-requires : tie.Need-apply-fades-requires
 apply-fades-requires c κs = search needs
 
--- src/edit.rt:83:35
 enum-known-self-16 : tie.Need-enum-known-self-16
 enum-known-self-16 c = search needs
 
--- src/edit.rt:83:49
 apply-gate-requires : tie.Need-apply-gate-requires
 apply-gate-requires c κs = search needs
 
--- src/edit.rt:84:42
 enum-known-self-17 : tie.Need-enum-known-self-17
 enum-known-self-17 c = search needs
 
--- src/edit.rt:84:63
 apply-compression-requires : tie.Need-apply-compression-requires
 apply-compression-requires c κs = search needs
 
--- src/edit.rt:54:5
 returns : tie.Need-returns
 unfolding pointsEdited
 returns c = rw (c .before .before .self .given .1) (c .add-point .ensures)
 
--- src/edit.rt:54:5
 returns-2 : tie.Need-returns-2
 unfolding pointsEdited
 returns-2 c = rw (c .before .before .self2 .given .1) (c .remove-point-at .ensures)
 
--- src/edit.rt:54:5
 returns-3 : tie.Need-returns-3
 unfolding pointsEdited
 returns-3 c = rw (c .before .before .self3 .given .1) (c .shift-points .ensures)
 
--- src/edit.rt:54:5
 returns-4 : tie.Need-returns-4
 unfolding pointsEdited
 returns-4 c = rw (c .before .before .self4 .given .1) (c .scale-time .ensures)
 
--- src/edit.rt:54:5
 returns-5 : tie.Need-returns-5
 unfolding pointsEdited
 returns-5 c = rw (c .before .before .self5 .given .1) (c .trim .ensures)
 
--- src/edit.rt:54:5
 returns-6 : tie.Need-returns-6
 unfolding pointsEdited
 returns-6 c = rw (c .before .enum-told .given .1) (c .reverse .ensures)
 
--- src/edit.rt:54:5
 returns-7 : tie.Need-returns-7
 unfolding pointsEdited
 returns-7 c = rw (c .before .before .self6 .given .1) (c .invert-values .ensures)
 
--- src/edit.rt:54:5
 returns-8 : tie.Need-returns-8
 unfolding pointsEdited
 returns-8 c = rw (c .before .before .self7 .given .1) (c .quantize-time .ensures)
 
--- src/edit.rt:54:5
 returns-9 : tie.Need-returns-9
 unfolding pointsEdited
 returns-9 c = rw (c .before .before .self8 .given .1) (c .simplify .ensures)
 
--- src/edit.rt:54:5
 returns-10 : tie.Need-returns-10
 unfolding pointsEdited
 returns-10 c = rw (c .before .before .self9 .given .1) (c .normalize .ensures)
 
--- src/edit.rt:54:5
 returns-11 : tie.Need-returns-11
 unfolding pointsEdited
 returns-11 c = rw (c .before .before .self10 .given .1) (c .scale .ensures)
 
--- src/edit.rt:54:5
 returns-12 : tie.Need-returns-12
 unfolding pointsEdited
 returns-12 c = rw (c .before .before .self11 .given .1) (c .offset .ensures)
 
--- src/edit.rt:54:5
 returns-13 : tie.Need-returns-13
 unfolding pointsEdited
 returns-13 c = rw (c .before .before .self12 .given .1) (c .clamp-values .ensures)
 
--- src/edit.rt:54:5
 returns-14 : tie.Need-returns-14
 unfolding pointsEdited
 returns-14 c = rw (c .before .before .self13 .given .1) (c .apply-fade-in .ensures)
 
--- src/edit.rt:54:5
 returns-15 : tie.Need-returns-15
 unfolding pointsEdited
 returns-15 c = rw (c .before .before .self14 .given .1) (c .apply-fade-out .ensures)
 
--- src/edit.rt:54:5
 returns-16 : tie.Need-returns-16
 unfolding pointsEdited
 returns-16 c = rw (c .before .before .self15 .given .1) (c .apply-fades .ensures)
 
--- src/edit.rt:54:5
 returns-17 : tie.Need-returns-17
 unfolding pointsEdited
 returns-17 c = rw (c .before .before .self16 .given .1) (c .apply-gate .ensures)
 
--- src/edit.rt:54:5
 returns-18 : tie.Need-returns-18
 unfolding pointsEdited
 returns-18 c = rw (c .before .before .self17 .given .1) (c .apply-compression .ensures)

@@ -9,54 +9,42 @@ use Rattle.insert.proofs.fade_out.Reads as fade-out-reads
 use Rattle.insert.proofs.pulse.Reads as pulse-reads
 use Rattle.insert.proofs.ramp.Reads as ramp-reads
 
--- src/edit.rt:98:33
 enum-known-self : tie.Need-enum-known-self
 enum-known-self c = search needs
 
--- src/edit.rt:98:49
 fade-in-requires : tie.Need-fade-in-requires
 fade-in-requires c κs = search needs
 
--- src/edit.rt:99:34
 enum-known-self-2 : tie.Need-enum-known-self-2
 enum-known-self-2 c = search needs
 
--- src/edit.rt:99:50
 fade-out-requires : tie.Need-fade-out-requires
 fade-out-requires c κs = search needs
 
--- src/edit.rt:100:32
 enum-known-self-3 : tie.Need-enum-known-self-3
 enum-known-self-3 c = search needs
 
--- src/edit.rt:100:66
 pulse-requires : tie.Need-pulse-requires
 pulse-requires c κs = search needs
 
--- src/edit.rt:107:31
 enum-known-self-4 : tie.Need-enum-known-self-4
 enum-known-self-4 c = search needs
 
--- src/edit.rt:107:59
 ramp-requires : tie.Need-ramp-requires
 ramp-requires c κs = search needs
 
--- src/edit.rt:94:5
 returns : tie.Need-returns
 unfolding replacedPoints
 returns c = rw (c .before .before .self .given .1) (c .fade-in .ensures)
 
--- src/edit.rt:94:5
 returns-2 : tie.Need-returns-2
 unfolding replacedPoints
 returns-2 c = rw (c .before .before .self2 .given .1) (c .fade-out .ensures)
 
--- src/edit.rt:94:5
 returns-3 : tie.Need-returns-3
 unfolding replacedPoints
 returns-3 c = rw (c .before .before .self3 .given .1) (c .pulse .ensures)
 
--- src/edit.rt:94:5
 returns-4 : tie.Need-returns-4
 unfolding replacedPoints
 returns-4 c = rw (c .before .before .self4 .given .1) (c .ramp .ensures)
