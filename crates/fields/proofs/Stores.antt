@@ -50,8 +50,8 @@ module _ {l w : List ℕ} {at : ℕ} where
   pub put-fits : {m : List ℕ} {n : ℕ} → Fitted l at w m n → at + length w ≤ length l → Put l at w m n
   put-fits f h = let e = le-leb (at + length w) (length l) h in record { next = f .next ∙ rw e; bytes = f .bytes ∙ rw e }
 
-  pub fits : {m : List ℕ} {n : ℕ} → Put l at w m n → at + length w ≤ length l → Fitted l at w m n
-  fits p h = let e = le-leb (at + length w) (length l) h in record { next = rw e (p .next); bytes = rw e (p .bytes) }
+  pub fitted : {m : List ℕ} {n : ℕ} → Put l at w m n → at + length w ≤ length l → Fitted l at w m n
+  fitted p h = let e = le-leb (at + length w) (length l) h in record { next = rw e (p .next); bytes = rw e (p .bytes) }
 
 pub not-fits : (l : List ℕ) (at : ℕ) (w : List ℕ) → length l < at + length w → Fitted l at w l at
 not-fits l at w h = let e = lt-leb (at + length w) (length l) h in record { next = rw e; bytes = rw e }

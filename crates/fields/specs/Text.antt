@@ -32,6 +32,6 @@ unfoldable pub placesOf : ℕ → ℕ → ℕ
 placesOf zero v = 0
 placesOf (suc most) v = cond (ltb v 10) 1 (suc (placesOf most (v / 10)))
 
--- "decimal without leading zeros": as many digits as the number has. Every number that is written so is below 2^32, which has ten.
+-- "decimal without leading zeros": as many digits as the number has. Targets, lines and sample numbers are below 2^32 and have ten at most.
 abbrev pub decimalText : ℕ → ℕ → List ℕ
 decimalText e v = numberText 10 (placesOf 10 v) e v

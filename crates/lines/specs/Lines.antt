@@ -28,7 +28,7 @@ pub data Line (A : Type 0) : Type 0 where
   refused : ℕ → Line A
   line : A → List ℕ → Line A
 
--- a line whose numbers mean this: the refusal, or what it says, with the bytes after it
+-- a line of the right form, by the meaning of its numbers: refused, or what it says and the bytes after it
 abbrev pub meant : {A : Type 0} → List ℕ → Said A → Line A
 meant rest (refuses n) = refused n
 meant rest (gives a) = line a rest
@@ -60,7 +60,7 @@ unfoldable pub limitOf : Optional → Limit
 limitOf optional.None = limit.None
 limitOf (optional.Bits b) = limit.Number (ofBits binary32 b)
 
--- an f32 by its bits is finite; none is, too
+-- none, or the bits of a finite f32
 unfoldable pub finiteBits : Optional → Bool
 finiteBits optional.None = true
 finiteBits (optional.Bits b) = finite (ofBits binary32 b)

@@ -130,7 +130,7 @@ abbrev pub pointLinesHeld : List ℕ → Answer → Lines Points → PointLines
 pointLinesHeld s a (stop n k) = record { answer = a; line = k; points = holding []; next = 0 }
 pointLinesHeld s a (lines ps rest) = record { answer = a; line = 0; points = ps; next = length s - length rest }
 
--- ---- the place after what was read, 0 where nothing was: at most the bytes' length, so that the bytes from it on fix it
+-- ---- the place after what was read, 0 where nothing was. It is at most the length of the bytes, so the bytes from it on say which it is, also where none are left.
 
 -- after a number
 unfoldable pub numberEnd : Number → ℕ

@@ -1,6 +1,6 @@
 use native.Mathlib.Omega.{arith}
 use Rattle.fields.specs.Text.{numberText}
-use Rattle.fields.proofs.Stores.{length-number, fits, not-fits}
+use Rattle.fields.proofs.Stores.{length-number, fitted, not-fits}
 use borrow.Author.Needs.{needs}
 use Rattle.fields.proofs.write.fit_number.Statement.{statement}
 use Rattle.fields.proofs.write.fit_number.Tie as tie
@@ -24,7 +24,7 @@ same-length : tie.Need-same-length
 same-length c = search needs
 
 returns-3 : tie.Need-returns-3
-returns-3 c = fits (c .before .before .put-number .ensures) (omega (arith, c .before .before .before .before .before .if1 .left, c .before .before .before .before .if2 .left, length-number (c .before .before .before .before .before .before .before .args .base) (c .before .before .before .before .before .before .before .args .width) (c .before .before .before .before .before .before .before .args .end) (c .before .before .before .before .before .before .before .args .v)))
+returns-3 c = fitted (c .before .before .put-number .ensures) (omega (arith, c .before .before .before .before .before .if1 .left, c .before .before .before .before .if2 .left, length-number (c .before .before .before .before .before .before .before .args .base) (c .before .before .before .before .before .before .before .args .width) (c .before .before .before .before .before .before .before .args .end) (c .before .before .before .before .before .before .before .args .v)))
 
 pub fit-number-spec : {M : Type 1} → statement M
 fit-number-spec =

@@ -1,5 +1,5 @@
 use native.Mathlib.Omega.{arith}
-use Rattle.fields.proofs.Stores.{fits, not-fits}
+use Rattle.fields.proofs.Stores.{fitted, not-fits}
 use borrow.Author.Needs.{needs}
 use Rattle.fields.proofs.write.fit_text.Statement.{statement}
 use Rattle.fields.proofs.write.fit_text.Tie as tie
@@ -23,7 +23,7 @@ same-length : tie.Need-same-length
 same-length c = search needs
 
 returns-3 : tie.Need-returns-3
-returns-3 c = fits (c .before .before .put-text .ensures) (omega (arith, c .before .before .before .before .before .if1 .left, c .before .before .before .before .if2 .left))
+returns-3 c = fitted (c .before .before .put-text .ensures) (omega (arith, c .before .before .before .before .before .if1 .left, c .before .before .before .before .if2 .left))
 
 pub fit-text-spec : {M : Type 1} → statement M
 fit-text-spec =
