@@ -129,7 +129,7 @@ fn wide(x: u8) -> u64
 }
 
 // A byte's value as a hexadecimal digit in capitals, 16 for none.
-fn digit(b: u8) -> u64
+pub(crate) fn digit(b: u8) -> u64
     ensures { λ r. ⌜ r ≤ 16 ⌝ }
 {
     let d = wide(b);

@@ -1,8 +1,12 @@
 // The sheet's writer, on lent bytes: `sheet E LENGTH => ok bytes COUNT TEXT`, where `|` in the text is
 // the end of a sheet's line. The places after the count stay, and all of them where the call is refused.
+// The sheet's reader: `read_sheet TEXT => ok E` or `refuse N LINE`, where the text has any byte.
 ghost use mathlib.Core.Path.{_≡_};
+ghost use Prim.Native.Nat.{_≤_};
 ghost use lib.ListN.{length};
 use envelope::AutomationEnvelope;
+use listing::bytes::Bytes;
+use listing::bytes::bytes_of;
 use listing::text::Outcome;
 use listing::text::Place;
 use listing::text::Word;
@@ -11,8 +15,14 @@ use listing::text::call_among;
 use listing::text::decimal_after;
 use listing::text::decimal_at;
 use listing::text::ended;
+use listing::text::find;
 use listing_envelopes::records::envelope_at;
+use listing_envelopes::records::says_envelope;
 use listing_points::answers::answers_refusal;
+use listing_points::answers::says_refusal;
+use points::refusal::Refusal;
+use sheet::read::ReadSheet;
+use sheet::read::SheetAnswer;
 use sheet::write::Written;
 
 // What each place holds before the call: a byte that no sheet has.
@@ -111,10 +121,69 @@ fn sheet(s: &[u8], at: usize) -> Outcome {
     write(s, next, envelope, length as usize)
 }
 
+fn says_line(s: &[u8], at: usize, why: Refusal, line: u64) -> Place {
+    let Place::At(next) = says_refusal(s, at, why) else {
+        return Place::Nowhere;
+    };
+    let Word::Is(n, end) = decimal_at(s, next) else {
+        return Place::Nowhere;
+    };
+    if n == line {
+        return Place::At(end);
+    }
+    Place::Nowhere
+}
+
+fn answers_read(s: &[u8], at: usize, read: ReadSheet) -> Outcome {
+    let answer = read.answer;
+    let envelope = read.envelope;
+    match answer {
+        SheetAnswer::Accepted => {
+            let Place::At(start) = after(s, at, b" => ok") else {
+                return Outcome::Differs;
+            };
+            ended(s, says_envelope(s, start, envelope))
+        }
+        SheetAnswer::Refused(why, line) => ended(s, says_line(s, at, why, line)),
+    }
+}
+
+// The call on the first n of the lent bytes.
+fn read_first(bytes: &mut [u8], n: usize) -> ReadSheet
+    requires { ⌜ n ≤ length (now bytes) ⌝ }
+{
+    sheet::read::read_sheet(&bytes[..n])
+}
+
+// The call on the bytes that stand from `start` up to `end`, put into lent ones.
+fn read(s: &[u8], start: usize, end: usize, bytes: &mut [u8]) -> Outcome {
+    let Bytes::Are(n) = bytes_of(s, start, end, &mut *bytes) else {
+        return Outcome::Differs;
+    };
+    if bytes.len() < n {
+        return Outcome::Differs;
+    }
+    answers_read(s, end, read_first(&mut *bytes, n))
+}
+
+// A space and `=` stand after the text, which has no `=`.
+fn read_sheet(s: &[u8], at: usize) -> Outcome {
+    let Place::At(start) = after(s, at, b" ") else {
+        return Outcome::Differs;
+    };
+    let mark = find(s, start, b'=');
+    if mark == 0 {
+        return Outcome::Differs;
+    }
+    let mut bytes = marked();
+    read(s, start, mark - 1, &mut bytes)
+}
+
 // `at` is the place after the name.
 pub fn run(s: &[u8], at: usize) -> Outcome {
-    match call_among(s, at, b"sheet ") {
+    match call_among(s, at, b"sheet read_sheet ") {
         0 => sheet(s, at),
+        1 => read_sheet(s, at),
         _ => Outcome::Unknown,
     }
 }

@@ -12,7 +12,7 @@ use lookup::Lookup;
 use points::refusal::Compared;
 use points::refusal::Refusal;
 
-fn says_refusal(s: &[u8], at: usize, why: Refusal) -> Place {
+pub fn says_refusal(s: &[u8], at: usize, why: Refusal) -> Place {
     let Word::Is(n, next) = decimal_after(s, at, b" => refuse ") else {
         return Place::Nowhere;
     };

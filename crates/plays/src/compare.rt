@@ -1,9 +1,12 @@
 // What is played, held against a line's output: its text, or `#`, its length and its sum.
 ghost use mathlib.Core.Path.{_≡_};
 ghost use mathlib.Core.Bool.{true};
-ghost use Prim.Native.Nat.{_<_, _≤_, _+_};
+ghost use Prim.Native.Nat.{_<_, _≤_};
 ghost use lib.ListN.{length};
-use crate::line::wide;
+use fields::bytes::next_is;
+use listing::text::Place;
+use listing::text::after;
+use listing::text::says_word;
 use play::Play;
 use sheet::write::Written;
 use std::num::wrapping_add_u64;
@@ -33,12 +36,7 @@ fn reduced(x: u64) -> u64
 
 // The bytes are the digits of a number of base 256.
 fn sum_with(sum: u64, b: u8) -> u64 {
-    reduced(reduced(sum) * 256 + wide(b))
-}
-
-// Whether the byte b stands at the place.
-fn stands(s: &[u8], at: usize, b: u8) -> bool {
-    if at < s.len() { s[at] == b } else { false }
+    reduced(reduced(sum) * 256 + b as u64)
 }
 
 // A byte of the output as it stands in a line.
@@ -48,7 +46,7 @@ fn shown(b: u8) -> u8 {
 
 fn with_byte(h: Compared, s: &[u8], b: u8) -> Compared {
     Compared {
-        same: h.same & stands(s, h.at, shown(b)),
+        same: h.same & next_is(s, h.at, shown(b)),
         at: wrapping_add_usize(h.at, 1),
         length: wrapping_add_u64(h.length, 1),
         sum: sum_with(h.sum, b),
@@ -72,44 +70,21 @@ fn with_first(h: Compared, s: &[u8], out: &mut [u8], n: usize) -> Compared
     with_bytes(h, s, &out[..n])
 }
 
-// The digit d, in capitals.
-fn digit_byte(d: u64) -> u8
-    requires { ⌜ d < 16 ⌝ }
-{
-    if d < 10 {
-        (d + 48) as u8
-    } else {
-        (d + 55) as u8
-    }
-}
-
-// Whether a number stands at the place, in 16 hexadecimal digits.
-fn number_stands(s: &[u8], at: usize, v: u64) -> bool
-    requires { ⌜ at + 16 ≤ length (now s) ⌝ }
-{
-    let mut left = v;
-    let mut k: usize = 16;
-    let mut same = true;
-    while 0 < k {
-        k -= 1;
-        same = same & (s[at + k] == digit_byte(left % 16));
-        left = left / 16;
-    }
-    same
-}
-
-// Whether `#`, the length and the sum are the line's output.
-fn sum_stands(h: Compared, s: &[u8]) -> bool {
-    if s.len() != 34 {
+// Whether the length and the sum stand at the place, and the line ends there.
+fn sum_stands(h: Compared, s: &[u8], at: usize) -> bool {
+    let Place::At(next) = says_word(s, at, h.length) else {
         return false;
-    }
-    stands(s, 17, b' ') & number_stands(s, 1, h.length) & number_stands(s, 18, h.sum)
+    };
+    let Place::At(end) = says_word(s, next, h.sum) else {
+        return false;
+    };
+    end == s.len()
 }
 
 // Whether all that was compared is the line's output.
 fn whole(h: Compared, s: &[u8]) -> bool {
-    if stands(s, 0, b'#') {
-        return sum_stands(h, s);
+    if let Place::At(next) = after(s, 0, b"#") {
+        return sum_stands(h, s, next);
     }
     h.same & (h.at == s.len())
 }

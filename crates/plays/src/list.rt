@@ -4,9 +4,10 @@ ghost use Prim.Native.Nat.{_-_, _<_, _≤_};
 ghost use lib.ListN.{length};
 ghost use Rattle.io.specs.Counts.{Counts};
 use crate::compare;
-use crate::line;
-use crate::line::Bytes;
 use libc::STDIN_FILENO;
+use listing::bytes::Bytes;
+use listing::bytes::bytes_of;
+use listing::text::find;
 use std::num::wrapping_add_u64;
 
 // How many lines there were, how many of them were run and how many differ; and the number of the first that does, from 1.
@@ -45,7 +46,7 @@ fn first_give(input: &mut [u8], n: usize, s: &[u8], out: &mut [u8; 20480]) -> bo
 
 // Whether the line's input gives its output. A space and `=` stand after the input, `>` and a space before the output.
 fn agrees(s: &[u8], input: &mut [u8], out: &mut [u8; 20480]) -> bool {
-    let mark = line::find(s, 0, b'=');
+    let mark = find(s, 0, b'=');
     if mark == 0 {
         return false;
     }
@@ -53,7 +54,7 @@ fn agrees(s: &[u8], input: &mut [u8], out: &mut [u8; 20480]) -> bool {
         return false;
     }
     let from = mark + 3;
-    let Bytes::Are(n) = line::bytes_of(s, mark - 1, &mut *input) else {
+    let Bytes::Are(n) = bytes_of(s, 0, mark - 1, &mut *input) else {
         return false;
     };
     first_give(&mut *input, n, &s[from..], &mut *out)
@@ -103,7 +104,7 @@ fn with_lines(t: Tally, s: &[u8], input: &mut [u8], out: &mut [u8; 20480]) -> Do
     let mut tally = t;
     let mut at: usize = 0;
     loop {
-        let end = line::find(s, at, b'\n');
+        let end = find(s, at, b'\n');
         if end == s.len() {
             break;
         }

@@ -5,7 +5,6 @@ ghost use lib.ListN.{length};
 use libc::STDOUT_FILENO;
 
 mod compare;
-mod line;
 mod list;
 
 // Room for some lines: the longest has some 13,000 bytes.

@@ -1,5 +1,6 @@
 //! The Rust's answer to a call, as text.
 use crate::domain::{refused_after, refused_before, stride, valid};
+use crate::reader::read_sheet;
 use crate::records::{of_points, Envelope};
 use crate::rules::{self, bare, hold, same, Marked};
 use crate::text::{self, double, marked, signature, single, word, Arg};
@@ -17,8 +18,12 @@ impl Answer {
     }
 }
 
-/// The answer to a call: with document 01's refusals around the Rust, or the Rust alone.
+/// The answer to a call: with document 01's refusals around the Rust, or the Rust alone. A sheet is read
+/// by 01's rule alone.
 pub fn call(op: &str, a: &[Arg], raw: bool) -> Answer {
+    if let [Arg::S(bytes)] = a {
+        return sheet_read(bytes);
+    }
     let refusal = if raw { None } else { refused_before(op, a) };
     if let Some(n) = refusal {
         return Answer::text(format!("refuse {n}"));
@@ -30,6 +35,16 @@ pub fn call(op: &str, a: &[Arg], raw: bool) -> Answer {
             let text = text.or(e.downcast_ref::<&str>().map(|s| s.to_string()));
             Answer::text(format!("panic {}", text.unwrap_or_default().replace('\n', " ")))
         }
+    }
+}
+
+fn sheet_read(bytes: &[u8]) -> Answer {
+    match read_sheet(bytes) {
+        Err((n, line)) => Answer::text(format!("refuse {n} {line}")),
+        Ok(e) => Answer {
+            text: format!("ok {}", text::envelope(&e, &[])),
+            envelope: Some(e),
+        },
     }
 }
 

@@ -11,6 +11,7 @@ mod reader;
 mod records;
 mod rules;
 mod session;
+mod sheets;
 mod text;
 
 use calls::{call, Answer};
@@ -117,7 +118,7 @@ fn replies(out: &mut impl Write, raw: bool) -> Result<()> {
             name = register.strip_prefix('@');
             words.drain(..2);
         }
-        match reply(&words, raw, &registers, &mut sessions) {
+        match reply(call, &words, raw, &registers, &mut sessions) {
             Err(text) => writeln!(out, "error {text}")?,
             Ok(answer) => {
                 writeln!(out, "{}", answer.text)?;
@@ -130,8 +131,19 @@ fn replies(out: &mut impl Write, raw: bool) -> Result<()> {
     Ok(())
 }
 
-fn reply(words: &[&str], raw: bool, registers: &Registers, sessions: &mut Sessions) -> Read<Answer> {
+fn reply(
+    line: &str,
+    words: &[&str],
+    raw: bool,
+    registers: &Registers,
+    sessions: &mut Sessions,
+) -> Read<Answer> {
     let op = words[0];
+    if op == "read_sheet" {
+        // its bytes have spaces
+        let bytes = line.split_once("read_sheet ").map_or("", |parts| parts.1);
+        return Ok(call(op, &[text::Arg::S(text::unshown(bytes)?)], raw));
+    }
     if op == "session" {
         let text = session(sessions, registers, &words[1..])?;
         return Ok(Answer { text, envelope: None });

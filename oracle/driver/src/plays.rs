@@ -1,10 +1,11 @@
 //! Inputs of the program, and what it prints for them: the Rust's samples, with the signs of zeros
 //! that document 01 fixes.
 use crate::random::Random;
-use crate::reader::read;
+use crate::reader::read_play;
 use crate::records::{AutomationPoint, Envelope};
 use crate::rules::{bare, value_at};
-use crate::text::{double, sheet, single};
+use crate::sheets::{spoiled, NAMES, POINTS, POINT_NAMES, SETTINGS};
+use crate::text::{double, sheet, shown, single};
 use std::io::{Result, Write};
 use std::path::Path;
 
@@ -23,7 +24,7 @@ fn refusal(number: u32, line: usize) -> String {
 
 /// What the program prints.
 pub fn output(input: &[u8]) -> String {
-    let p = match read(input) {
+    let p = match read_play(input) {
         Ok(p) => p,
         Err((number, line)) => return refusal(number, line),
     };
@@ -69,83 +70,24 @@ fn fixed(places: &[usize]) -> Vec<Vec<u8>> {
         }
     }
     let lines: Vec<&str> = EXAMPLE.lines().collect();
-    let mut with = |k: usize, line: &str| {
+    let mut with = |others: &[(usize, &str)]| {
         let mut changed = lines.clone();
-        changed[k - 1] = line;
+        for (k, line) in others {
+            changed[k - 1] = line;
+        }
         all.push((changed.join("\n") + "\n").into_bytes());
     };
-    for names in [
-        "",
-        "Target enabled min max step",
-        "target enabled min max step ",
-        "target enabled min max",
-    ] {
-        with(1, names);
+    let causes: [(usize, &[&str]); 4] = [(1, &NAMES), (2, &SETTINGS), (3, &POINT_NAMES), (5, &POINTS)];
+    for (k, list) in causes {
+        for line in list {
+            with(&[(k, line)]);
+        }
     }
-    for names in [
-        "time position value curve cp1",
-        "time  position value curve cp1 cp2",
-        "time position value curve cp1 cp3",
-    ] {
-        with(3, names);
-    }
-    for settings in [
-        "00 1 - - -",
-        "4294967295 1 - - -",
-        "4294967296 1 - - -",
-        "99999999999999999999 1 - - -",
-        " 1 - - -",
-        "0 2 - - -",
-        "-1 1 - - -",
-        "0 - - - -",
-        "0 1 3f800000 - -",
-        "0 1 3F8000000 - -",
-        "0 1 3F800000 3F800000 3F80000",
-        "0 1 C0000000 3F800000 3E800000",
-        "0 1 7F800000 - -",
-        "0 1 - FF800000 -",
-        "0 1 - - 7FC00000",
-        "0 1 - - 3F800000 -",
-        "0 1 - -",
-        "0 0 - - -",
-    ] {
-        with(2, settings);
-    }
-    for point in [
-        "7FF0000000000000 - 00000000 00 - -",
-        "FFF8000000000000 - 00000000 06 - -",
-        "4010000000000000 - FF800000 22 - -",
-        "4010000000000000 - 3F800000 06 - -",
-        "4010000000000000 - 3F800000 22 - -",
-        "4010000000000000 - 3F800000 99 - -",
-        "4010000000000000 - 3F800000 05 - -",
-        "4010000000000000 - 3F800000 05 00000000 7F800000",
-        "4010000000000000 - 3F800000 05 7FC00000 7F800000",
-        "4010000000000000 - 3F800000 05 3F800000 3F800000",
-        "4010000000000000 - 3F800000 06 3F800000 3F800000",
-        "4010000000000000 - 3F800000 07 3F800000 -",
-        "4010000000000000 - 3F800000 07 - 3F800000",
-        "4010000000000000 - 3F800000 0 - -",
-        "4010000000000000 - 3F800000 0A - -",
-        "4010000000000000 - 3F800000 000 - -",
-        "4010000000000000 - - 00 - -",
-        "- - 3F800000 00 - -",
-        "40100000000000000 - 3F800000 00 - -",
-        "401000000000000 - 3F800000 00 - -",
-        "4010000000000000 - 3F80000 00 - -",
-        "4010000000000000 FFFFFFFFFFFFFFFF 3F800000 00 - -",
-        "4010000000000000 0 3F800000 00 - -",
-        "4010000000000000  3F800000 00 - -",
-        "4010000000000000 - 3F800000 00 - - ",
-        "0000000000000000 - 3F800000 00 - -",
-        "8000000000000000 - 3F800000 00 - -",
-        "C010000000000000 - 3F800000 00 - -",
-        "0000000000000001 - 3F800000 00 - -",
-        "7FF0000000000000 - 3F800000 00 - x",
-        "",
-    ] {
-        with(5, point);
-    }
+    // the first line counts, whatever stands on a later one
+    with(&[(4, "0000000000000000 - 7F800000 00 - -"), (5, "x")]);
+    with(&[(4, "0000000000000000 - 00000000 06 - -"), (5, "x")]);
+    with(&[(5, "0000000000000000 - 00000000 00 - -"), (6, "x")]);
+    with(&[(5, "7FF0000000000000 - 00000000 00 - -"), (7, "x")]);
     for block in [
         "7FF0000000000000 4008000000000000",
         "3FF0000000000000 FFF0000000000000",
@@ -161,8 +103,10 @@ fn fixed(places: &[usize]) -> Vec<Vec<u8>> {
         "3FF0000000000000  4008000000000000",
         "3FF0000000000000 4008000000000000 ",
         "3FF0000000000000 400800000000000",
+        "7FF0000000000000 400800000000000",
+        "7FF0000000000000 4008000000000000 ",
     ] {
-        with(7, block);
+        with(&[(7, block)]);
     }
     for names in [
         "rate duration ",
@@ -170,7 +114,7 @@ fn fixed(places: &[usize]) -> Vec<Vec<u8>> {
         "rate duration\r",
         "rate  duration",
     ] {
-        with(6, names);
+        with(&[(6, names)]);
     }
     for more in ["\n", "x", "3FF0000000000000 4008000000000000\n"] {
         all.push([example, more.as_bytes()].concat());
@@ -243,32 +187,6 @@ fn random(r: &mut Random) -> Vec<u8> {
     over_all(&e, samples)
 }
 
-/// A byte changed, taken out or put in, or a line taken out, put twice or moved.
-fn spoiled(r: &mut Random, mut l: Vec<u8>) -> Vec<u8> {
-    let at = r.below(l.len() as u64) as usize;
-    match r.below(7) {
-        0 => l[at] = r.below(256) as u8,
-        1 => l[at] = r.one_of(b"0123456789ABCDEF -\n"),
-        2 => drop(l.remove(at)),
-        3 => l.insert(at, r.one_of(b"0123456789ABCDEFabcdef -\n\r")),
-        4 => l.truncate(at),
-        _ => {
-            let mut lines: Vec<Vec<u8>> = l.split_inclusive(|b| *b == b'\n').map(<[u8]>::to_vec).collect();
-            let (i, j) = (
-                r.below(lines.len() as u64) as usize,
-                r.below(lines.len() as u64) as usize,
-            );
-            match r.below(3) {
-                0 => drop(lines.remove(i)),
-                1 => lines.insert(j, lines[i].clone()),
-                _ => lines.swap(i, j),
-            }
-            l = lines.concat();
-        }
-    }
-    l
-}
-
 /// A sheet of exactly so many points, and what follows them.
 fn full(r: &mut Random, points: u64, rest: &str) -> Vec<u8> {
     let mut e = Envelope::new(7);
@@ -318,18 +236,6 @@ pub fn write(folder: &Path, seed: u64, count: u64) -> Result<()> {
 
 // ---- a list of plays, a line each
 
-/// Bytes in a line: 0A as `|`, letters, digits, spaces and `-` as they are, any other as `\` and two
-/// digits.
-fn shown(bytes: &[u8]) -> String {
-    let show = |b: &u8| match b {
-        b'\n' => "|".to_string(),
-        b' ' | b'-' => char::from(*b).to_string(),
-        b if b.is_ascii_alphanumeric() => char::from(*b).to_string(),
-        b => format!("\\{b:02X}"),
-    };
-    bytes.iter().map(show).collect()
-}
-
 /// Bytes as the digits of a number of base 256, modulo the largest prime below 2^55.
 fn sum(bytes: &[u8]) -> u64 {
     bytes
@@ -344,7 +250,7 @@ fn expected(output: &str) -> String {
     if bytes.len() <= LONG {
         return shown(bytes);
     }
-    format!("#{:016X} {:016X}", bytes.len(), sum(bytes))
+    format!("# {:016X} {:016X}", bytes.len(), sum(bytes))
 }
 
 /// Writes lines `input => output`: the fixed inputs with each byte at a digit's place, those around 256
@@ -353,7 +259,7 @@ pub fn list(out: &mut impl Write, seed: u64, points: u64) -> Result<()> {
     let mut r = Random(seed);
     let mut all = fixed(&DIGITS);
     all.extend(around(&mut r, 256..=257));
-    for count in 1..=points {
+    for count in 0..=points {
         let e = envelope(&mut r, count);
         let samples = 8 * count + r.below(100);
         all.push(over_all(&e, samples));

@@ -3,6 +3,7 @@ use crate::domain::MOST;
 use crate::edges;
 use crate::edits;
 use crate::records::{curve_of, AutomationPoint, CurveType};
+use crate::sheets;
 use crate::text::{sheet, signature, Arg, OPERATIONS};
 
 /// SplitMix64.
@@ -203,6 +204,7 @@ impl Random {
         let (kinds, group) = signature(op).unwrap_or_else(|| panic!("no operation {op}"));
         match group {
             'n' => return edges::arguments(self, op),
+            's' => return vec![Arg::S(sheets::sheet(self))],
             'e' | 'c' | 'm' => return edits::arguments(self, op),
             _ => {}
         }
@@ -216,7 +218,19 @@ impl Random {
 
     /// The opening of a session, and the words of its step memory.
     pub fn opening(&mut self, words: Option<u64>) -> (String, u64) {
-        let lengths = [0, 1027, 1028, 1029, 2056, 2056, 3000, 5140, 5141, 10280 + 1027, 16384];
+        let lengths = [
+            0,
+            1027,
+            1028,
+            1029,
+            2056,
+            2056,
+            3000,
+            5140,
+            5141,
+            10280 + 1027,
+            16384,
+        ];
         let words = words.unwrap_or_else(|| self.one_of(&lengths));
         let target = self.one_of(&[0, 7, u32::MAX]);
         (format!("s open {target} {words}"), words)

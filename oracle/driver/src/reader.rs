@@ -1,5 +1,5 @@
-//! The program's input by document 01's rule, written from the paper: a sheet, and a block of rate
-//! and duration.
+//! Sheets and the program's input by document 01's rule, written from the paper. The input is a sheet
+//! and a block of rate and duration.
 use crate::records::{curve_of, AutomationPoint, Envelope};
 
 pub struct Play {
@@ -123,18 +123,25 @@ fn point(l: &mut Lines, e: &Envelope) -> Result<AutomationPoint, u32> {
     })
 }
 
-fn play(l: &mut Lines) -> Result<Play, u32> {
+/// A sheet. `end` says whether the points end before the bytes that are left.
+fn sheet(l: &mut Lines, end: fn(&[u8]) -> bool) -> Result<Envelope, u32> {
     l.names("target enabled min max step")?;
-    let mut envelope = settings(l)?;
+    let mut e = settings(l)?;
     l.names("time position value curve cp1 cp2")?;
-    while !l.left.starts_with(b"rate duration\n") {
-        if envelope.points.len() == 256 && !l.left.is_empty() {
+    while !end(l.left) {
+        if e.points.len() == 256 && !l.left.is_empty() {
             l.number += 1;
             return Err(5);
         }
-        let p = point(l, &envelope)?;
-        envelope.points.push(p);
+        let p = point(l, &e)?;
+        e.points.push(p);
     }
+    Ok(e)
+}
+
+/// In the program the points end at `rate duration`.
+fn play(l: &mut Lines) -> Result<Play, u32> {
+    let envelope = sheet(l, |left| left.starts_with(b"rate duration\n"))?;
     l.names("rate duration")?;
     let [rate, duration] = l.fields()?;
     let (rate, duration) = (bits(rate, 16)?, bits(duration, 16)?);
@@ -146,15 +153,25 @@ fn play(l: &mut Lines) -> Result<Play, u32> {
     })
 }
 
-/// What is to be played, or the first refusal.
-pub fn read(input: &[u8]) -> Result<Play, Refusal> {
+/// All of the bytes, or the first refusal.
+fn read<T>(input: &[u8], part: fn(&mut Lines) -> Result<T, u32>) -> Result<T, Refusal> {
     let mut l = Lines {
         left: input,
         number: 0,
     };
-    match play(&mut l) {
-        Ok(p) if l.left.is_empty() => Ok(p),
+    match part(&mut l) {
+        Ok(x) if l.left.is_empty() => Ok(x),
         Ok(_) => Err((9, l.number + 1)),
         Err(n) => Err((n, l.number)),
     }
+}
+
+/// What is to be played.
+pub fn read_play(input: &[u8]) -> Result<Play, Refusal> {
+    read(input, play)
+}
+
+/// A sheet alone ends with the bytes.
+pub fn read_sheet(input: &[u8]) -> Result<Envelope, Refusal> {
+    read(input, |l| sheet(l, <[u8]>::is_empty))
 }

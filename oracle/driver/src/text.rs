@@ -15,6 +15,7 @@ pub enum Arg {
     P(AutomationPoint),
     L(Vec<AutomationPoint>),
     E(Envelope),
+    S(Vec<u8>),
 }
 
 pub type Read<T> = Result<T, String>;
@@ -23,9 +24,9 @@ pub type Read<T> = Result<T, String>;
 pub type Registers = HashMap<String, Envelope>;
 
 /// An operation's name, the kinds of its arguments, and its group: e edit, c combination, m edit
-/// that no session has, l lookup or analysis, n number. Kinds: D f64, T f64 that may be anything,
-/// F f32, G f32 that may be anything, U u64 (16 digits), N decimal, B 0 or 1, O f32 or none,
-/// C curve, P point, L list of points, E envelope.
+/// that no session has, l lookup or analysis, s sheet read, n number. Kinds: D f64, T f64 that may be
+/// anything, F f32, G f32 that may be anything, U u64 (16 digits), N decimal, B 0 or 1, O f32 or none,
+/// C curve, P point, L list of points, E envelope, S bytes.
 pub const OPERATIONS: &[(&str, &str, char)] = &[
     ("value_at", "ET", 'l'),
     ("value_at_sample", "EU", 'l'),
@@ -43,6 +44,7 @@ pub const OPERATIONS: &[(&str, &str, char)] = &[
     ("point_eq_exact", "PP", 'l'),
     ("sheet", "EN", 'l'),
     ("valid", "E", 'l'),
+    ("read_sheet", "S", 's'),
     ("add_point", "EP", 'e'),
     ("remove_point_at", "ED", 'e'),
     ("shift", "ED", 'e'),
@@ -314,6 +316,36 @@ pub fn sheet(e: &Envelope) -> String {
     s
 }
 
+/// Bytes in a line: 0A as `|`, letters, digits, spaces and `-` as they are, any other as `\` and two
+/// digits.
+pub fn shown(bytes: &[u8]) -> String {
+    let show = |b: &u8| match b {
+        b'\n' => "|".to_string(),
+        b' ' | b'-' => char::from(*b).to_string(),
+        b if b.is_ascii_alphanumeric() => char::from(*b).to_string(),
+        b => format!("\\{b:02X}"),
+    };
+    bytes.iter().map(show).collect()
+}
+
+/// The bytes of such a text.
+pub fn unshown(text: &str) -> Read<Vec<u8>> {
+    let mut all = vec![];
+    let mut left = text.bytes();
+    while let Some(b) = left.next() {
+        all.push(match b {
+            b'|' => b'\n',
+            b'\\' => {
+                let digits: Vec<u8> = left.by_ref().take(2).collect();
+                let digits = String::from_utf8(digits).map_err(|e| e.to_string())?;
+                u8::from_str_radix(&digits, 16).map_err(|e| e.to_string())?
+            }
+            _ => b,
+        });
+    }
+    Ok(all)
+}
+
 fn argument(a: &Arg) -> String {
     match a {
         Arg::D(x) => double(*x),
@@ -326,6 +358,7 @@ fn argument(a: &Arg) -> String {
         Arg::P(p) => point(p, false),
         Arg::L(l) => points(l, &[]),
         Arg::E(e) => envelope(e, &[]),
+        Arg::S(b) => shown(b),
     }
 }
 

@@ -1,8 +1,8 @@
 // The bytes that stand in a line: `|` is 0A, `\` and two digits any byte, another is itself.
-ghost use mathlib.Core.Path.{_≡_};
 ghost use Prim.Native.Nat.{_<_, _≤_};
 ghost use lib.ListN.{length};
-ghost use Rattle.plays.specs.Places.{After, Within};
+ghost use Rattle.listing.specs.Places.{After, AtMost};
+use crate::text::digit;
 
 // A byte, and the place after it.
 pub enum Byte {
@@ -14,47 +14,6 @@ pub enum Byte {
 pub enum Bytes {
     Bad,
     Are(usize),
-}
-
-// The first place that has the byte b, or the end.
-pub(crate) fn find(s: &[u8], start: usize, b: u8) -> usize
-    requires { ⌜ start ≤ length (now s) ⌝ }
-    ensures { λ r. ⌜ (start ≤ r) × (r ≤ length (now (s .entry))) ⌝ }
-{
-    let mut at = start;
-    while at < s.len() {
-        if s[at] == b {
-            return at;
-        }
-        at += 1;
-    }
-    at
-}
-
-pub(crate) fn wide(x: u8) -> u64
-    ensures { λ r. ⌜ r ≡ x ⌝ }
-{
-    x as u64
-}
-
-// A byte's value as a hexadecimal digit in capitals, 16 for none.
-fn digit(b: u8) -> u64
-    ensures { λ r. ⌜ r ≤ 16 ⌝ }
-{
-    let d = wide(b);
-    if d < 48 {
-        return 16;
-    }
-    if d < 58 {
-        return d - 48;
-    }
-    if d < 65 {
-        return 16;
-    }
-    if d < 71 {
-        return d - 55;
-    }
-    16
 }
 
 // The byte of two digits, 256 for none.
@@ -92,13 +51,15 @@ fn byte_at(s: &[u8], at: usize) -> Byte
     Byte::Is(unescaped(s[at]), at + 1)
 }
 
-// Puts the bytes that stand in s before a place.
-pub(crate) fn bytes_of(s: &[u8], end: usize, out: &mut [u8]) -> Bytes
-    requires { ⌜ end ≤ length (now s) ⌝ }
-    ensures { λ r. ⌜ Within (length (now (out .entry))) r ⌝ }
+// Puts the bytes that stand from a place up to another.
+pub fn bytes_of(s: &[u8], from: usize, end: usize, out: &mut [u8]) -> Bytes
+    ensures { λ r. ⌜ AtMost (length (now (out .entry))) r ⌝ }
 {
+    if s.len() < end {
+        return Bytes::Bad;
+    }
     let mut n: usize = 0;
-    let mut at: usize = 0;
+    let mut at = from;
     while at < end {
         if n == out.len() {
             return Bytes::Bad;

@@ -1,2 +1,0 @@
--- Where the answers of a line's functions lie.
-pub mod Places
