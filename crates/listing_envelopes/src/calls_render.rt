@@ -20,6 +20,18 @@ enum Lent {
     At(usize, usize, usize),
 }
 
+// A run's rate, first sample and count, its place and the buffer's length.
+pub enum RunField {
+    Bad,
+    Is(f64, u64, u64, usize, usize, usize),
+}
+
+// The rate and duration of `to_buffer`, its place and the buffer's length.
+pub enum WholeField {
+    Bad,
+    Is(f64, f64, usize, usize, usize),
+}
+
 pub fn run(s: &[u8], at: usize) -> Outcome {
     match call_among(s, at, b"render to_buffer ") {
         0 => render(s, at),
@@ -36,6 +48,32 @@ fn lent_at(s: &[u8], at: usize) -> Lent {
         return Lent::Bad;
     };
     Lent::At(place as usize, length as usize, next)
+}
+
+pub fn run_at(s: &[u8], at: usize) -> RunField {
+    let Double::Is(rate, second) = double_at(s, at) else {
+        return RunField::Bad;
+    };
+    let Word::Is(first, third) = decimal_at(s, second) else {
+        return RunField::Bad;
+    };
+    let Word::Is(count, fourth) = decimal_at(s, third) else {
+        return RunField::Bad;
+    };
+    let Lent::At(place, length, next) = lent_at(s, fourth) else {
+        return RunField::Bad;
+    };
+    RunField::Is(rate, first, count, place, length, next)
+}
+
+pub fn whole_at(s: &[u8], at: usize) -> WholeField {
+    let Doubles::Are(rate, duration, second) = two_doubles_at(s, at) else {
+        return WholeField::Bad;
+    };
+    let Lent::At(place, length, next) = lent_at(s, second) else {
+        return WholeField::Bad;
+    };
+    WholeField::Is(rate, duration, place, length, next)
 }
 
 // A run of samples on a buffer of `length` places.
@@ -65,16 +103,7 @@ fn render(s: &[u8], at: usize) -> Outcome {
     let Place::At(second) = end else {
         return Outcome::Differs;
     };
-    let Double::Is(rate, third) = double_at(s, second) else {
-        return Outcome::Differs;
-    };
-    let Word::Is(first, fourth) = decimal_at(s, third) else {
-        return Outcome::Differs;
-    };
-    let Word::Is(count, fifth) = decimal_at(s, fourth) else {
-        return Outcome::Differs;
-    };
-    let Lent::At(place, length, next) = lent_at(s, fifth) else {
+    let RunField::Is(rate, first, count, place, length, next) = run_at(s, second) else {
         return Outcome::Differs;
     };
     rendered(s, next, envelope, rate, first, count, place, length)
@@ -105,10 +134,7 @@ fn to_buffer(s: &[u8], at: usize) -> Outcome {
     let Place::At(second) = end else {
         return Outcome::Differs;
     };
-    let Doubles::Are(rate, duration, third) = two_doubles_at(s, second) else {
-        return Outcome::Differs;
-    };
-    let Lent::At(place, length, next) = lent_at(s, third) else {
+    let WholeField::Is(rate, duration, place, length, next) = whole_at(s, second) else {
         return Outcome::Differs;
     };
     buffered(s, next, envelope, rate, duration, place, length)

@@ -7,6 +7,7 @@ use libc::STDOUT_FILENO;
 mod calls_edit;
 mod calls_session;
 mod replay;
+mod words;
 
 // Room for a line: two envelopes of 256 points and their answer take some 40,000 bytes.
 fn buffer() -> [u8; 131072]

@@ -12,6 +12,7 @@ mod records;
 mod rules;
 mod session;
 mod sheets;
+mod state;
 mod text;
 
 use calls::{call, Answer};
@@ -93,10 +94,10 @@ fn random_sessions(out: &mut impl Write, seed: u64, count: u64, words: Option<&&
         let call: Vec<&str> = line.split(' ').collect();
         let answer = session(&mut sessions, &Registers::new(), &call);
         writeln!(out, "session {line} => {}", answer.expect("a call made here"))?;
-        if r.once_in(40) {
+        if r.once_in(60) {
             (line, length) = r.opening(words);
         } else {
-            let (call, a) = r.session_call(length);
+            let (call, a) = r.session_call(length, &sessions["s"].envelope());
             line = format!("s {call}{}", arguments(&a));
         }
     }

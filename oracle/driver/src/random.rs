@@ -2,7 +2,8 @@
 use crate::domain::MOST;
 use crate::edges;
 use crate::edits;
-use crate::records::{curve_of, AutomationPoint, CurveType};
+use crate::records::{curve_of, AutomationPoint, CurveType, Envelope};
+use crate::session::LOOKUPS;
 use crate::sheets;
 use crate::text::{sheet, signature, Arg, OPERATIONS};
 
@@ -251,10 +252,25 @@ impl Random {
         (op, self.call(op)[1..].to_vec())
     }
 
-    /// A call of a session, and the words that follow its name. `words` is the step memory's length.
-    pub fn session_call(&mut self, words: u64) -> (String, Vec<Arg>) {
+    /// A lookup or a run of a session: its name and arguments without the first envelope.
+    fn session_lookup(&mut self, e: &Envelope) -> (String, Vec<Arg>) {
+        let op = self.one_of(&LOOKUPS);
+        let (kinds, _) = signature(op).unwrap();
+        let mut a = vec![Arg::E(e.clone())];
+        for kind in kinds.chars().skip(1) {
+            let x = self.argument(op, kind, &a);
+            a.push(x);
+        }
+        (op.into(), a[1..].to_vec())
+    }
+
+    /// A call of a session whose envelope is `e`, and the words that follow its name. `words` is the step
+    /// memory's length.
+    pub fn session_call(&mut self, words: u64, e: &Envelope) -> (String, Vec<Arg>) {
         let (op, a) = self.session_edit();
-        match self.below(100) {
+        match self.below(150) {
+            100..=124 => self.session_lookup(e),
+            125..=149 => ("memory".into(), vec![]),
             0..=24 => ("back".into(), vec![]),
             25..=41 => ("forward".into(), vec![]),
             42..=43 => {
