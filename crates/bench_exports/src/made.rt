@@ -64,7 +64,7 @@ pub(crate) fn made(times: &[f64], values: &[f32], code: u32) -> AutomationEnvelo
 }
 
 // 01's number of a refusal; 0 for none.
-fn number(answer: Answer) -> u64 {
+pub(crate) fn number(answer: Answer) -> u64 {
     match answer {
         Answer::Accepted => 0,
         Answer::Refused(why) => why.number() as u64,

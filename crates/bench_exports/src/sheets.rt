@@ -1,22 +1,10 @@
 // The sheet, read and written so many times.
 ghost use mathlib.Core.Path.{_≡_};
+use crate::made::number;
 use crate::made::shown;
 use points::refusal::Answer;
-use points::refusal::Refusal;
 use sheet::read::SheetAnswer;
 use sheet::write::Written;
-
-// The refusals that a sheet can give, by 01's numbers.
-fn number(why: Refusal) -> u64 {
-    match why {
-        Refusal::SheetCurve => 2,
-        Refusal::NotFinite => 3,
-        Refusal::TooManyPoints => 5,
-        Refusal::TimesDontRise => 6,
-        Refusal::SheetForm => 9,
-        _ => 15,
-    }
-}
 
 fn bytes(written: Written) -> u64 {
     match written {
@@ -45,7 +33,7 @@ pub extern "C" fn rattle_read_sheet(
         SheetAnswer::Accepted => shown(Answer::Accepted, envelope, out_times, out_values),
         SheetAnswer::Refused(why, line) => std::num::wrapping_add_u64(
             line as u64 % 1024 * 16,
-            number(why),
+            number(Answer::Refused(why)),
         ),
     }
 }
