@@ -121,14 +121,14 @@ fn sheet(s: &[u8], at: usize) -> Outcome {
     write(s, next, envelope, length as usize)
 }
 
-fn says_line(s: &[u8], at: usize, why: Refusal, line: u64) -> Place {
+fn says_line(s: &[u8], at: usize, why: Refusal, line: u32) -> Place {
     let Place::At(next) = says_refusal(s, at, why) else {
         return Place::Nowhere;
     };
     let Word::Is(n, end) = decimal_at(s, next) else {
         return Place::Nowhere;
     };
-    if n == line {
+    if n == line as u64 {
         return Place::At(end);
     }
     Place::Nowhere
