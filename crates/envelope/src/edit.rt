@@ -230,12 +230,17 @@ impl AutomationEnvelope {
         }
     }
 
-    // Any edit of the points.
+    // Any edit of the points. `settle` tests the limits too; without the test here the compiled code copies the envelope twice more.
     pub fn edit_points(mut self, edit: PointsEdit) -> Edited
         ensures { λ r. ⌜ toldEdit r ≡ editOf (OfPoints edit) self ⌝ }
     {
-        let points = self.points;
-        self.settle(edit.apply(points))
+        let limits = self.limits();
+        if limits.is_finite() {
+            let points = self.points;
+            self.settle(edit.apply(points))
+        } else {
+            self.refuse(Refusal::NotValid)
+        }
     }
 
     // Any of 000's constructors.
