@@ -3,6 +3,7 @@
 //!     rust_player                    plays standard input
 //!     rust_player --sheet SAMPLES    prints an input: 256 points, every curve in turn, over 100 seconds
 #[path = "../../../oracle/driver/src/reader.rs"]
+#[allow(dead_code)]
 mod reader;
 #[path = "../../../oracle/driver/src/records.rs"]
 #[allow(dead_code)]
@@ -24,7 +25,7 @@ fn main() -> Result<()> {
 fn play(out: &mut impl Write) -> Result<()> {
     let mut input = Vec::new();
     stdin().lock().read_to_end(&mut input)?;
-    let p = match reader::read(&input) {
+    let p = match reader::read_play(&input) {
         Ok(p) => p,
         Err((number, line)) => return writeln!(out, "refusal line\n{number} {line}"),
     };
