@@ -119,14 +119,14 @@ module _ (ps : Points) (f : ps .count ≤ length (ps .places)) (w : 1 ≤ ps .co
         → gives (some v) ≡ gives (valueAt ps true limits time)
     time-early h v e =
         value-gives limits (pointAt (ps .places) 0 .value) v (rawAt (listOf ps) time) e
-        (early (ps .count) (le time (pointAt (ps .places) 0 .time)) w h (raw-one (ps .places) (ps .count) time f) (raw-first (ps .places) (ps .count) time f))
+        (early (ps .count) (le time (pointAt (ps .places) 0 .time)) w h (raw-one _ _ (ps .places) (ps .count) time f) (raw-first _ _ (ps .places) (ps .count) time f))
 
     module _ (h : (eqb (ps .count) 1 || le time (pointAt (ps .places) 0 .time)) ≡ false) where
       pub time-late : le (pointAt (ps .places) (ps .count - 1) .time) time ≡ true → (v : Float) → v ≡ constrained limits (pointAt (ps .places) (ps .count - 1) .value)
           → gives (some v) ≡ gives (valueAt ps true limits time)
       time-late l v e =
           let b = neither (ps .count) (le time (pointAt (ps .places) 0 .time)) w h in
-          value-gives limits (pointAt (ps .places) (ps .count - 1) .value) v (rawAt (listOf ps) time) e (raw-last (ps .places) (ps .count) time f (b .0) (b .1) l)
+          value-gives limits (pointAt (ps .places) (ps .count - 1) .value) v (rawAt (listOf ps) time) e (raw-last _ _ (ps .places) (ps .count) time f (b .0) (b .1) l)
 
       pub time-inner : le (pointAt (ps .places) (ps .count - 1) .time) time ≡ false → ps .count ≤ 256 → (j before at : ℕ) → placeBy timeKey (orderKey time) (listOf ps) ≡ j → before ≡ j - 1 → at ≡ min j 255
           → (answer new : Lookup) → told answer ≡ gives (around timeKey (orderKey time) (between time) (ps .count) j (pointAt (ps .places) before) (pointAt (ps .places) at)) → new ≡ constrainedAnswer limits answer
@@ -134,14 +134,14 @@ module _ (ps : Points) (f : ps .count ≤ length (ps .places)) (w : 1 ≤ ps .co
       time-inner l c j before at e p q answer new t n =
           let b = neither (ps .count) (le time (pointAt (ps .places) 0 .time)) w h in
           answer-gives limits answer new (rawAt (listOf ps) time) n
-          (t ∙ ap gives (raw-around (ps .places) (ps .count) time f (b .0) (b .1) l j e _ _ (ap (pointAt (ps .places)) p) (at-place (ps .places) j at (ps .count) q c)))
+          (t ∙ ap gives (raw-around _ _ (ps .places) (ps .count) time f (b .0) (b .1) l j e _ _ (ap (pointAt (ps .places)) p) (at-place (ps .places) j at (ps .count) q c)))
 
   module _ (sample start : ℕ) (s : start ≡ keyFrom (pointAt (ps .places) 0 .«sample_position») 0) where
     pub sample-early : (eqb (ps .count) 1 || leb sample start) ≡ true → (v : Float) → v ≡ constrained limits (pointAt (ps .places) 0 .value)
         → gives (some v) ≡ gives (valueAtSample ps true limits sample)
     sample-early h v e =
         value-gives limits (pointAt (ps .places) 0 .value) v (rawAtSample (listOf ps) sample) e
-        (early (ps .count) (leb sample start) w h (sample-one (ps .places) (ps .count) sample f) (λ m t. sample-first (ps .places) (ps .count) sample f m (omega (arith, leb-true sample start t))))
+        (early (ps .count) (leb sample start) w h (sample-one _ _ (ps .places) (ps .count) sample f) (λ m t. sample-first _ _ (ps .places) (ps .count) sample f m (omega (arith, leb-true sample start t))))
 
     module _ (h : (eqb (ps .count) 1 || leb sample start) ≡ false) (end : ℕ) (z : end ≡ sampleKey (pointAt (ps .places) (ps .count - 1))) where
       past-start : keyFrom (pointAt (ps .places) 0 .«sample_position») 0 < sample
@@ -150,14 +150,14 @@ module _ (ps : Points) (f : ps .count ≤ length (ps .places)) (w : 1 ≤ ps .co
       pub sample-late : end ≤ sample → (v : Float) → v ≡ constrained limits (pointAt (ps .places) (ps .count - 1) .value) → gives (some v) ≡ gives (valueAtSample ps true limits sample)
       sample-late l v e =
           value-gives limits (pointAt (ps .places) (ps .count - 1) .value) v (rawAtSample (listOf ps) sample) e
-          (sample-last (ps .places) (ps .count) sample f (neither (ps .count) (leb sample start) w h .0) past-start (omega arith))
+          (sample-last _ _ (ps .places) (ps .count) sample f (neither (ps .count) (leb sample start) w h .0) past-start (omega arith))
 
       pub sample-within : sample < end → ps .count ≤ 256 → (j before at : ℕ) → placeBy sampleKey sample (listOf ps) ≡ j → before ≡ j - 1 → at ≡ min j 255
           → (answer new : Lookup) → told answer ≡ gives (around sampleKey sample (betweenSamples sample) (ps .count) j (pointAt (ps .places) before) (pointAt (ps .places) at)) → new ≡ constrainedAnswer limits answer
           → told new ≡ gives (valueAtSample ps true limits sample)
       sample-within l c j before at e p q answer new t n =
           answer-gives limits answer new (rawAtSample (listOf ps) sample) n
-          (t ∙ ap gives (sample-around (ps .places) (ps .count) sample f (neither (ps .count) (leb sample start) w h .0) past-start (omega arith) j e _ _ (ap (pointAt (ps .places)) p) (at-place (ps .places) j at (ps .count) q c)))
+          (t ∙ ap gives (sample-around _ _ (ps .places) (ps .count) sample f (neither (ps .count) (leb sample start) w h .0) past-start (omega arith) j e _ _ (ap (pointAt (ps .places)) p) (at-place (ps .places) j at (ps .count) q c)))
 
 -- ---- the points inside
 

@@ -10,7 +10,7 @@ use Rattle.curve.specs.Curve.{code, controls, finiteControls}
 use Rattle.points.specs.Points.{holding, every, risingBy, validPoints}
 use Rattle.points.specs.Refusal.{gives}
 use Rattle.lookup.specs.Limits.{constrained}
-use Rattle.lookup.specs.Lookup.{rawAt}
+use Rattle.lookup.specs.Lookup.{foundAt}
 use Rattle.lookup.specs.Examples.{at, limits, t0, t1}
 use Rattle.lookup.specs.Runs.{run}
 use Rattle.lookup.specs.declared.Limit.the-variants as limit
@@ -18,5 +18,5 @@ use Rattle.analysis.specs.Analysis.{givenValues, rangeOf, rawInside, get
 
 -- "P12 value 2, maximum 1, time 0, range 0 to 1: (1, 2)."
 pub p12 : getRange (holding (at t0 f2 ∷ [])) true (limits (limit.Number f1) limit.None) t0 t1 ≡ gives (some (f1, f2))
-unfolding getRange rangeOf givenValues rawInside run validPoints every risingBy rawAt constrained finite finiteControls controls code ofBits minNum maxNum isNan lt le
+unfolding getRange rangeOf givenValues rawInside run validPoints every risingBy foundAt constrained finite finiteControls controls code ofBits minNum maxNum isNan lt le
 p12 = refl

@@ -70,11 +70,11 @@ module _ (ps : List AutomationPoint) (n : ℕ) (time : Float) (f : n ≤ length 
   near-ways : (a b c d : Bool) → eqb n 0 ≡ a → eqb n 1 ≡ b → le time (pointAt ps 0 .time) ≡ c → le (pointAt ps (n - 1) .time) time ≡ d
       → cond a none (cond b (some (pointAt ps 0 .value)) (cond c (some (pointAt ps 0 .value)) (cond d (some (pointAt ps (n - 1) .value))
       (around timeKey (orderKey time) (between time) n i p q)))) ≡ rawAt (take n ps) time
-  near-ways true b c d ta tb tc td = sym (raw-none ps n time f (eqb-true n 0 ta))
-  near-ways false true c d ta tb tc td = sym (raw-one ps n time f (eqb-true n 1 tb))
-  near-ways false false true d ta tb tc td = sym (raw-first ps n time f (two ta tb) tc)
-  near-ways false false false true ta tb tc td = sym (raw-last ps n time f (two ta tb) tc td)
-  near-ways false false false false ta tb tc td = raw-around ps n time f (two ta tb) tc td i e p q hp hq
+  near-ways true b c d ta tb tc td = sym (raw-none _ _ ps n time f (eqb-true n 0 ta))
+  near-ways false true c d ta tb tc td = sym (raw-one _ _ ps n time f (eqb-true n 1 tb))
+  near-ways false false true d ta tb tc td = sym (raw-first _ _ ps n time f (two ta tb) tc)
+  near-ways false false false true ta tb tc td = sym (raw-last _ _ ps n time f (two ta tb) tc td)
+  near-ways false false false false ta tb tc td = raw-around _ _ ps n time f (two ta tb) tc td i e p q hp hq
 
 pub near-is : (s : Side) (time : Float) (i : ℕ) (p q : AutomationPoint) → s .points .count ≤ length (s .points .places)
     → placeBy timeKey (orderKey time) (listOf (s .points)) ≡ i → p ≡ pointAt (s .points .places) (i - 1) → (i < s .points .count → q ≡ pointAt (s .points .places) i)

@@ -18,7 +18,7 @@ use Rattle.points.specs.Laws.{and-left, and-right}
 use Rattle.points.specs.declared.AutomationPoint.{AutomationPoint}
 use Rattle.points.specs.declared.Points.{Points}
 use Rattle.lookup.specs.Limits.{atLeast, atMost, toStep, constrained}
-use Rattle.lookup.specs.Lookup.{pointAt, lastPoint, surrounded, between, rawAt, heard, valueAt}
+use Rattle.lookup.specs.Lookup.{pointAt, lastPoint, surrounded, between, rawAt, foundAt, heard, valueAt}
 use Rattle.lookup.specs.declared.Limit.{Limit}
 use Rattle.lookup.specs.declared.Limit.the-variants as limit
 use Rattle.lookup.specs.declared.Limits.{Limits}
@@ -80,7 +80,7 @@ unfolding every
 tail-typed p l h = and-right (typedPoint p) (every typedPoint l) h
 
 rawAt-fits : (l : List AutomationPoint) (time : Float) → TypedList l → FitsIf (rawAt l time)
-unfolding rawAt
+unfolding foundAt
 rawAt-fits [] time h = tt
 rawAt-fits (p ∷ []) time h = value-fits (p ∷ []) 0 h
 rawAt-fits (p ∷ (q ∷ l)) time h =

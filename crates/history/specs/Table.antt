@@ -21,7 +21,7 @@ use Rattle.points.specs.declared.AutomationPoint.{AutomationPoint}
 use Rattle.lookup.specs.Examples as lookups
 use Rattle.lookup.specs.Examples.{minusZero, at, rise, limits, t0, t1, t2, t10, t20}
 use Rattle.lookup.specs.Limits.{constrained}
-use Rattle.lookup.specs.Lookup.{surrounded, fraction, rawAt, rawAtSample, getValueAt, getValueAtSample}
+use Rattle.lookup.specs.Lookup.{surrounded, fraction, foundAt, foundAtSample, getValueAt, getValueAtSample}
 use Rattle.lookup.specs.Runs.{run}
 use Rattle.lookup.specs.declared.Limit.{Limit}
 use Rattle.lookup.specs.declared.Limit.the-variants as limit
@@ -101,7 +101,7 @@ pub record Table : Type 0 where
   pub p14 : sqrt binary32 f2 ≡ f32 0x3FB5_04F3
 
 pub table : Table
-unfolding answersAfter ruleOf upTo made editOf edited pointsEdited editPoints settle insertPoint new getValueAt getValueAtSample getRange rangeOf givenValues rawInside run validPoints every risingBy rawAt rawAtSample surrounded placeBy fraction constrained code controls finiteControls clamped cubicBezier inOut eased interpolated finite minNum maxNum narrow orderKey sqrt roundAway ofBits toBits ofInt toUnsigned round neg add sub mul div lt le isNan
+unfolding answersAfter ruleOf upTo made editOf edited pointsEdited editPoints settle insertPoint new getValueAt getValueAtSample getRange rangeOf givenValues rawInside run validPoints every risingBy foundAt foundAtSample surrounded placeBy fraction constrained code controls finiteControls clamped cubicBezier inOut eased interpolated finite minNum maxNum narrow orderKey sqrt roundAway ofBits toBits ofInt toUnsigned round neg add sub mul div lt le isNan
 table =
     record {
       p1 = lookups.p1;

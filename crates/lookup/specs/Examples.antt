@@ -18,7 +18,7 @@ use Rattle.points.specs.Points.{holding, every, risingBy, validPoints}
 use Rattle.points.specs.Refusal.{Said, gives}
 use Rattle.points.specs.declared.AutomationPoint.{AutomationPoint}
 use Rattle.lookup.specs.Limits.{constrained}
-use Rattle.lookup.specs.Lookup.{surrounded, fraction, rawAt, rawAtSample, getValueAt, getValueAtSample}
+use Rattle.lookup.specs.Lookup.{surrounded, fraction, foundAt, foundAtSample, getValueAt, getValueAtSample}
 use Rattle.points.specs.Search.{placeBy}
 use Rattle.lookup.specs.declared.Limit.{Limit}
 use Rattle.lookup.specs.declared.Limit.the-variants as limit
@@ -78,38 +78,38 @@ bySample l sample = getValueAtSample (holding l) true free sample
 
 -- "P1 empty: silent."
 pub p1 : byTime [] free t1 ≡ gives none
-unfolding getValueAt validPoints every risingBy rawAt code
+unfolding getValueAt validPoints every risingBy foundAt code
 p1 = refl
 
 -- "P2 (0,0),(4,1) at 1: 0.25."
 pub p2 : byTime (rise Linear) free t1 ≡ gives (some (f32 0x3E80_0000))
-unfolding getValueAt validPoints every risingBy rawAt surrounded placeBy fraction constrained finite finiteControls controls code orderKey narrow interpolated eased clamped ofBits toBits round add sub mul div lt le
+unfolding getValueAt validPoints every risingBy foundAt surrounded placeBy fraction constrained finite finiteControls controls code orderKey narrow interpolated eased clamped ofBits toBits round add sub mul div lt le
 p2 = refl
 
 -- "P7 maximum 1, step 0.625, value 1: 1.25."
 pub p7 : byTime (at t0 f1 ∷ []) (limits (limit.Number f1) (limit.Number (f32 0x3F20_0000))) t0 ≡ gives (some (f32 0x3FA0_0000))
-unfolding getValueAt validPoints every risingBy rawAt constrained finite finiteControls controls code ofBits minNum roundAway round isNan mul div lt
+unfolding getValueAt validPoints every risingBy foundAt constrained finite finiteControls controls code ofBits minNum roundAway round isNan mul div lt
 p7 = refl
 
 -- "P8 step 1, value −2.5: −3."
 pub p8 : byTime (at t0 (f32 0xC020_0000) ∷ []) (limits limit.None (limit.Number f1)) t0 ≡ gives (some (f32 0xC040_0000))
-unfolding getValueAt validPoints every risingBy rawAt constrained finite finiteControls controls code ofBits roundAway round mul div lt
+unfolding getValueAt validPoints every risingBy foundAt constrained finite finiteControls controls code ofBits roundAway round mul div lt
 p8 = refl
 
 -- "P9 alone, −0.0 stays; as the middle of three, at its time, 0.0."
 pub p9-alone : byTime (at t1 minusZero ∷ []) free t1 ≡ gives (some minusZero)
-unfolding getValueAt validPoints every risingBy rawAt constrained finite finiteControls controls code ofBits
+unfolding getValueAt validPoints every risingBy foundAt constrained finite finiteControls controls code ofBits
 p9-alone = refl
 
 pub p9-middle : byTime (at t0 f1 ∷ at t1 minusZero ∷ at t2 f1 ∷ []) free t1 ≡ gives (some f0)
-unfolding getValueAt validPoints every risingBy rawAt surrounded placeBy fraction constrained finite finiteControls controls code orderKey narrow interpolated eased clamped ofBits toBits round add sub mul div lt le
+unfolding getValueAt validPoints every risingBy foundAt surrounded placeBy fraction constrained finite finiteControls controls code orderKey narrow interpolated eased clamped ofBits toBits round add sub mul div lt le
 p9-middle = refl
 
 -- "P10 times 10 and 20, no positions: sample 5 silent, sample 0 the first value."
 pub p10-silent : bySample (at t10 f1 ∷ at t20 f0 ∷ []) 5 ≡ gives none
-unfolding getValueAtSample validPoints every risingBy rawAtSample surrounded placeBy finite finiteControls controls code orderKey ofBits toBits toUnsigned mul round
+unfolding getValueAtSample validPoints every risingBy foundAtSample surrounded placeBy finite finiteControls controls code orderKey ofBits toBits toUnsigned mul round
 p10-silent = refl
 
 pub p10-first : bySample (at t10 f1 ∷ at t20 f0 ∷ []) 0 ≡ gives (some f1)
-unfolding getValueAtSample validPoints every risingBy rawAtSample constrained finite finiteControls controls code orderKey ofBits toBits toUnsigned mul round
+unfolding getValueAtSample validPoints every risingBy foundAtSample constrained finite finiteControls controls code orderKey ofBits toBits toUnsigned mul round
 p10-first = refl

@@ -40,6 +40,16 @@ unfoldable pub surrounded : {A : Type 0} → (AutomationPoint → ℕ) → ℕ �
 unfolding placeBy
 surrounded key k give l = let i = placeBy key k l in around key k give (length l) i (pointAt l (i - 1)) (pointAt l i)
 
+-- what both lookups have in common, `end` being what a point gives by itself: "empty is silent; one point gives its value", else the first point's where `early` says so, the last one's where `late` does, and what is found between
+abbrev pub found : {A : Type 0} → (AutomationPoint → A) → (AutomationPoint → Bool) → (AutomationPoint → Bool) → Option A → List AutomationPoint → Option A
+found end early late inner [] = none
+found end early late inner (p ∷ []) = some (end p)
+found end early late inner (p ∷ (q ∷ l)) = cond (early p) (some (end p)) (cond (late (lastPoint (q ∷ l))) (some (end (lastPoint (q ∷ l)))) inner)
+
+-- a point's own value
+abbrev pub ended : AutomationPoint → Float
+ended p = p .value
+
 -- ---- by time
 
 -- "t = (time − previous) / span, computed in f64 and narrowed once"; 000 takes 0 where the span isn't above 0, so "at an inner point's own time t is 0"
@@ -52,15 +62,14 @@ fraction previous next time =
 abbrev pub between : Float → AutomationPoint → AutomationPoint → Float
 between time p q = interpolated (p .curve) (p .value) (q .value) (fraction (p .time) (q .time) time)
 
--- "empty is silent; one point gives its value; at or before the first time the first value; at or after the last the last (both compared as numbers, −0.0 equal to 0.0); a NaN time is silent"
-unfoldable pub rawAt : List AutomationPoint → Float → Option Float
+-- "at or before the first time the first value; at or after the last the last (both compared as numbers, −0.0 equal to 0.0); a NaN time is silent"; `way` is what is found on the way from one point to the next
+unfoldable pub foundAt : {A : Type 0} → (AutomationPoint → A) → (Float → AutomationPoint → AutomationPoint → A) → List AutomationPoint → Float → Option A
 unfolding surrounded
-rawAt [] time = none
-rawAt (p ∷ []) time = some (p .value)
-rawAt (p ∷ (q ∷ l)) time =
-    cond (le time (p .time)) (some (p .value))
-    (cond (le (lastPoint (q ∷ l) .time) time) (some (lastPoint (q ∷ l) .value))
-    (surrounded timeKey (orderKey time) (between time) (p ∷ (q ∷ l))))
+foundAt end way l time = found end (λ p. le time (p .time)) (λ p. le (p .time) time) (surrounded timeKey (orderKey time) (way time) l) l
+
+-- the lookup by time before the constraints
+abbrev pub rawAt : List AutomationPoint → Float → Option Float
+rawAt l time = foundAt ended between l time
 
 -- ---- by sample
 
@@ -85,14 +94,13 @@ abbrev pub betweenSamples : ℕ → AutomationPoint → AutomationPoint → Floa
 betweenSamples sample p q = interpolated (p .curve) (p .value) (q .value) (sampleFraction (sampleKey p) (sampleKey q) sample)
 
 -- "The start test takes 0 for a first point without a position, the search takes its key; samples between the two are silent."
-unfoldable pub rawAtSample : List AutomationPoint → ℕ → Option Float
+unfoldable pub foundAtSample : {A : Type 0} → (AutomationPoint → A) → (ℕ → AutomationPoint → AutomationPoint → A) → List AutomationPoint → ℕ → Option A
 unfolding surrounded
-rawAtSample [] sample = none
-rawAtSample (p ∷ []) sample = some (p .value)
-rawAtSample (p ∷ (q ∷ l)) sample =
-    cond (leb sample (keyFrom (p .«sample_position») 0)) (some (p .value))
-    (cond (leb (sampleKey (lastPoint (q ∷ l))) sample) (some (lastPoint (q ∷ l) .value))
-    (surrounded sampleKey sample (betweenSamples sample) (p ∷ (q ∷ l))))
+foundAtSample end way l sample = found end (λ p. leb sample (keyFrom (p .«sample_position») 0)) (λ p. leb (sampleKey p) sample) (surrounded sampleKey sample (way sample) l) l
+
+-- the lookup by sample before the constraints
+abbrev pub rawAtSample : List AutomationPoint → ℕ → Option Float
+rawAtSample l sample = foundAtSample ended betweenSamples l sample
 
 -- ---- the answers
 

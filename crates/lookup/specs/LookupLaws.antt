@@ -17,7 +17,7 @@ use Rattle.points.specs.Points.{listOf, risingBy, timeKey}
 use Rattle.points.specs.declared.Points.{Points}
 use Rattle.points.specs.Refusal.{gives}
 use Rattle.points.specs.declared.AutomationPoint.{AutomationPoint}
-use Rattle.lookup.specs.Lookup.{pointAt, lastPoint, around, surrounded, between, rawAt, keyFrom, sampleKey, betweenSamples, rawAtSample, heard, keysRise, told, constrainedAnswer}
+use Rattle.lookup.specs.Lookup.{pointAt, lastPoint, around, surrounded, found, foundAt, keyFrom, sampleKey, foundAtSample, heard, keysRise, told, constrainedAnswer}
 use Rattle.points.specs.Search.{placeBy}
 use Rattle.lookup.specs.declared.Limits.{Limits}
 use Rattle.lookup.specs.declared.Lookup.{Lookup}
@@ -67,12 +67,7 @@ module _ {A : Type 0} (key : AutomationPoint → ℕ) (k : ℕ) (give : Automati
 pub at-place : (l : List AutomationPoint) (i k n : ℕ) → k ≡ min i 255 → n ≤ 256 → i < n → pointAt l k ≡ pointAt l i
 at-place l i k n e f h = let w : k ≡ i = omega arith in ap (pointAt l) w
 
--- ---- the ends, which both lookups have in common: a test of the first point, one of the last, and what is between
-
-unfoldable ends : (AutomationPoint → Bool) → (AutomationPoint → Bool) → Option Float → List AutomationPoint → Option Float
-ends early late inner [] = none
-ends early late inner (p ∷ []) = some (p .value)
-ends early late inner (p ∷ (q ∷ l)) = cond (early p) (some (p .value)) (cond (late (lastPoint (q ∷ l))) (some (lastPoint (q ∷ l) .value)) inner)
+-- ---- the ends, which both lookups have in common
 
 last-taken : (p q : AutomationPoint) (l : List AutomationPoint) (m : ℕ) → suc m ≤ length (q ∷ l) → lastPoint (take (suc m) (q ∷ l)) ≡ pointAt (p ∷ (q ∷ l)) (suc (suc m) - 1)
 last-taken p q l m f =
@@ -81,97 +76,94 @@ last-taken p q l m f =
     let h : m < suc m = omega arith in
     rw (length-take-le (suc m) (q ∷ l) f, a, b) (getD-take (suc m) (q ∷ l) m anyPoint h)
 
-module _ (early late : AutomationPoint → Bool) (inner : Option Float) where
-  ends-one : (ps : List AutomationPoint) (n : ℕ) → n ≤ length ps → n ≡ 1 → ends early late inner (take n ps) ≡ some (pointAt ps 0 .value)
-  unfolding ends
-  ends-one [] n f e = absurd (omega arith)
-  ends-one (p ∷ l) n f e = rw e
+module _ {A : Type 0} (end : AutomationPoint → A) (early late : AutomationPoint → Bool) (inner : Option A) where
+  found-one : (ps : List AutomationPoint) (n : ℕ) → n ≤ length ps → n ≡ 1 → found end early late inner (take n ps) ≡ some (end (pointAt ps 0))
+  found-one [] n f e = absurd (omega arith)
+  found-one (p ∷ l) n f e = rw e
 
-  ends-two : (ps : List AutomationPoint) (n : ℕ) → n ≤ length ps → 2 ≤ n
-      → ends early late inner (take n ps)
-      ≡ cond (early (pointAt ps 0)) (some (pointAt ps 0 .value)) (cond (late (pointAt ps (n - 1))) (some (pointAt ps (n - 1) .value)) inner)
-  unfolding ends
-  ends-two [] n f w = absurd (omega arith)
-  ends-two (p ∷ []) n f w = absurd (omega arith)
-  ends-two (p ∷ (q ∷ l)) zero f w = absurd (omega arith)
-  ends-two (p ∷ (q ∷ l)) (suc zero) f w = absurd (omega arith)
-  ends-two (p ∷ (q ∷ l)) (suc (suc m)) f w =
-      ap (λ (x : AutomationPoint). cond (early p) (some (p .value)) (cond (late x) (some (x .value)) inner)) (last-taken p q l m (le-of-suc-le-suc f))
+  found-two : (ps : List AutomationPoint) (n : ℕ) → n ≤ length ps → 2 ≤ n
+      → found end early late inner (take n ps)
+      ≡ cond (early (pointAt ps 0)) (some (end (pointAt ps 0))) (cond (late (pointAt ps (n - 1))) (some (end (pointAt ps (n - 1)))) inner)
+  found-two [] n f w = absurd (omega arith)
+  found-two (p ∷ []) n f w = absurd (omega arith)
+  found-two (p ∷ (q ∷ l)) zero f w = absurd (omega arith)
+  found-two (p ∷ (q ∷ l)) (suc zero) f w = absurd (omega arith)
+  found-two (p ∷ (q ∷ l)) (suc (suc m)) f w =
+      ap (λ (x : AutomationPoint). cond (early p) (some (end p)) (cond (late x) (some (end x)) inner)) (last-taken p q l m (le-of-suc-le-suc f))
 
--- ---- by time
+-- ---- by time, whatever a lookup gives
 
-by-time : (l : List AutomationPoint) (time : Float)
-    → rawAt l time ≡ ends (λ p. le time (p .time)) (λ p. le (p .time) time) (surrounded timeKey (orderKey time) (between time) l) l
-unfolding rawAt ends
-by-time [] time = refl
-by-time (p ∷ []) time = refl
-by-time (p ∷ (q ∷ l)) time = refl
-
-module _ (ps : List AutomationPoint) (n : ℕ) (time : Float) (f : n ≤ length ps) where
-  pub raw-none : n ≡ 0 → rawAt (take n ps) time ≡ none
-  unfolding rawAt
+module _ {A : Type 0} (end : AutomationPoint → A) (way : Float → AutomationPoint → AutomationPoint → A) (ps : List AutomationPoint) (n : ℕ) (time : Float) (f : n ≤ length ps) where
+  pub raw-none : n ≡ 0 → foundAt end way (take n ps) time ≡ none
+  unfolding foundAt
   raw-none e = rw e
 
-  pub raw-one : n ≡ 1 → rawAt (take n ps) time ≡ some (pointAt ps 0 .value)
-  raw-one e = by-time (take n ps) time ∙ ends-one _ _ _ ps n f e
+  pub raw-one : n ≡ 1 → foundAt end way (take n ps) time ≡ some (end (pointAt ps 0))
+  unfolding foundAt
+  raw-one e = found-one end _ _ _ ps n f e
 
-  pub raw-first : 2 ≤ n → le time (pointAt ps 0 .time) ≡ true → rawAt (take n ps) time ≡ some (pointAt ps 0 .value)
-  raw-first w a = by-time (take n ps) time ∙ ends-two _ _ _ ps n f w ∙ rw a
+  raw-two : 2 ≤ n
+      → foundAt end way (take n ps) time
+      ≡ cond (le time (pointAt ps 0 .time)) (some (end (pointAt ps 0)))
+      (cond (le (pointAt ps (n - 1) .time) time) (some (end (pointAt ps (n - 1)))) (surrounded timeKey (orderKey time) (way time) (take n ps)))
+  unfolding foundAt
+  raw-two w = found-two end _ _ _ ps n f w
 
-  pub raw-last : 2 ≤ n → le time (pointAt ps 0 .time) ≡ false → le (pointAt ps (n - 1) .time) time ≡ true → rawAt (take n ps) time ≡ some (pointAt ps (n - 1) .value)
-  raw-last w a b = by-time (take n ps) time ∙ ends-two _ _ _ ps n f w ∙ rw (a, b)
+  pub raw-first : 2 ≤ n → le time (pointAt ps 0 .time) ≡ true → foundAt end way (take n ps) time ≡ some (end (pointAt ps 0))
+  raw-first w a = raw-two w ∙ rw a
+
+  pub raw-last : 2 ≤ n → le time (pointAt ps 0 .time) ≡ false → le (pointAt ps (n - 1) .time) time ≡ true → foundAt end way (take n ps) time ≡ some (end (pointAt ps (n - 1)))
+  raw-last w a b = raw-two w ∙ rw (a, b)
 
   -- between the ends, by the place i that the search ends at
   module _ (w : 2 ≤ n) (a : le time (pointAt ps 0 .time) ≡ false) (b : le (pointAt ps (n - 1) .time) time ≡ false) (i : ℕ) (e : placeBy timeKey (orderKey time) (take n ps) ≡ i) where
-    raw-inner : rawAt (take n ps) time ≡ surrounded timeKey (orderKey time) (between time) (take n ps)
-    raw-inner = by-time (take n ps) time ∙ ends-two _ _ _ ps n f w ∙ rw (a, b)
+    raw-inner : foundAt end way (take n ps) time ≡ surrounded timeKey (orderKey time) (way time) (take n ps)
+    raw-inner = raw-two w ∙ rw (a, b)
 
-    pub raw-at-point : i < n → timeKey (pointAt ps i) ≡ orderKey time → rawAt (take n ps) time ≡ some (between time (pointAt ps i) (pointAt ps i))
-    raw-at-point h t = raw-inner ∙ around-at timeKey (orderKey time) (between time) ps n i f e h t
+    pub raw-at-point : i < n → timeKey (pointAt ps i) ≡ orderKey time → foundAt end way (take n ps) time ≡ some (way time (pointAt ps i) (pointAt ps i))
+    raw-at-point h t = raw-inner ∙ around-at timeKey (orderKey time) (way time) ps n i f e h t
 
-    pub raw-between : i < n → (timeKey (pointAt ps i) ≡ orderKey time → ⊥) → 0 < i → rawAt (take n ps) time ≡ some (between time (pointAt ps (i - 1)) (pointAt ps i))
-    raw-between h t p = raw-inner ∙ around-between timeKey (orderKey time) (between time) ps n i f e h t p
+    pub raw-between : i < n → (timeKey (pointAt ps i) ≡ orderKey time → ⊥) → 0 < i → foundAt end way (take n ps) time ≡ some (way time (pointAt ps (i - 1)) (pointAt ps i))
+    raw-between h t p = raw-inner ∙ around-between timeKey (orderKey time) (way time) ps n i f e h t p
 
-    pub raw-past : n ≤ i → rawAt (take n ps) time ≡ none
-    raw-past h = raw-inner ∙ around-past timeKey (orderKey time) (between time) ps n i f e h
+    pub raw-past : n ≤ i → foundAt end way (take n ps) time ≡ none
+    raw-past h = raw-inner ∙ around-past timeKey (orderKey time) (way time) ps n i f e h
 
-    pub raw-around : (p q : AutomationPoint) → p ≡ pointAt ps (i - 1) → (i < n → q ≡ pointAt ps i) → around timeKey (orderKey time) (between time) n i p q ≡ rawAt (take n ps) time
-    raw-around p q hp hq = around-is timeKey (orderKey time) (between time) ps n i f e p q hp hq ∙ sym raw-inner
+    pub raw-around : (p q : AutomationPoint) → p ≡ pointAt ps (i - 1) → (i < n → q ≡ pointAt ps i) → around timeKey (orderKey time) (way time) n i p q ≡ foundAt end way (take n ps) time
+    raw-around p q hp hq = around-is timeKey (orderKey time) (way time) ps n i f e p q hp hq ∙ sym raw-inner
 
--- ---- by sample
+-- ---- by sample, whatever a lookup gives
 
-by-sample : (l : List AutomationPoint) (sample : ℕ)
-    → rawAtSample l sample ≡ ends (λ p. leb sample (keyFrom (p .«sample_position») 0)) (λ p. leb (sampleKey p) sample) (surrounded sampleKey sample (betweenSamples sample) l) l
-unfolding rawAtSample ends
-by-sample [] sample = refl
-by-sample (p ∷ []) sample = refl
-by-sample (p ∷ (q ∷ l)) sample = refl
-
-module _ (ps : List AutomationPoint) (n sample : ℕ) (f : n ≤ length ps) where
-  pub sample-none : n ≡ 0 → rawAtSample (take n ps) sample ≡ none
-  unfolding rawAtSample
+module _ {A : Type 0} (end : AutomationPoint → A) (way : ℕ → AutomationPoint → AutomationPoint → A) (ps : List AutomationPoint) (n sample : ℕ) (f : n ≤ length ps) where
+  pub sample-none : n ≡ 0 → foundAtSample end way (take n ps) sample ≡ none
+  unfolding foundAtSample
   sample-none e = rw e
 
-  pub sample-one : n ≡ 1 → rawAtSample (take n ps) sample ≡ some (pointAt ps 0 .value)
-  sample-one e = by-sample (take n ps) sample ∙ ends-one _ _ _ ps n f e
+  pub sample-one : n ≡ 1 → foundAtSample end way (take n ps) sample ≡ some (end (pointAt ps 0))
+  unfolding foundAtSample
+  sample-one e = found-one end _ _ _ ps n f e
 
-  pub sample-first : 2 ≤ n → sample ≤ keyFrom (pointAt ps 0 .«sample_position») 0 → rawAtSample (take n ps) sample ≡ some (pointAt ps 0 .value)
-  sample-first w a = by-sample (take n ps) sample ∙ ends-two _ _ _ ps n f w ∙ rw (le-leb sample (keyFrom (pointAt ps 0 .«sample_position») 0) a)
+  sample-two : 2 ≤ n
+      → foundAtSample end way (take n ps) sample
+      ≡ cond (leb sample (keyFrom (pointAt ps 0 .«sample_position») 0)) (some (end (pointAt ps 0)))
+      (cond (leb (sampleKey (pointAt ps (n - 1))) sample) (some (end (pointAt ps (n - 1)))) (surrounded sampleKey sample (way sample) (take n ps)))
+  unfolding foundAtSample
+  sample-two w = found-two end _ _ _ ps n f w
+
+  pub sample-first : 2 ≤ n → sample ≤ keyFrom (pointAt ps 0 .«sample_position») 0 → foundAtSample end way (take n ps) sample ≡ some (end (pointAt ps 0))
+  sample-first w a = sample-two w ∙ rw (le-leb sample (keyFrom (pointAt ps 0 .«sample_position») 0) a)
 
   module _ (w : 2 ≤ n) (a : keyFrom (pointAt ps 0 .«sample_position») 0 < sample) where
-    sample-rest : rawAtSample (take n ps) sample ≡ cond (leb (sampleKey (pointAt ps (n - 1))) sample) (some (pointAt ps (n - 1) .value)) (surrounded sampleKey sample (betweenSamples sample) (take n ps))
-    sample-rest = by-sample (take n ps) sample ∙ ends-two _ _ _ ps n f w ∙ rw (lt-leb sample (keyFrom (pointAt ps 0 .«sample_position») 0) a)
-
-    pub sample-last : sampleKey (pointAt ps (n - 1)) ≤ sample → rawAtSample (take n ps) sample ≡ some (pointAt ps (n - 1) .value)
-    sample-last b = sample-rest ∙ rw (le-leb (sampleKey (pointAt ps (n - 1))) sample b)
+    pub sample-last : sampleKey (pointAt ps (n - 1)) ≤ sample → foundAtSample end way (take n ps) sample ≡ some (end (pointAt ps (n - 1)))
+    sample-last b = sample-two w ∙ rw (lt-leb sample (keyFrom (pointAt ps 0 .«sample_position») 0) a, le-leb (sampleKey (pointAt ps (n - 1))) sample b)
 
     -- between the ends, by the place i that the search ends at
     module _ (b : sample < sampleKey (pointAt ps (n - 1))) (i : ℕ) (e : placeBy sampleKey sample (take n ps) ≡ i) where
-      sample-inner : rawAtSample (take n ps) sample ≡ surrounded sampleKey sample (betweenSamples sample) (take n ps)
-      sample-inner = sample-rest ∙ rw (lt-leb (sampleKey (pointAt ps (n - 1))) sample b)
+      sample-inner : foundAtSample end way (take n ps) sample ≡ surrounded sampleKey sample (way sample) (take n ps)
+      sample-inner = sample-two w ∙ rw (lt-leb sample (keyFrom (pointAt ps 0 .«sample_position») 0) a, lt-leb (sampleKey (pointAt ps (n - 1))) sample b)
 
-      pub sample-around : (p q : AutomationPoint) → p ≡ pointAt ps (i - 1) → (i < n → q ≡ pointAt ps i) → around sampleKey sample (betweenSamples sample) n i p q ≡ rawAtSample (take n ps) sample
-      sample-around p q hp hq = around-is sampleKey sample (betweenSamples sample) ps n i f e p q hp hq ∙ sym sample-inner
+      pub sample-around : (p q : AutomationPoint) → p ≡ pointAt ps (i - 1) → (i < n → q ≡ pointAt ps i) → around sampleKey sample (way sample) n i p q ≡ foundAtSample end way (take n ps) sample
+      sample-around p q hp hq = around-is sampleKey sample (way sample) ps n i f e p q hp hq ∙ sym sample-inner
 
 -- ---- the answers
 

@@ -10,7 +10,7 @@ use Rattle.curve.specs.Curve.{code, controls, finiteControls, interpolated, eas
 use Rattle.points.specs.Points.{every, risingBy, validPoints}
 use Rattle.points.specs.Search.{placeBy}
 use Rattle.lookup.specs.Limits.{constrained}
-use Rattle.lookup.specs.Lookup.{surrounded, fraction, rawAt}
+use Rattle.lookup.specs.Lookup.{surrounded, fraction, foundAt}
 use Rattle.lookup.specs.Runs.{run}
 use Rattle.fields.specs.Form.{text, startsWith, nextIs, readDigits, numberForm, optionalForm, decimals, nextDigit, targetForm}
 use Rattle.lines.specs.Lines.{settingsForm, limitOf, finiteBits, settingsMeaning, settingsLine, controlsForm, pointForm, positionOf, pointMeaning, pointLine, blockForm, blockMeaning, blockLine}
@@ -40,5 +40,5 @@ cases =
     ∷ []
 
 pub cases-hold : map (λ c. output (c .0)) cases ≡ map (λ c. c .1) cases
-unfolding output printed counted refusalText sampleLines sampleLine digitByte digitsOf placesOf run playInput sheetLines pointLines pointsEnd isEmpty startsWith nextIs readDigits numberForm optionalForm decimals nextDigit targetForm settingsForm limitOf finiteBits settingsMeaning settingsLine controlsForm pointForm positionOf pointMeaning pointLine blockForm blockMeaning blockLine finite ofBits toBits orderKey risingBy curveOf validPoints every rawAt surrounded placeBy fraction constrained finiteControls controls code narrow interpolated eased clamped toUnsigned ofInt round add sub mul div lt le
+unfolding output printed counted refusalText sampleLines sampleLine digitByte digitsOf placesOf run playInput sheetLines pointLines pointsEnd isEmpty startsWith nextIs readDigits numberForm optionalForm decimals nextDigit targetForm settingsForm limitOf finiteBits settingsMeaning settingsLine controlsForm pointForm positionOf pointMeaning pointLine blockForm blockMeaning blockLine finite ofBits toBits orderKey risingBy curveOf validPoints every foundAt surrounded placeBy fraction constrained finiteControls controls code narrow interpolated eased clamped toUnsigned ofInt round add sub mul div lt le
 cases-hold = refl

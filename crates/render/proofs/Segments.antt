@@ -112,8 +112,8 @@ module _ (ps : List AutomationPoint) (n : ℕ) (f : n ≤ length ps) (w : 2 ≤ 
       where
         go : (t : Bool) → eqb (timeKey (pointAt ps i)) (orderKey time) ≡ t → 0 < i → i < n
             → rawAt (take n ps) time ≡ some (rawOf (cond t (segmentOf (pointAt ps i) (pointAt ps i)) (segmentOf (pointAt ps (i - 1)) (pointAt ps i))) time)
-        go true h p q = raw-at-point ps n time f w (not-first a) (not-last b) i e q (eqb-true _ _ h)
-        go false h p q = raw-between ps n time f w (not-first a) (not-last b) i e q (eqb-false _ _ h) p
+        go true h p q = raw-at-point _ _ ps n time f w (not-first a) (not-last b) i e q (eqb-true _ _ h)
+        go false h p q = raw-between _ _ ps n time f w (not-first a) (not-last b) i e q (eqb-false _ _ h) p
 
     -- a time that lies inside the segment: no other holds it
     held : (i : ℕ) → 0 < i → i < n → inside (segmentOf (pointAt ps (i - 1)) (pointAt ps i)) time ≡ true → rawAt (take n ps) time ≡ some (between time (pointAt ps (i - 1)) (pointAt ps i))
@@ -127,7 +127,7 @@ module _ (ps : List AutomationPoint) (n : ℕ) (f : n ≤ length ps) (w : 2 ≤ 
         let o : orderKey time ≤ orderKey time = omega arith in
         let a₀ = lt-around (pointAt ps 0 .time) x time time (fit 0) (fit (i - 1)) g g (number-at 0 (omega arith)) (lt-right x time a) (key-le 0 (i - 1) (omega arith) (omega arith)) a o in
         let b₁ = lt-around time time y (pointAt ps (n - 1) .time) g g (fit i) (fit (n - 1)) (lt-left time y b) (number-at (n - 1) (omega arith)) o b (key-le i (n - 1) (omega arith) (omega arith)) in
-        raw-between ps n time f w (not-first a₀) (not-last b₁) i (place-between timeKey anyPoint (orderKey time) ps n i r f p q j (omega arith)) q (λ t. omega arith) p
+        raw-between _ _ ps n time f w (not-first a₀) (not-last b₁) i (place-between timeKey anyPoint (orderKey time) ps n i r f p q j (omega arith)) q (λ t. omega arith) p
 
     pub raw-held : (i k : ℕ) → 0 < i → i < n → inside (segmentAround k (pointAt ps (i - 1)) (pointAt ps i)) time ≡ true
         → rawAt (take n ps) time ≡ some (rawOf (segmentAround k (pointAt ps (i - 1)) (pointAt ps i)) time)
@@ -143,7 +143,7 @@ module _ (ps : List AutomationPoint) (n : ℕ) (f : n ≤ length ps) (w : 2 ≤ 
   -- where no segment is
   nan-raw : (time : Float) → le time (pointAt ps 0 .time) ≡ false → le (pointAt ps (n - 1) .time) time ≡ false → time ≡ nan → rawAt (take n ps) time ≡ none
   nan-raw time a b t =
-      raw-past ps n time f w a b n
+      raw-past _ _ ps n time f w a b n
       (ap (λ (x : Float). placeBy timeKey (orderKey x) (take n ps)) t
       ∙ place-at timeKey anyPoint (orderKey nan) ps n n f (omega arith) (λ j s. number-key (pointAt ps j .time) (fit j) (number-at j s)) (λ s. absurd (omega arith)))
       (omega arith)
@@ -166,8 +166,8 @@ module _ (ps : List AutomationPoint) (n : ℕ) (f : n ≤ length ps) (w : 2 ≤ 
 
       go : (a : Bool) → le time x ≡ a → (b : Bool) → le y time ≡ b → (c : Bool) → isNan time ≡ c
           → cond a (constrained limits (pointAt ps 0 .value)) (cond b (constrained limits (pointAt ps (n - 1) .value)) (ofBits binary32 0)) ≡ sampleOf limits (rawAt (take n ps) time)
-      go true a b q c s = ap (sampleOf limits) (sym (raw-first ps n time f w a))
-      go false a true b c s = ap (sampleOf limits) (sym (raw-last ps n time f w a b))
+      go true a b q c s = ap (sampleOf limits) (sym (raw-first _ _ ps n time f w a))
+      go false a true b c s = ap (sampleOf limits) (sym (raw-last _ _ ps n time f w a b))
       go false a false b true s = ap (sampleOf limits) (sym (nan-raw time a b (is-nan time s)))
       go false a false b false s =
           let i = not-false (lt x time) (sym (le-not x time (number-at 0 (omega arith)) s) ∙ a) in

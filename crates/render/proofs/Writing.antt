@@ -76,7 +76,7 @@ module _ (ps : Points) (enabled : Bool) (limits : Limits) (rate : Float) (first 
     on-run l w = w ∙ ap (λ (b : Bool). run (sampleAt ps b limits rate) first n) (sym e)
 
     pub none-run : ps .count ≡ 0 → replicate n (ofBits binary32 0) ≡ run (sampleAt ps enabled limits rate) first n
-    none-run z = all-same _ (λ k. ap (sampleOf limits) (sym (raw-none (ps .places) (ps .count) (timeOf rate k) (omega arith) z)) ∙ ap (λ (b : Bool). sampleAt ps b limits rate k) (sym e))
+    none-run z = all-same _ (λ k. ap (sampleOf limits) (sym (raw-none _ _ (ps .places) (ps .count) (timeOf rate k) (omega arith) z)) ∙ ap (λ (b : Bool). sampleAt ps b limits rate k) (sym e))
 
     pub one-run : ps .count ≡ 1 → ps .count ≤ length (ps .places) → (v : Float) → v ≡ constrained limits (pointAt (ps .places) 0 .value) → replicate n v ≡ run (sampleAt ps enabled limits rate) first n
-    one-run z f v w = all-same v (λ k. w ∙ ap (sampleOf limits) (sym (raw-one (ps .places) (ps .count) (timeOf rate k) f z)) ∙ ap (λ (b : Bool). sampleAt ps b limits rate k) (sym e))
+    one-run z f v w = all-same v (λ k. w ∙ ap (sampleOf limits) (sym (raw-one _ _ (ps .places) (ps .count) (timeOf rate k) f z)) ∙ ap (λ (b : Bool). sampleAt ps b limits rate k) (sym e))

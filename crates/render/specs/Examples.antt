@@ -15,7 +15,7 @@ use Rattle.points.specs.Refusal.{gives}
 use Rattle.points.specs.declared.Points.{Points}
 use Rattle.lookup.specs.Examples.{free, rise, t1}
 use Rattle.lookup.specs.Limits.{constrained}
-use Rattle.lookup.specs.Lookup.{surrounded, fraction, rawAt}
+use Rattle.lookup.specs.Lookup.{surrounded, fraction, foundAt}
 use Rattle.points.specs.Search.{placeBy}
 use Rattle.render.specs.Render.{declined, runInto, render, toBuffer, nextSample}
 use Rattle.lookup.specs.Runs.{run}
@@ -30,7 +30,7 @@ sheet = holding (rise Linear)
 
 -- 01's output, written from place 1 of five; the other places stay
 pub sheet-played : toBuffer sheet true free t1 t3 1 (f1 ∷ f1 ∷ f1 ∷ f1 ∷ f1 ∷ []) ≡ record { said = gives tt; buffer = f1 ∷ f0 ∷ f32 0x3E80_0000 ∷ f0·5 ∷ f1 ∷ [] }
-unfolding toBuffer runInto run validPoints every risingBy rawAt surrounded placeBy fraction constrained finite finiteControls controls code orderKey narrow interpolated eased clamped ofBits toBits toUnsigned ofInt round add sub mul div lt le
+unfolding toBuffer runInto run validPoints every risingBy foundAt surrounded placeBy fraction constrained finite finiteControls controls code orderKey narrow interpolated eased clamped ofBits toBits toUnsigned ofInt round add sub mul div lt le
 sheet-played = refl
 
 -- "3 samples at place 2 of 4"
@@ -45,5 +45,5 @@ thirteen = refl
 
 -- no points are silent, and the walk over them advances
 pub silent-step : nextSample (holding []) true free (record { «sample_rate» = t1; «current_sample» = 1; «total_samples» = 3 }) ≡ record { said = gives none; walk = record { «sample_rate» = t1; «current_sample» = 2; «total_samples» = 3 } }
-unfolding nextSample validPoints every risingBy rawAt code finite ofBits
+unfolding nextSample validPoints every risingBy foundAt code finite ofBits
 silent-step = refl

@@ -36,7 +36,7 @@ returns-2 c =
     c .no-values .ensures
     ∙ ap (foldl widen noValues)
     (sym (given-none (λ k. valueAtSample ps (a .enabled) (a .limits) (a .start + k * a .step)) 0 (a .stops)
-    (λ k. silent-gives (a .enabled) (ps .count) (a .limits) (rawAtSample (listOf ps) (a .start + k * a .step)) (c .before .if1 .left) (sample-none (ps .places) (ps .count) (a .start + k * a .step) (inside ps _ (c .before .before .before .good .0) (c .before .before .before .pre .0))))))
+    (λ k. silent-gives (a .enabled) (ps .count) (a .limits) (rawAtSample (listOf ps) (a .start + k * a .step)) (c .before .if1 .left) (sample-none _ _ (ps .places) (ps .count) (a .start + k * a .step) (inside ps _ (c .before .before .before .good .0) (c .before .before .before .pre .0))))))
 
 pub samples-range-spec : {M : Type 1} → statement M
 samples-range-spec = tie.close (tie.spec bounds-of-samples-requires no-values-requires returns returns-2)

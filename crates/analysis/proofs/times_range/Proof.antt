@@ -34,7 +34,7 @@ returns-2 c =
     c .no-values .ensures
     ∙ ap (foldl widen noValues)
     (sym (given-none (λ k. valueAt ps (a .enabled) (a .limits) (rangeTime (a .start) (a .end) k)) 0 101
-    (λ k. silent-gives (a .enabled) (ps .count) (a .limits) (rawAt (listOf ps) (rangeTime (a .start) (a .end) k)) (c .before .if1 .left) (raw-none (ps .places) (ps .count) (rangeTime (a .start) (a .end) k) (inside ps _ (c .before .before .before .good .0) (c .before .before .before .pre))))))
+    (λ k. silent-gives (a .enabled) (ps .count) (a .limits) (rawAt (listOf ps) (rangeTime (a .start) (a .end) k)) (c .before .if1 .left) (raw-none _ _ (ps .places) (ps .count) (rangeTime (a .start) (a .end) k) (inside ps _ (c .before .before .before .good .0) (c .before .before .before .pre))))))
 
 pub times-range-spec : {M : Type 1} → statement M
 times-range-spec = tie.close (tie.spec bounds-of-times-requires no-values-requires returns returns-2)

@@ -20,21 +20,21 @@ abbrev μ-loop : tie.MeasureT-loop
 
 returns : tie.Need-returns Inv-loop μ-loop
 returns c = let ps = c .before .args .t1 in
-    ap gives (sym (sample-none (ps .places) (ps .count) (c .before .args .sample) (inside ps _ (c .before .good .0) (c .before .pre .0)) (c .if1 .taken)))
+    ap gives (sym (sample-none _ _ (ps .places) (ps .count) (c .before .args .sample) (inside ps _ (c .before .good .0) (c .before .pre .0)) (c .if1 .taken)))
 
 element-copy-out-first : tie.Need-element-copy-out-first Inv-loop μ-loop
 element-copy-out-first c = omega arith
 
 returns-2 : tie.Need-returns-2 Inv-loop μ-loop
 returns-2 c = let ps = c .before .before .before .args .t1 in
-    ap gives (sym (sample-one (ps .places) (ps .count) (c .before .before .before .args .sample) (inside ps _ (c .before .before .before .good .0) (c .before .before .before .pre .0)) (c .if2 .taken)))
+    ap gives (sym (sample-one _ _ (ps .places) (ps .count) (c .before .before .before .args .sample) (inside ps _ (c .before .before .before .good .0) (c .before .before .before .pre .0)) (c .if2 .taken)))
 
 start-key-requires : tie.Need-start-key-requires Inv-loop μ-loop
 start-key-requires c κs = tt
 
 returns-3 : tie.Need-returns-3 Inv-loop μ-loop
 returns-3 c = let ps = c .before .before .before .before .before .args .t1 in
-    ap gives (sym (sample-first (ps .places) (ps .count) (c .before .before .before .before .before .args .sample) (inside ps _ (c .before .before .before .before .before .good .0) (c .before .before .before .before .before .pre .0)) (omega arith) (omega (arith, c .before .start-key .ensures, c .if3 .taken))))
+    ap gives (sym (sample-first _ _ (ps .places) (ps .count) (c .before .before .before .before .before .args .sample) (inside ps _ (c .before .before .before .before .before .good .0) (c .before .before .before .before .before .pre .0)) (omega arith) (omega (arith, c .before .start-key .ensures, c .if3 .taken))))
 
 sub-last : tie.Need-sub-last Inv-loop μ-loop
 sub-last c = omega arith
@@ -50,7 +50,7 @@ sample-key-requires c κs = tt
 
 returns-4 : tie.Need-returns-4 Inv-loop μ-loop
 returns-4 c = let ps = c .before .before .before .before .before .before .before .before .args .t1 in
-    ap gives (sym (sample-last (ps .places) (ps .count) (c .before .before .before .before .before .before .before .before .args .sample) (inside ps _ (c .before .before .before .before .before .before .before .before .good .0) (c .before .before .before .before .before .before .before .before .pre .0)) (omega arith) (omega (arith, c .before .before .before .before .start-key .ensures, c .before .before .before .if3 .left)) (omega (arith, c .before .sample-key .ensures, c .if4 .taken))))
+    ap gives (sym (sample-last _ _ (ps .places) (ps .count) (c .before .before .before .before .before .before .before .before .args .sample) (inside ps _ (c .before .before .before .before .before .before .before .before .good .0) (c .before .before .before .before .before .before .before .before .pre .0)) (omega arith) (omega (arith, c .before .before .before .before .start-key .ensures, c .before .before .before .if3 .left)) (omega (arith, c .before .sample-key .ensures, c .if4 .taken))))
 
 loop-holds : tie.Need-loop-holds Inv-loop μ-loop
 loop-holds c = search-start sampleKey anyPoint (c .before .before .before .before .before .before .before .before .args .sample) (c .before .before .before .before .before .before .before .before .args .t1 .places) (c .before .before .before .before .before .before .before .before .args .t1 .count)
@@ -117,7 +117,7 @@ returns-5 c = let ps = c .before .before .before .before .before .before .before
     let h = c .before .before .before .before .before .before .loop in
     let f = inside ps _ (c .before .before .before .before .before .before .before .before .before .before .before .before .before .before .before .good .0) (c .before .before .before .before .before .before .before .before .before .before .before .before .before .before .before .pre .0) in
     let e = search-end sampleKey anyPoint (c .before .before .before .before .before .before .before .before .before .before .before .before .before .before .before .args .sample) (ps .places) (ps .count) (h .low) (h .high) (h .inv) f (omega arith) in
-    c .around .ensures ∙ ap gives (sample-around (ps .places) (ps .count) (c .before .before .before .before .before .before .before .before .before .before .before .before .before .before .before .args .sample) f (omega arith) (omega (arith, c .before .before .before .before .before .before .before .before .before .before .before .start-key .ensures, c .before .before .before .before .before .before .before .before .before .before .if3 .left)) (omega (arith, c .before .before .before .before .before .before .before .before .sample-key .ensures, c .before .before .before .before .before .before .before .if4 .left)) (h .low) e _ _ (ap (pointAt (ps .places)) (c .before .before .before .before .previous .ensures)) (at-place (ps .places) (h .low) _ (ps .count) (c .before .before .before .within .ensures) (valid-count ps (c .before .before .before .before .before .before .before .before .before .before .before .before .before .before .before .pre .0))))
+    c .around .ensures ∙ ap gives (sample-around _ _ (ps .places) (ps .count) (c .before .before .before .before .before .before .before .before .before .before .before .before .before .before .before .args .sample) f (omega arith) (omega (arith, c .before .before .before .before .before .before .before .before .before .before .before .start-key .ensures, c .before .before .before .before .before .before .before .before .before .before .if3 .left)) (omega (arith, c .before .before .before .before .before .before .before .before .sample-key .ensures, c .before .before .before .before .before .before .before .if4 .left)) (h .low) e _ _ (ap (pointAt (ps .places)) (c .before .before .before .before .previous .ensures)) (at-place (ps .places) (h .low) _ (ps .count) (c .before .before .before .within .ensures) (valid-count ps (c .before .before .before .before .before .before .before .before .before .before .before .before .before .before .before .pre .0))))
 
 pub raw-at-sample-spec : {M : Type 1} → statement M
 raw-at-sample-spec =

@@ -22,18 +22,18 @@ abbrev μ-loop : tie.MeasureT-loop
 
 returns : tie.Need-returns Inv-loop μ-loop
 returns c = let ps = c .before .args .t1 in
-    ap gives (sym (raw-none (ps .places) (ps .count) (c .before .args .time) (inside ps _ (c .before .good .0) (c .before .pre)) (c .if1 .taken)))
+    ap gives (sym (raw-none _ _ (ps .places) (ps .count) (c .before .args .time) (inside ps _ (c .before .good .0) (c .before .pre)) (c .if1 .taken)))
 
 element-copy-out-first : tie.Need-element-copy-out-first Inv-loop μ-loop
 element-copy-out-first c = omega arith
 
 returns-2 : tie.Need-returns-2 Inv-loop μ-loop
 returns-2 c = let ps = c .before .before .before .args .t1 in
-    ap gives (sym (raw-one (ps .places) (ps .count) (c .before .before .before .args .time) (inside ps _ (c .before .before .before .good .0) (c .before .before .before .pre)) (c .if2 .taken)))
+    ap gives (sym (raw-one _ _ (ps .places) (ps .count) (c .before .before .before .args .time) (inside ps _ (c .before .before .before .good .0) (c .before .before .before .pre)) (c .if2 .taken)))
 
 returns-3 : tie.Need-returns-3 Inv-loop μ-loop
 returns-3 c = let ps = c .before .before .before .before .before .args .t1 in
-    ap gives (sym (raw-first (ps .places) (ps .count) (c .before .before .before .before .before .args .time) (inside ps _ (c .before .before .before .before .before .good .0) (c .before .before .before .before .before .pre)) (omega arith) (c .if3 .taken)))
+    ap gives (sym (raw-first _ _ (ps .places) (ps .count) (c .before .before .before .before .before .args .time) (inside ps _ (c .before .before .before .before .before .good .0) (c .before .before .before .before .before .pre)) (omega arith) (c .if3 .taken)))
 
 sub-last : tie.Need-sub-last Inv-loop μ-loop
 sub-last c = omega arith
@@ -46,7 +46,7 @@ element-copy-out-last c = omega (arith, valid-count (c .before .before .before .
 
 returns-4 : tie.Need-returns-4 Inv-loop μ-loop
 returns-4 c = let ps = c .before .before .before .before .before .before .before .before .args .t1 in
-    ap gives (sym (raw-last (ps .places) (ps .count) (c .before .before .before .before .before .before .before .before .args .time) (inside ps _ (c .before .before .before .before .before .before .before .before .good .0) (c .before .before .before .before .before .before .before .before .pre)) (omega arith) (c .before .before .before .if3 .left) (c .if4 .taken)))
+    ap gives (sym (raw-last _ _ (ps .places) (ps .count) (c .before .before .before .before .before .before .before .before .args .time) (inside ps _ (c .before .before .before .before .before .before .before .before .good .0) (c .before .before .before .before .before .before .before .before .pre)) (omega arith) (c .before .before .before .if3 .left) (c .if4 .taken)))
 
 order-key-requires : tie.Need-order-key-requires Inv-loop μ-loop
 order-key-requires c κs = tt
@@ -116,7 +116,7 @@ returns-5 c = let ps = c .before .before .before .before .before .before .before
     let h = c .before .before .before .before .before .before .loop in
     let f = inside ps _ (c .before .before .before .before .before .before .before .before .before .before .before .before .before .before .before .before .good .0) (c .before .before .before .before .before .before .before .before .before .before .before .before .before .before .before .before .pre) in
     let e = search-end timeKey anyPoint (orderKey (c .before .before .before .before .before .before .before .before .before .before .before .before .before .before .before .before .args .time)) (ps .places) (ps .count) (h .low) (h .high) (h .inv) f (omega arith) in
-    c .around .ensures ∙ ap gives (raw-around (ps .places) (ps .count) (c .before .before .before .before .before .before .before .before .before .before .before .before .before .before .before .before .args .time) f (omega arith) (c .before .before .before .before .before .before .before .before .before .before .before .if3 .left) (c .before .before .before .before .before .before .before .before .if4 .left) (h .low) e _ _ (ap (pointAt (ps .places)) (c .before .before .before .before .previous .ensures)) (at-place (ps .places) (h .low) _ (ps .count) (c .before .before .before .within .ensures) (valid-count ps (c .before .before .before .before .before .before .before .before .before .before .before .before .before .before .before .before .pre))))
+    c .around .ensures ∙ ap gives (raw-around _ _ (ps .places) (ps .count) (c .before .before .before .before .before .before .before .before .before .before .before .before .before .before .before .before .args .time) f (omega arith) (c .before .before .before .before .before .before .before .before .before .before .before .if3 .left) (c .before .before .before .before .before .before .before .before .if4 .left) (h .low) e _ _ (ap (pointAt (ps .places)) (c .before .before .before .before .previous .ensures)) (at-place (ps .places) (h .low) _ (ps .count) (c .before .before .before .within .ensures) (valid-count ps (c .before .before .before .before .before .before .before .before .before .before .before .before .before .before .before .before .pre))))
 
 pub raw-at-spec : {M : Type 1} → statement M
 raw-at-spec =
