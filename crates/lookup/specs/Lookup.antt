@@ -40,11 +40,13 @@ unfoldable pub surrounded : {A : Type 0} → (AutomationPoint → ℕ) → ℕ �
 unfolding placeBy
 surrounded key k give l = let i = placeBy key k l in around key k give (length l) i (pointAt l (i - 1)) (pointAt l i)
 
--- what both lookups have in common, `end` being what a point gives by itself: "empty is silent; one point gives its value", else the first point's where `early` says so, the last one's where `late` does, and what is found between
+-- both lookups, where `end` is what a point gives by itself: "empty is silent; one point gives its value"; of more points the first where `early` holds of it, the last where `late` does, else what is found between
 abbrev pub found : {A : Type 0} → (AutomationPoint → A) → (AutomationPoint → Bool) → (AutomationPoint → Bool) → Option A → List AutomationPoint → Option A
 found end early late inner [] = none
 found end early late inner (p ∷ []) = some (end p)
-found end early late inner (p ∷ (q ∷ l)) = cond (early p) (some (end p)) (cond (late (lastPoint (q ∷ l))) (some (end (lastPoint (q ∷ l)))) inner)
+found end early late inner (p ∷ (q ∷ l)) =
+    let last = lastPoint (q ∷ l) in
+    cond (early p) (some (end p)) (cond (late last) (some (end last)) inner)
 
 -- a point's own value
 abbrev pub ended : AutomationPoint → Float
@@ -62,7 +64,8 @@ fraction previous next time =
 abbrev pub between : Float → AutomationPoint → AutomationPoint → Float
 between time p q = interpolated (p .curve) (p .value) (q .value) (fraction (p .time) (q .time) time)
 
--- "at or before the first time the first value; at or after the last the last (both compared as numbers, −0.0 equal to 0.0); a NaN time is silent"; `way` is what is found on the way from one point to the next
+-- "at or before the first time the first value; at or after the last the last (both compared as numbers, −0.0 equal to 0.0); a NaN time is silent"
+-- `way` is what is found on the way from one point to the next
 unfoldable pub foundAt : {A : Type 0} → (AutomationPoint → A) → (Float → AutomationPoint → AutomationPoint → A) → List AutomationPoint → Float → Option A
 unfolding surrounded
 foundAt end way l time = found end (λ p. le time (p .time)) (λ p. le (p .time) time) (surrounded timeKey (orderKey time) (way time) l) l

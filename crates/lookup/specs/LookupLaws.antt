@@ -162,7 +162,8 @@ module _ {A : Type 0} (end : AutomationPoint → A) (way : ℕ → AutomationPoi
       sample-inner : foundAtSample end way (take n ps) sample ≡ surrounded sampleKey sample (way sample) (take n ps)
       sample-inner = sample-two w ∙ rw (lt-leb sample (keyFrom (pointAt ps 0 .«sample_position») 0) a, lt-leb (sampleKey (pointAt ps (n - 1))) sample b)
 
-      pub sample-around : (p q : AutomationPoint) → p ≡ pointAt ps (i - 1) → (i < n → q ≡ pointAt ps i) → around sampleKey sample (way sample) n i p q ≡ foundAtSample end way (take n ps) sample
+      pub sample-around : (p q : AutomationPoint) → p ≡ pointAt ps (i - 1) → (i < n → q ≡ pointAt ps i)
+          → around sampleKey sample (way sample) n i p q ≡ foundAtSample end way (take n ps) sample
       sample-around p q hp hq = around-is sampleKey sample (way sample) ps n i f e p q hp hq ∙ sym sample-inner
 
 -- ---- the answers

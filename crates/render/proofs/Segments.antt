@@ -11,7 +11,7 @@ use lib.Dec.{T, eqb}
 use lib.ListN.{length, take, drop, getD, set, length-set}
 use lib.IntN.{pos}
 use lib.Seq.{getD-take, length-take-le, drop-set-lt}
-use lib.Ieee.{Float, nan, inf, fin, binary32, binary64, lt, le, fits, isNan, ofInt, ofBits}
+use lib.Ieee.{Float, nan, inf, fin, binary64, lt, le, fits, isNan, ofInt}
 use lib.Ieee.Fits.{div-fits}
 use borrow.Author.Tests.{eqb-true, eqb-false, not-false}
 use Rattle.numbers.specs.Order.{orderKey}
@@ -44,13 +44,13 @@ every-at q (x ∷ l) (suc j) d e h = every-at q l j d (and-right (q x) _ e) (le-
 abbrev rawOf : Segment → Float → Float
 rawOf s time = interpolated (s .curve) (s .start) (s .end) (fraction (s .from) (s .to) time)
 
--- "0.0 where silent", of an enabled envelope
-abbrev pub sampleOf : Limits → Option Float → Float
-sampleOf limits raw = Option·getD (heard true limits raw) (ofBits binary32 0)
+-- a sample of an enabled envelope, with the number for a silent one
+abbrev pub sampleOf : Float → Limits → Option Float → Float
+sampleOf silent limits raw = Option·getD (heard true limits raw) silent
 
 -- the first point and the last
-abbrev pub endsOf : Limits → AutomationPoint → AutomationPoint → Ends
-endsOf limits p q = record { first = p .time; early = constrained limits (p .value); last = q .time; late = constrained limits (q .value) }
+abbrev pub endsOf : Float → Limits → AutomationPoint → AutomationPoint → Ends
+endsOf silent limits p q = record { first = p .time; early = constrained limits (p .value); last = q .time; late = constrained limits (q .value); silent = silent }
 
 not-up : {b : Bool} → b ≡ true → not b ≡ false
 not-up h = ap not h
@@ -154,9 +154,9 @@ module _ (ps : List AutomationPoint) (n : ℕ) (f : n ≤ length ps) (w : 2 ≤ 
   is-nan (inf s) h = absurd (false≢true h)
   is-nan (fin s m e) h = absurd (false≢true h)
 
-  pub raw-outside : (limits : Limits) (time : Float) → (lt (pointAt ps 0 .time) time && lt time (pointAt ps (n - 1) .time)) ≡ false
-      → outsideAt (endsOf limits (pointAt ps 0) (pointAt ps (n - 1))) time ≡ sampleOf limits (rawAt (take n ps) time)
-  raw-outside limits time h = go (le time x) refl (le y time) refl (isNan time) refl
+  pub raw-outside : (silent : Float) (limits : Limits) (time : Float) → (lt (pointAt ps 0 .time) time && lt time (pointAt ps (n - 1) .time)) ≡ false
+      → outsideAt (endsOf silent limits (pointAt ps 0) (pointAt ps (n - 1))) time ≡ sampleOf silent limits (rawAt (take n ps) time)
+  raw-outside silent limits time h = go (le time x) refl (le y time) refl (isNan time) refl
     where
       x : Float
       x = pointAt ps 0 .time
@@ -165,23 +165,24 @@ module _ (ps : List AutomationPoint) (n : ℕ) (f : n ≤ length ps) (w : 2 ≤ 
       y = pointAt ps (n - 1) .time
 
       go : (a : Bool) → le time x ≡ a → (b : Bool) → le y time ≡ b → (c : Bool) → isNan time ≡ c
-          → cond a (constrained limits (pointAt ps 0 .value)) (cond b (constrained limits (pointAt ps (n - 1) .value)) (ofBits binary32 0)) ≡ sampleOf limits (rawAt (take n ps) time)
-      go true a b q c s = ap (sampleOf limits) (sym (raw-first _ _ ps n time f w a))
-      go false a true b c s = ap (sampleOf limits) (sym (raw-last _ _ ps n time f w a b))
-      go false a false b true s = ap (sampleOf limits) (sym (nan-raw time a b (is-nan time s)))
+          → cond a (constrained limits (pointAt ps 0 .value)) (cond b (constrained limits (pointAt ps (n - 1) .value)) silent) ≡ sampleOf silent limits (rawAt (take n ps) time)
+      go true a b q c s = ap (sampleOf silent limits) (sym (raw-first _ _ ps n time f w a))
+      go false a true b c s = ap (sampleOf silent limits) (sym (raw-last _ _ ps n time f w a b))
+      go false a false b true s = ap (sampleOf silent limits) (sym (nan-raw time a b (is-nan time s)))
       go false a false b false s =
           let i = not-false (lt x time) (sym (le-not x time (number-at 0 (omega arith)) s) ∙ a) in
           let j = not-false (lt time y) (sym (le-not time y s (number-at (n - 1) (omega arith))) ∙ b) in
           absurd (false≢true (sym h ∙ ap₂ (λ (u t : Bool). u && t) i j))
 
   -- the samples of a stretch are the envelope's
-  pub stretch-samples : (limits : Limits) (rate : Float) (k i m : ℕ) (old new : List Float) → lt (pointAt ps 0 .time) (timeOf rate k) ≡ true → lt (timeOf rate k) (pointAt ps (n - 1) .time) ≡ true
+  pub stretch-samples : (silent : Float) (limits : Limits) (rate : Float) (k i m : ℕ) (old new : List Float)
+      → lt (pointAt ps 0 .time) (timeOf rate k) ≡ true → lt (timeOf rate k) (pointAt ps (n - 1) .time) ≡ true
       → placeBy timeKey (orderKey (timeOf rate k)) (take n ps) ≡ i → Stretch (segmentAround (orderKey (timeOf rate k)) (pointAt ps (i - 1)) (pointAt ps i)) limits rate k old new m
-      → new ≡ run (λ j. sampleOf limits (rawAt (take n ps) (timeOf rate j))) k m ++ drop m old
+      → new ≡ run (λ j. sampleOf silent limits (rawAt (take n ps) (timeOf rate j))) k m ++ drop m old
   unfolding segmentAt
-  stretch-samples limits rate k i m old new a b e s =
+  stretch-samples silent limits rate k i m old new a b e s =
       let p = place-inside (timeOf rate k) (at k) i a b e in
-      s .buffer ∙ ap (λ (l : List Float). l ++ drop m old) (run-same _ _ k k m (λ j h. ap (sampleOf limits) (sym (one p j h))))
+      s .buffer ∙ ap (λ (l : List Float). l ++ drop m old) (run-same _ _ k k m (λ j h. ap (sampleOf silent limits) (sym (one p j h))))
     where
       seg : Segment
       seg = segmentAround (orderKey (timeOf rate k)) (pointAt ps (i - 1)) (pointAt ps i)

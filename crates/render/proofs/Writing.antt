@@ -6,7 +6,7 @@ use mathlib.Core.List.{List, _++_}
 use native.Mathlib.Omega.{arith}
 use lib.ListN.{length, drop, replicate}
 use lib.IntN.{pos}
-use lib.Ieee.{Float, binary32, binary64, lt, ofInt, ofBits}
+use lib.Ieee.{Float, binary64, lt, ofInt}
 use lib.Ieee.Fits.{div-fits}
 use mir.Val.{Val}
 use denote.Laws.{Is}
@@ -20,7 +20,7 @@ use Rattle.lookup.specs.Limits.{constrained}
 use Rattle.lookup.specs.Lookup.{pointAt}
 use Rattle.points.specs.Search.{placeBy}
 use Rattle.lookup.specs.LookupLaws.{raw-none, raw-one, valid-count, valid-finite, valid-rising}
-use Rattle.render.specs.Render.{timeOf, sampleAt}
+use Rattle.render.specs.Render.{timeOf, sampleOr}
 use Rattle.lookup.specs.Runs.{run, run-same, run-constant}
 use Rattle.render.specs.Writer.{segmentAround, outsideAt, Stretch}
 use Rattle.lookup.specs.declared.Limits.{Limits}
@@ -44,39 +44,45 @@ module _ (ps : Points) (vs : List Val) (g : Is (row the-type) ps vs) (v : validP
         place-inside (ps .places) (ps .count) (among ps vs g v) w (valid-finite ps v) (valid-rising ps v) (times-fit ps vs g) (timeOf rate k) (div-fits binary64 (ofInt binary64 (pos k)) rate) j
         (and-left _ _ t) (and-right (lt (pointAt (ps .places) 0 .time) (timeOf rate k)) _ t) found
 
-    pub stretch-written : (limits : Limits) (seg : Segment) (m : ℕ) (old new : List Float) → seg ≡ segmentAround key (pointAt (ps .places) (j - 1)) (pointAt (ps .places) j)
-        → Stretch seg limits rate k old new m → new ≡ run (sampleAt ps true limits rate) k m ++ drop m old
-    stretch-written limits seg m old new q s =
-        stretch-samples (ps .places) (ps .count) (among ps vs g v) w (valid-finite ps v) (valid-rising ps v) (times-fit ps vs g) limits rate k j m old new
+    pub stretch-written : (silent : Float) (limits : Limits) (seg : Segment) (m : ℕ) (old new : List Float) → seg ≡ segmentAround key (pointAt (ps .places) (j - 1)) (pointAt (ps .places) j)
+        → Stretch seg limits rate k old new m → new ≡ run (sampleOr silent ps true limits rate) k m ++ drop m old
+    stretch-written silent limits seg m old new q s =
+        stretch-samples (ps .places) (ps .count) (among ps vs g v) w (valid-finite ps v) (valid-rising ps v) (times-fit ps vs g) silent limits rate k j m old new
         (and-left _ _ t) (and-right (lt (pointAt (ps .places) 0 .time) (timeOf rate k)) _ t) found
         (subst (λ (x : Segment). Stretch x limits rate k old new m) (q ∙ ap (λ (x : ℕ). segmentAround x (pointAt (ps .places) (j - 1)) (pointAt (ps .places) j)) c) s)
 
   -- at any other time the writer has the sample by the first point and the last
-  pub outside-sample : (rate : Float) (k : ℕ) (limits : Limits)
+  pub outside-sample : (silent rate : Float) (k : ℕ) (limits : Limits)
       → (lt (pointAt (ps .places) 0 .time) (timeOf rate k) && lt (timeOf rate k) (pointAt (ps .places) (ps .count - 1) .time)) ≡ false
       → (a b x : Float) → a ≡ constrained limits (pointAt (ps .places) 0 .value) → b ≡ constrained limits (pointAt (ps .places) (ps .count - 1) .value)
-      → x ≡ outsideAt (record { first = pointAt (ps .places) 0 .time; early = a; last = pointAt (ps .places) (ps .count - 1) .time; late = b }) (timeOf rate k)
-      → x ≡ sampleAt ps true limits rate k
-  outside-sample rate k limits t a b x p q e =
+      → x ≡ outsideAt (record { first = pointAt (ps .places) 0 .time; early = a; last = pointAt (ps .places) (ps .count - 1) .time; late = b; silent = silent }) (timeOf rate k)
+      → x ≡ sampleOr silent ps true limits rate k
+  outside-sample silent rate k limits t a b x p q e =
+      let from = pointAt (ps .places) 0 .time in
+      let to = pointAt (ps .places) (ps .count - 1) .time in
       e
-      ∙ ap₂ (λ (y z : Float). outsideAt (record { first = pointAt (ps .places) 0 .time; early = y; last = pointAt (ps .places) (ps .count - 1) .time; late = z }) (timeOf rate k)) p q
-      ∙ raw-outside (ps .places) (ps .count) (among ps vs g v) w (valid-finite ps v) (valid-rising ps v) (times-fit ps vs g) limits (timeOf rate k) t
+      ∙ ap₂ (λ (y z : Float). outsideAt (record { first = from; early = y; last = to; late = z; silent = silent }) (timeOf rate k)) p q
+      ∙ raw-outside (ps .places) (ps .count) (among ps vs g v) w (valid-finite ps v) (valid-rising ps v) (times-fit ps vs g) silent limits (timeOf rate k) t
 
 -- ---- samples that are all the same, and those of an enabled envelope
 
-module _ (ps : Points) (enabled : Bool) (limits : Limits) (rate : Float) (first n : ℕ) where
-  all-same : (v : Float) → ((k : ℕ) → v ≡ sampleAt ps enabled limits rate k) → replicate n v ≡ run (sampleAt ps enabled limits rate) first n
+module _ (silent : Float) (ps : Points) (enabled : Bool) (limits : Limits) (rate : Float) (first n : ℕ) where
+  all-same : (v : Float) → ((k : ℕ) → v ≡ sampleOr silent ps enabled limits rate k) → replicate n v ≡ run (sampleOr silent ps enabled limits rate) first n
   all-same v h = sym (run-constant v first n) ∙ run-same (λ k. v) _ first first n (λ i s. h (first + i))
 
-  pub off-run : enabled ≡ false → replicate n (ofBits binary32 0) ≡ run (sampleAt ps enabled limits rate) first n
-  off-run e = all-same _ (λ k. ap (λ (b : Bool). sampleAt ps b limits rate k) (sym e))
+  pub off-run : enabled ≡ false → replicate n silent ≡ run (sampleOr silent ps enabled limits rate) first n
+  off-run e = all-same _ (λ k. ap (λ (b : Bool). sampleOr silent ps b limits rate k) (sym e))
 
   module _ (e : enabled ≡ true) where
-    pub on-run : (l : List Float) → l ≡ run (sampleAt ps true limits rate) first n → l ≡ run (sampleAt ps enabled limits rate) first n
-    on-run l w = w ∙ ap (λ (b : Bool). run (sampleAt ps b limits rate) first n) (sym e)
+    on : (k : ℕ) → sampleOr silent ps true limits rate k ≡ sampleOr silent ps enabled limits rate k
+    on k = ap (λ (b : Bool). sampleOr silent ps b limits rate k) (sym e)
 
-    pub none-run : ps .count ≡ 0 → replicate n (ofBits binary32 0) ≡ run (sampleAt ps enabled limits rate) first n
-    none-run z = all-same _ (λ k. ap (sampleOf limits) (sym (raw-none _ _ (ps .places) (ps .count) (timeOf rate k) (omega arith) z)) ∙ ap (λ (b : Bool). sampleAt ps b limits rate k) (sym e))
+    pub on-run : (l : List Float) → l ≡ run (sampleOr silent ps true limits rate) first n → l ≡ run (sampleOr silent ps enabled limits rate) first n
+    on-run l w = w ∙ ap (λ (b : Bool). run (sampleOr silent ps b limits rate) first n) (sym e)
 
-    pub one-run : ps .count ≡ 1 → ps .count ≤ length (ps .places) → (v : Float) → v ≡ constrained limits (pointAt (ps .places) 0 .value) → replicate n v ≡ run (sampleAt ps enabled limits rate) first n
-    one-run z f v w = all-same v (λ k. w ∙ ap (sampleOf limits) (sym (raw-one _ _ (ps .places) (ps .count) (timeOf rate k) f z)) ∙ ap (λ (b : Bool). sampleAt ps b limits rate k) (sym e))
+    pub none-run : ps .count ≡ 0 → replicate n silent ≡ run (sampleOr silent ps enabled limits rate) first n
+    none-run z = all-same _ (λ k. ap (sampleOf silent limits) (sym (raw-none _ _ (ps .places) (ps .count) (timeOf rate k) (omega arith) z)) ∙ on k)
+
+    pub one-run : ps .count ≡ 1 → ps .count ≤ length (ps .places) → (v : Float) → v ≡ constrained limits (pointAt (ps .places) 0 .value)
+        → replicate n v ≡ run (sampleOr silent ps enabled limits rate) first n
+    one-run z f v w = all-same v (λ k. w ∙ ap (sampleOf silent limits) (sym (raw-one _ _ (ps .places) (ps .count) (timeOf rate k) f z)) ∙ on k)

@@ -27,9 +27,13 @@ timeOf rate i = div binary64 (ofInt binary64 (pos i)) rate
 abbrev pub valueOfSample : Points → Bool → Limits → Float → ℕ → Option Float
 valueOfSample points enabled limits rate i = valueAt points enabled limits (timeOf rate i)
 
+-- the sample's value, or another number where it is silent
+abbrev pub sampleOr : Float → Points → Bool → Limits → Float → ℕ → Float
+sampleOr silent points enabled limits rate i = Option·getD (valueOfSample points enabled limits rate i) silent
+
 -- "0.0 where silent"
 abbrev pub sampleAt : Points → Bool → Limits → Float → ℕ → Float
-sampleAt points enabled limits rate i = Option·getD (valueOfSample points enabled limits rate i) (ofBits binary32 0)
+sampleAt points enabled limits rate i = sampleOr (ofBits binary32 0) points enabled limits rate i
 
 -- "written from a stated place of the lent buffer; all other places stay"
 abbrev pub written : {A : Type 0} → ℕ → List A → List A → List A

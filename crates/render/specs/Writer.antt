@@ -5,7 +5,7 @@ use mathlib.Core.Bool.{Bool, true, cond, _&&_}
 use mathlib.Core.List.{List, _++_}
 use lib.Dec.{eqb}
 use lib.ListN.{length, drop}
-use lib.Ieee.{Float, binary32, lt, le, ofBits}
+use lib.Ieee.{Float, lt, le}
 use Rattle.curve.specs.Curve.{interpolated}
 use Rattle.points.specs.Points.{timeKey}
 use Rattle.points.specs.declared.AutomationPoint.{AutomationPoint}
@@ -33,9 +33,9 @@ segmentAt limits s time = constrained limits (interpolated (s .curve) (s .start)
 abbrev pub inside : Segment → Float → Bool
 inside s time = lt (s .from) time && lt time (s .to)
 
--- where no segment is: at or before the first time, at or after the last, or a NaN
+-- where no segment is: at or before the first time, at or after the last, or at a NaN, which is silent
 abbrev pub outsideAt : Ends → Float → Float
-outsideAt e time = cond (le time (e .first)) (e .early) (cond (le (e .last) time) (e .late) (ofBits binary32 0))
+outsideAt e time = cond (le time (e .first)) (e .early) (cond (le (e .last) time) (e .late) (e .silent))
 
 -- r samples of a segment written from the start, all but the first at times inside it
 pub record Stretch (s : Segment) (limits : Limits) (rate : Float) (first : ℕ) (old new : List Float) (r : ℕ) : Type 0 where

@@ -6,7 +6,7 @@ ghost use lib.ListN.{length, replicate};
 ghost use Rattle.points.specs.Points.{validPoints};
 ghost use Rattle.points.specs.Refusal.{said};
 ghost use Rattle.lookup.specs.Lookup.{told};
-ghost use Rattle.render.specs.Render.{sampleAt, mostSamples, runInto, render, toBuffer, iterSamples, walkTold, nextSample, stepTold};
+ghost use Rattle.render.specs.Render.{sampleOr, sampleAt, mostSamples, runInto, render, toBuffer, iterSamples, walkTold, nextSample, stepTold};
 ghost use Rattle.lookup.specs.Runs.{run};
 ghost use Rattle.render.specs.Writer.{segmentOf, segmentAround, segmentAt, outsideAt, Stretch};
 use curve::CurveType;
@@ -48,12 +48,13 @@ struct Segment {
     curve: CurveType,
 }
 
-// The times of the first point and the last, and their values, constrained.
+// The times of the first point and the last, their values, constrained, and the number for a silent sample.
 struct Ends {
     first: f64,
     early: f32,
     last: f64,
     late: f32,
+    silent: f32,
 }
 
 impl Segment {
@@ -98,7 +99,7 @@ impl Segment {
 }
 
 impl Ends {
-    // The value at a time that no segment holds; 0.0 at a NaN.
+    // The value at a time that no segment holds; a NaN is silent.
     fn value_at(self, time: f64) -> f32
         ensures { λ r. ⌜ r ≡ outsideAt self time ⌝ }
     {
@@ -107,7 +108,7 @@ impl Ends {
         } else if time >= self.last {
             self.late
         } else {
-            0.0
+            self.silent
         }
     }
 }
@@ -144,9 +145,16 @@ fn write_stretch(seg: Segment, limits: Limits, rate: f64, first: u32, out: &mut 
 }
 
 // The samples of two or more points. Each segment is searched for once and serves while the times stay inside it.
-fn write_segments(points: Points, limits: Limits, rate: f64, first: u32, out: &mut [f32])
+fn write_segments(
+    points: Points,
+    limits: Limits,
+    rate: f64,
+    first: u32,
+    silent: f32,
+    out: &mut [f32],
+)
     requires { ⌜ (validPoints points ≡ true) × (2 ≤ points .count) × (first + length (now out) ≤ mostSamples) ⌝ }
-    ensures { λ _. ⌜ now (out .exit) ≡ run (sampleAt points true limits rate) first (length (now (out .entry))) ⌝ }
+    ensures { λ _. ⌜ now (out .exit) ≡ run (sampleOr silent points true limits rate) first (length (now (out .entry))) ⌝ }
 {
     let n = points.count;
     let p = points.places[0];
@@ -156,6 +164,7 @@ fn write_segments(points: Points, limits: Limits, rate: f64, first: u32, out: &m
         early: limits.apply_constraints(p.value),
         last: q.time,
         late: limits.apply_constraints(q.value),
+        silent,
     };
     let keys = lookup::place::keys(points, false);
     let end = out.len();
@@ -180,30 +189,31 @@ fn write_segments(points: Points, limits: Limits, rate: f64, first: u32, out: &m
     }
 }
 
-// The sample writer: the samples from the first on, one for each place.
+// The sample writer: the samples from the first on, one for each place, and the stated number for one that is silent.
 fn write_samples(
     points: Points,
     enabled: bool,
     limits: Limits,
     rate: f64,
     first: u64,
+    silent: f32,
     out: &mut [f32],
 )
     requires { ⌜ (validPoints points ≡ true) × (first + length (now out) ≤ mostSamples) ⌝ }
-    ensures { λ _. ⌜ now (out .exit) ≡ run (sampleAt points enabled limits rate) first (length (now (out .entry))) ⌝ }
+    ensures { λ _. ⌜ now (out .exit) ≡ run (sampleOr silent points enabled limits rate) first (length (now (out .entry))) ⌝ }
 {
     let n = points.count;
     if enabled {
         if n == 0 {
-            fill(0.0, out);
+            fill(silent, out);
         } else if n == 1 {
             let p = points.places[0];
             fill(limits.apply_constraints(p.value), out);
         } else {
-            write_segments(points, limits, rate, first as u32, out);
+            write_segments(points, limits, rate, first as u32, silent, out);
         }
     } else {
-        fill(0.0, out);
+        fill(silent, out);
     }
 }
 
@@ -236,7 +246,15 @@ fn run_into(
             Answer::Refused(Refusal::NoRoom)
         } else {
             let end = place + n;
-            write_samples(points, enabled, limits, rate, first, &mut out[place..end]);
+            write_samples(
+                points,
+                enabled,
+                limits,
+                rate,
+                first,
+                0.0,
+                &mut out[place..end],
+            );
             Answer::Accepted
         }
     }

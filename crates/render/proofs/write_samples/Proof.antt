@@ -1,6 +1,5 @@
 -- `render::write_samples` meets its contract. Assumes nothing.
 use mathlib.Core.Path.{_∙_}
-use lib.Ieee.{ofBits}
 use borrow.Author.Needs.{needs}
 use Rattle.lookup.proofs.Good.{inside}
 use Rattle.render.proofs.Writing.{off-run, on-run, none-run, one-run}
@@ -32,27 +31,25 @@ same-length : tie.Need-same-length
 same-length c = search needs
 
 returns : tie.Need-returns
-unfolding ofBits
-returns c = c .before .before .fill .ensures ∙ none-run (c .before .before .before .before .before .before .before .args .t1) (c .before .before .before .before .before .before .before .args .enabled) (c .before .before .before .before .before .before .before .args .limits) (c .before .before .before .before .before .before .before .args .rate) (c .before .before .before .before .before .before .before .args .first) _ (c .before .before .before .before .before .if1 .taken) (c .before .before .before .before .if2 .taken)
+returns c = c .before .before .fill .ensures ∙ none-run (c .before .before .before .before .before .before .before .args .silent) (c .before .before .before .before .before .before .before .args .t1) (c .before .before .before .before .before .before .before .args .enabled) (c .before .before .before .before .before .before .before .args .limits) (c .before .before .before .before .before .before .before .args .rate) (c .before .before .before .before .before .before .before .args .first) _ (c .before .before .before .before .before .if1 .taken) (c .before .before .before .before .if2 .taken)
 
 same-length-2 : tie.Need-same-length-2
 same-length-2 c = search needs
 
 returns-2 : tie.Need-returns-2
-returns-2 c = c .before .before .fill2 .ensures ∙ one-run (c .before .before .before .before .before .before .before .before .before .before .args .t1) (c .before .before .before .before .before .before .before .before .before .before .args .enabled) (c .before .before .before .before .before .before .before .before .before .before .args .limits) (c .before .before .before .before .before .before .before .before .before .before .args .rate) (c .before .before .before .before .before .before .before .before .before .before .args .first) _ (c .before .before .before .before .before .before .before .before .if1 .taken) (c .before .before .before .before .before .before .if3 .taken) (inside (c .before .before .before .before .before .before .before .before .before .before .args .t1) _ (c .before .before .before .before .before .before .before .before .before .before .good .0) (c .before .before .before .before .before .before .before .before .before .before .pre .0)) _ (c .before .before .before .before .apply-constraints .ensures)
+returns-2 c = c .before .before .fill2 .ensures ∙ one-run (c .before .before .before .before .before .before .before .before .before .before .args .silent) (c .before .before .before .before .before .before .before .before .before .before .args .t1) (c .before .before .before .before .before .before .before .before .before .before .args .enabled) (c .before .before .before .before .before .before .before .before .before .before .args .limits) (c .before .before .before .before .before .before .before .before .before .before .args .rate) (c .before .before .before .before .before .before .before .before .before .before .args .first) _ (c .before .before .before .before .before .before .before .before .if1 .taken) (c .before .before .before .before .before .before .if3 .taken) (inside (c .before .before .before .before .before .before .before .before .before .before .args .t1) _ (c .before .before .before .before .before .before .before .before .before .before .good .0) (c .before .before .before .before .before .before .before .before .before .before .pre .0)) _ (c .before .before .before .before .apply-constraints .ensures)
 
 same-length-3 : tie.Need-same-length-3
 same-length-3 c = search needs
 
 returns-3 : tie.Need-returns-3
-returns-3 c = on-run (c .before .before .before .before .before .before .before .before .args .t1) (c .before .before .before .before .before .before .before .before .args .enabled) (c .before .before .before .before .before .before .before .before .args .limits) (c .before .before .before .before .before .before .before .before .args .rate) (c .before .before .before .before .before .before .before .before .args .first) _ (c .before .before .before .before .before .before .if1 .taken) _ (c .before .before .write-segments .ensures)
+returns-3 c = on-run (c .before .before .before .before .before .before .before .before .args .silent) (c .before .before .before .before .before .before .before .before .args .t1) (c .before .before .before .before .before .before .before .before .args .enabled) (c .before .before .before .before .before .before .before .before .args .limits) (c .before .before .before .before .before .before .before .before .args .rate) (c .before .before .before .before .before .before .before .before .args .first) _ (c .before .before .before .before .before .before .if1 .taken) _ (c .before .before .write-segments .ensures)
 
 same-length-4 : tie.Need-same-length-4
 same-length-4 c = search needs
 
 returns-4 : tie.Need-returns-4
-unfolding ofBits
-returns-4 c = c .before .before .fill3 .ensures ∙ off-run (c .before .before .before .before .before .before .args .t1) (c .before .before .before .before .before .before .args .enabled) (c .before .before .before .before .before .before .args .limits) (c .before .before .before .before .before .before .args .rate) (c .before .before .before .before .before .before .args .first) _ (c .before .before .before .before .if1 .left)
+returns-4 c = c .before .before .fill3 .ensures ∙ off-run (c .before .before .before .before .before .before .args .silent) (c .before .before .before .before .before .before .args .t1) (c .before .before .before .before .before .before .args .enabled) (c .before .before .before .before .before .before .args .limits) (c .before .before .before .before .before .before .args .rate) (c .before .before .before .before .before .before .args .first) _ (c .before .before .before .before .if1 .left)
 
 pub write-samples-spec : {M : Type 1} → statement M
 write-samples-spec =

@@ -6,17 +6,17 @@ use mathlib.Core.List.{_++_}
 use native.Mathlib.Omega.{arith}
 use lib.ListN.{length, take, drop, length-set}
 use Rattle.lookup.specs.LookupLaws.{valid-count}
-use Rattle.render.specs.Render.{sampleAt}
+use Rattle.render.specs.Render.{sampleOr}
 use Rattle.lookup.specs.Runs.{run, run-turn, run-over, run-part, run-end, part-long}
 use Rattle.render.proofs.Writing.{search-inside, stretch-written, outside-sample}
 use Rattle.render.proofs.write_segments.Statement.{statement}
 use Rattle.render.proofs.write_segments.Tie as tie
 
 abbrev Inv-loop : tie.InvT-loop
-Inv-loop limits rate first out₀ points n ends keys end i₀ k₀ out i k = (i ≤ length out₀) × (length out ≡ length out₀) × (k ≡ first + i) × (out ≡ run (sampleAt points true limits rate) first i ++ drop i out₀)
+Inv-loop limits rate first silent out₀ points n ends keys end i₀ k₀ out i k = (i ≤ length out₀) × (length out ≡ length out₀) × (k ≡ first + i) × (out ≡ run (sampleOr silent points true limits rate) first i ++ drop i out₀)
 
 abbrev μ-loop : tie.MeasureT-loop
-μ-loop limits rate first out₀ points n ends keys end i₀ k₀ out i k = length out₀ - i
+μ-loop limits rate first silent out₀ points n ends keys end i₀ k₀ out i k = length out₀ - i
 
 element-copy-out-p : tie.Need-element-copy-out-p Inv-loop μ-loop
 element-copy-out-p c = omega arith
@@ -135,11 +135,11 @@ loop-again c =
     let a = c .before .before .before .before .before .before .before .before .before .before .before .before .before .before .before .before .before .before .before .before .before .before .args in
     let h = c .before .before .before .before .before .before .before .before .before .before .before .before .before .before .before .loop in
     let o = a .out .now in
-    let f = sampleAt (a .t1) true (a .limits) (a .rate) in
+    let f = sampleOr (a .silent) (a .t1) true (a .limits) (a .rate) in
     let m = c .before .before .write-stretch .result in
     let l = part-long (h .i) (length (a .out .now)) (h .out) (h .inv .1) (h .inv .0) in
     let q = c .before .before .write-stretch .ensures .most in
-    let w = stretch-written (a .t1) _ (c .before .before .before .before .before .before .before .before .before .before .before .before .before .before .before .before .before .before .before .before .before .before .good .0) (c .before .before .before .before .before .before .before .before .before .before .before .before .before .before .before .before .before .before .before .before .before .before .pre .0) (c .before .before .before .before .before .before .before .before .before .before .before .before .before .before .before .before .before .before .before .before .before .before .pre .1) (c .before .before .before .before .before .before .before .before .before .before .before .before .before .before .before .before .keys .result) (c .before .before .before .before .before .before .before .before .before .before .before .before .before .before .before .before .keys .ensures) (a .rate) (h .k) (c .before .before .before .before .before .before .before .before .before .before .if1 .taken) (c .before .before .before .before .before .before .before .before .before .order-key .result) (c .before .before .before .before .before .before .before .search .result) (c .before .before .before .before .before .before .before .before .before .order-key .ensures) (c .before .before .before .before .before .before .before .search .ensures) (a .limits) (c .before .before .before .before .around .result) m _ _ (c .before .before .before .before .around .ensures) (c .before .before .write-stretch .ensures) in
+    let w = stretch-written (a .t1) _ (c .before .before .before .before .before .before .before .before .before .before .before .before .before .before .before .before .before .before .before .before .before .before .good .0) (c .before .before .before .before .before .before .before .before .before .before .before .before .before .before .before .before .before .before .before .before .before .before .pre .0) (c .before .before .before .before .before .before .before .before .before .before .before .before .before .before .before .before .before .before .before .before .before .before .pre .1) (c .before .before .before .before .before .before .before .before .before .before .before .before .before .before .before .before .keys .result) (c .before .before .before .before .before .before .before .before .before .before .before .before .before .before .before .before .keys .ensures) (a .rate) (h .k) (c .before .before .before .before .before .before .before .before .before .before .if1 .taken) (c .before .before .before .before .before .before .before .before .before .order-key .result) (c .before .before .before .before .before .before .before .search .result) (c .before .before .before .before .before .before .before .before .before .order-key .ensures) (c .before .before .before .before .before .before .before .search .ensures) (a .silent) (a .limits) (c .before .before .before .before .around .result) m _ _ (c .before .before .before .before .around .ensures) (c .before .before .write-stretch .ensures) in
     let e = run-part f (a .first) (h .i) m o (h .out) _ (h .inv .0) (h .inv .3) (w ∙ ap (λ (n : ℕ). run f n m ++ drop m (take (length o - h .i) (drop (h .i) (h .out)))) (h .inv .2)) in
     (omega arith, ap length e ∙ run-over f (a .first) (h .i + m) o (omega arith), omega arith, e)
 
@@ -165,8 +165,8 @@ loop-again-2 : tie.Need-loop-again-2 Inv-loop μ-loop
 loop-again-2 c =
     let a = c .before .before .before .before .before .before .before .before .before .before .before .before .before .args in
     let h = c .before .before .before .before .before .before .loop in
-    let f = sampleAt (a .t1) true (a .limits) (a .rate) in
-    let w = outside-sample (a .t1) _ (c .before .before .before .before .before .before .before .before .before .before .before .before .before .good .0) (c .before .before .before .before .before .before .before .before .before .before .before .before .before .pre .0) (c .before .before .before .before .before .before .before .before .before .before .before .before .before .pre .1) (a .rate) (h .k) (a .limits) (c .before .if1 .left) _ _ _ (c .before .before .before .before .before .before .before .before .before .apply-constraints .ensures) (c .before .before .before .before .before .before .before .before .apply-constraints2 .ensures) (c .value-at .ensures) in (
+    let f = sampleOr (a .silent) (a .t1) true (a .limits) (a .rate) in
+    let w = outside-sample (a .t1) _ (c .before .before .before .before .before .before .before .before .before .before .before .before .before .good .0) (c .before .before .before .before .before .before .before .before .before .before .before .before .before .pre .0) (c .before .before .before .before .before .before .before .before .before .before .before .before .before .pre .1) (a .silent) (a .rate) (h .k) (a .limits) (c .before .if1 .left) _ _ _ (c .before .before .before .before .before .before .before .before .before .apply-constraints .ensures) (c .before .before .before .before .before .before .before .before .apply-constraints2 .ensures) (c .value-at .ensures) in (
       omega arith,
       length-set (h .out) (h .i) (c .value-at .result) ∙ h .inv .1,
       omega arith,
@@ -179,7 +179,7 @@ same-length c = c .before .loop .inv .1
 returns : tie.Need-returns Inv-loop μ-loop
 returns c =
     let a = c .before .before .before .before .before .before .before .before .args in
-    let f = sampleAt (a .t1) true (a .limits) (a .rate) in
+    let f = sampleOr (a .silent) (a .t1) true (a .limits) (a .rate) in
     c .before .loop .inv .3 ∙ run-end f (a .first) (c .before .loop .i) (a .out .now) (omega arith)
 
 pub write-segments-spec : {M : Type 1} → statement M

@@ -1,18 +1,14 @@
 -- `render::Ends::value_at` meets its contract. Assumes nothing.
-use lib.Ieee.{ofBits}
 use Rattle.render.proofs.Ends.value_at.Statement.{statement}
 use Rattle.render.proofs.Ends.value_at.Tie as tie
 
 returns : tie.Need-returns
-unfolding ofBits
 returns c = rw (c .if1 .taken)
 
 returns-2 : tie.Need-returns-2
-unfolding ofBits
 returns-2 c = rw (c .before .before .if1 .left, c .if2 .taken)
 
 returns-3 : tie.Need-returns-3
-unfolding ofBits
 returns-3 c = rw (c .before .before .if1 .left, c .if2 .left)
 
 pub value-at-spec : {M : Type 1} → statement M
