@@ -23,7 +23,7 @@ use Rattle.combine.specs.Times.{merged-every}
 use Rattle.combine.specs.declared.Operation.{Operation}
 use Rattle.combine.specs.declared.Operation.the-variants.{Blend, Add, Multiply, Min, Max, Subtract}
 use Rattle.combine.specs.declared.Side.{Side}
-use Rattle.envelope.specs.Envelope.{limitsOf, validEnvelope}
+use Rattle.envelope.specs.Envelope.{validEnvelope}
 use Rattle.envelope.specs.Edit.{renewed, sideOf, combineOf, joinOf}
 use Rattle.envelope.specs.Typed.{typedPoint, typedPoints, typed}
 use Rattle.envelope.specs.EditLaws.{either, accepted, edit-either, Fair, declines, renews, merge-fair}
@@ -82,7 +82,9 @@ module _ (e : AutomationEnvelope) (t : typed e ≡ true) where
   side-fits : (time : Float) → T (fits binary32 (sideAt (sideOf e) time))
   side-fits time =
       let p = parted e t in
-      or-zero (valueAt (e .points) (e .enabled) (limitsOf e) time) (valueAt-fits (limitsOf e) (p .least) (p .greatest) (e .points) (e .enabled) time (listOf-typed (e .points) (p .points)))
+      let s = sideOf e in
+      or-zero (valueAt (s .points) (s .enabled) (s .limits) time)
+      (valueAt-fits (s .limits) (p .least) (p .greatest) (s .points) (s .enabled) time (listOf-typed (s .points) (p .points)))
 
   times-fit : every (fits binary64) (timesOf (sideOf e)) ≡ true
   times-fit = every-map typedPoint (fits binary64) timeOf (λ p u. point-parts p u .0) (listOf (e .points)) (listOf-typed (e .points) (parted e t .points))

@@ -1,5 +1,6 @@
--- The envelope: its record, its equalities, its edits, and its numbers in range of their types.
+-- The envelope: its record, its equalities, the calls on it, its edits, and its numbers in range of their types.
 pub mod Envelope
+pub mod Calls
 pub mod Edit
 pub mod Typed
 -- Laws that the crates above cite too.

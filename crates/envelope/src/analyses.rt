@@ -1,9 +1,9 @@
 // The analyses, and the walk over the samples, by 000's names.
 ghost use mathlib.Core.Path.{_≡_};
 ghost use Rattle.lookup.specs.Lookup.{told};
-ghost use Rattle.render.specs.Render.{iterSamples, walkTold, nextSample, stepTold};
-ghost use Rattle.analysis.specs.Analysis.{getRange, getRangeSamples, rangeTold, getSlopeAt, isPeak, isValley, findMiddles, foundTold};
-ghost use Rattle.envelope.specs.Envelope.{limitsOf};
+ghost use Rattle.render.specs.Render.{walkTold, stepTold};
+ghost use Rattle.analysis.specs.Analysis.{rangeTold, isPeak, isValley, foundTold};
+ghost use Rattle.envelope.specs.Calls.{rangeBetweenOf, rangeSamplesOf, slopeAtOf, findMiddlesOf, iterSamplesOf, nextSampleOf};
 use crate::AutomationEnvelope;
 use analysis::Found;
 use analysis::Range;
@@ -14,7 +14,7 @@ use render::Walk;
 
 impl AutomationEnvelope {
     pub fn get_range_samples(self, start_sample: u64, end_sample: u64) -> Range
-        ensures { λ r. ⌜ rangeTold r ≡ getRangeSamples (self .points) (self .enabled) (limitsOf self) «start_sample» «end_sample» ⌝ }
+        ensures { λ r. ⌜ rangeTold r ≡ rangeSamplesOf self «start_sample» «end_sample» ⌝ }
     {
         let points = self.points;
         analysis::get_range_samples(
@@ -27,14 +27,14 @@ impl AutomationEnvelope {
     }
 
     pub fn get_range(self, start_time: f64, end_time: f64) -> Range
-        ensures { λ r. ⌜ rangeTold r ≡ getRange (self .points) (self .enabled) (limitsOf self) «start_time» «end_time» ⌝ }
+        ensures { λ r. ⌜ rangeTold r ≡ rangeBetweenOf self «start_time» «end_time» ⌝ }
     {
         let points = self.points;
         analysis::get_range(points, self.enabled, self.limits(), start_time, end_time)
     }
 
     pub fn get_slope_at(self, time: f64) -> Lookup
-        ensures { λ r. ⌜ told r ≡ getSlopeAt (self .points) (self .enabled) (limitsOf self) time ⌝ }
+        ensures { λ r. ⌜ told r ≡ slopeAtOf self time ⌝ }
     {
         let points = self.points;
         analysis::get_slope_at(points, self.enabled, self.limits(), time)
@@ -42,18 +42,18 @@ impl AutomationEnvelope {
 
     // The times and the values of the peaks, from the start of each list.
     pub fn find_peaks(self, times: &mut [f64], values: &mut [f32]) -> Found
-        ensures { λ r. ⌜ foundTold r ≡ findMiddles isPeak (self .points) (limitsOf self) (now (times .entry)) (now (values .entry)) .said ⌝ }
-        ensures { λ _. ⌜ now (times .exit) ≡ findMiddles isPeak (self .points) (limitsOf self) (now (times .entry)) (now (values .entry)) .times ⌝ }
-        ensures { λ _. ⌜ now (values .exit) ≡ findMiddles isPeak (self .points) (limitsOf self) (now (times .entry)) (now (values .entry)) .values ⌝ }
+        ensures { λ r. ⌜ foundTold r ≡ findMiddlesOf isPeak self (now (times .entry)) (now (values .entry)) .said ⌝ }
+        ensures { λ _. ⌜ now (times .exit) ≡ findMiddlesOf isPeak self (now (times .entry)) (now (values .entry)) .times ⌝ }
+        ensures { λ _. ⌜ now (values .exit) ≡ findMiddlesOf isPeak self (now (times .entry)) (now (values .entry)) .values ⌝ }
     {
         let points = self.points;
         analysis::find_peaks(points, self.limits(), times, values)
     }
 
     pub fn find_valleys(self, times: &mut [f64], values: &mut [f32]) -> Found
-        ensures { λ r. ⌜ foundTold r ≡ findMiddles isValley (self .points) (limitsOf self) (now (times .entry)) (now (values .entry)) .said ⌝ }
-        ensures { λ _. ⌜ now (times .exit) ≡ findMiddles isValley (self .points) (limitsOf self) (now (times .entry)) (now (values .entry)) .times ⌝ }
-        ensures { λ _. ⌜ now (values .exit) ≡ findMiddles isValley (self .points) (limitsOf self) (now (times .entry)) (now (values .entry)) .values ⌝ }
+        ensures { λ r. ⌜ foundTold r ≡ findMiddlesOf isValley self (now (times .entry)) (now (values .entry)) .said ⌝ }
+        ensures { λ _. ⌜ now (times .exit) ≡ findMiddlesOf isValley self (now (times .entry)) (now (values .entry)) .times ⌝ }
+        ensures { λ _. ⌜ now (values .exit) ≡ findMiddlesOf isValley self (now (times .entry)) (now (values .entry)) .values ⌝ }
     {
         let points = self.points;
         analysis::find_valleys(points, self.limits(), times, values)
@@ -61,7 +61,7 @@ impl AutomationEnvelope {
 
     // Opens a walk over the samples.
     pub fn iter_samples(self, rate: f64, duration: f64) -> Walk
-        ensures { λ r. ⌜ walkTold r ≡ iterSamples (self .points) (limitsOf self) rate duration ⌝ }
+        ensures { λ r. ⌜ walkTold r ≡ iterSamplesOf self rate duration ⌝ }
     {
         let points = self.points;
         render::iter_samples(points, self.limits(), rate, duration)
@@ -69,7 +69,7 @@ impl AutomationEnvelope {
 
     // The walk's next sample, and the walk after it.
     pub fn next(self, walk: SampleIterator) -> SampleStep
-        ensures { λ r. ⌜ stepTold r ≡ nextSample (self .points) (self .enabled) (limitsOf self) walk ⌝ }
+        ensures { λ r. ⌜ stepTold r ≡ nextSampleOf self walk ⌝ }
     {
         let points = self.points;
         walk.next(points, self.enabled, self.limits())

@@ -1,7 +1,5 @@
 -- `envelope::AutomationEnvelope::find_valleys` meets its contract. Assumes nothing.
-use mathlib.Core.Path.{ap, _∙_}
-use Rattle.analysis.specs.Analysis.{isValley, findMiddles}
-use Rattle.lookup.specs.declared.Limits.{Limits}
+use mathlib.Core.Path.{sym}
 use borrow.Author.Needs.{needs}
 use Rattle.envelope.proofs.AutomationEnvelope.find_valleys.Statement.{statement}
 use Rattle.envelope.proofs.AutomationEnvelope.find_valleys.Tie as tie
@@ -19,7 +17,7 @@ same-length-2 : tie.Need-same-length-2
 same-length-2 c = search needs
 
 returns : tie.Need-returns
-returns c = (c .before .before .before .before .find-valleys .ensures .0 ∙ ap (λ (l : Limits). findMiddles isValley (c .before .before .before .before .before .before .before .before .before .before .before .args .self .points) l (c .before .before .before .before .before .before .before .before .before .before .before .args .times .now) (c .before .before .before .before .before .before .before .before .before .before .before .args .values .now) .said) (c .before .before .before .before .before .before .before .limits .ensures), (c .before .before .before .before .find-valleys .ensures .1 .0 ∙ ap (λ (l : Limits). findMiddles isValley (c .before .before .before .before .before .before .before .before .before .before .before .args .self .points) l (c .before .before .before .before .before .before .before .before .before .before .before .args .times .now) (c .before .before .before .before .before .before .before .before .before .before .before .args .values .now) .times) (c .before .before .before .before .before .before .before .limits .ensures), c .before .before .before .before .find-valleys .ensures .1 .1 ∙ ap (λ (l : Limits). findMiddles isValley (c .before .before .before .before .before .before .before .before .before .before .before .args .self .points) l (c .before .before .before .before .before .before .before .before .before .before .before .args .times .now) (c .before .before .before .before .before .before .before .before .before .before .before .args .values .now) .values) (c .before .before .before .before .before .before .before .limits .ensures)))
+returns c = rw (sym (c .before .before .before .before .before .before .before .limits .ensures)) (c .before .before .before .before .find-valleys .ensures)
 
 pub find-valleys-spec : {M : Type 1} → statement M
 find-valleys-spec =

@@ -1,7 +1,5 @@
 -- `envelope::AutomationEnvelope::get_range` meets its contract. Assumes nothing.
-use mathlib.Core.Path.{ap, _∙_}
-use Rattle.analysis.specs.Analysis.{getRange}
-use Rattle.lookup.specs.declared.Limits.{Limits}
+use mathlib.Core.Path.{sym}
 use borrow.Author.Needs.{needs}
 use Rattle.envelope.proofs.AutomationEnvelope.get_range.Statement.{statement}
 use Rattle.envelope.proofs.AutomationEnvelope.get_range.Tie as tie
@@ -13,7 +11,7 @@ get-range-requires : tie.Need-get-range-requires
 get-range-requires c κs = search needs
 
 returns : tie.Need-returns
-returns c = c .get-range .ensures ∙ ap (λ (l : Limits). getRange (c .before .before .before .args .self .points) (c .before .before .before .args .self .enabled) l (c .before .before .before .args .start-time) (c .before .before .before .args .end-time)) (c .before .limits .ensures)
+returns c = rw (sym (c .before .limits .ensures)) (c .get-range .ensures)
 
 pub get-range-spec : {M : Type 1} → statement M
 get-range-spec = tie.close (tie.spec limits-requires get-range-requires returns)

@@ -1,7 +1,5 @@
 -- `envelope::AutomationEnvelope::get_slope_at` meets its contract. Assumes nothing.
-use mathlib.Core.Path.{ap, _∙_}
-use Rattle.analysis.specs.Analysis.{getSlopeAt}
-use Rattle.lookup.specs.declared.Limits.{Limits}
+use mathlib.Core.Path.{sym}
 use borrow.Author.Needs.{needs}
 use Rattle.envelope.proofs.AutomationEnvelope.get_slope_at.Statement.{statement}
 use Rattle.envelope.proofs.AutomationEnvelope.get_slope_at.Tie as tie
@@ -13,7 +11,7 @@ get-slope-at-requires : tie.Need-get-slope-at-requires
 get-slope-at-requires c κs = search needs
 
 returns : tie.Need-returns
-returns c = c .get-slope-at .ensures ∙ ap (λ (l : Limits). getSlopeAt (c .before .before .before .args .self .points) (c .before .before .before .args .self .enabled) l (c .before .before .before .args .time)) (c .before .limits .ensures)
+returns c = rw (sym (c .before .limits .ensures)) (c .get-slope-at .ensures)
 
 pub get-slope-at-spec : {M : Type 1} → statement M
 get-slope-at-spec = tie.close (tie.spec limits-requires get-slope-at-requires returns)

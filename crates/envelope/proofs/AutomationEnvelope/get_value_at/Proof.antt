@@ -1,6 +1,4 @@
-use mathlib.Core.Path.{ap, _∙_}
-use Rattle.lookup.specs.Lookup.{getValueAt}
-use Rattle.lookup.specs.declared.Limits.{Limits}
+use mathlib.Core.Path.{sym}
 use borrow.Author.Needs.{needs}
 use Rattle.envelope.proofs.AutomationEnvelope.get_value_at.Statement.{statement}
 use Rattle.envelope.proofs.AutomationEnvelope.get_value_at.Tie as tie
@@ -16,7 +14,7 @@ get-value-at-requires : tie.Need-get-value-at-requires
 get-value-at-requires c κs = search needs
 
 returns : tie.Need-returns
-returns c = c .get-value-at .ensures ∙ ap (λ (l : Limits). getValueAt (c .before .before .before .args .self .points) (c .before .before .before .args .self .enabled) l (c .before .before .before .args .time)) (c .before .limits .ensures)
+returns c = rw (sym (c .before .limits .ensures)) (c .get-value-at .ensures)
 
 pub get-value-at-spec : {M : Type 1} → statement M
 get-value-at-spec = tie.close (tie.spec limits-requires get-value-at-requires returns)

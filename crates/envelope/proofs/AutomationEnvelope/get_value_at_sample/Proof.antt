@@ -1,6 +1,4 @@
-use mathlib.Core.Path.{ap, _∙_}
-use Rattle.lookup.specs.Lookup.{getValueAtSample}
-use Rattle.lookup.specs.declared.Limits.{Limits}
+use mathlib.Core.Path.{sym}
 use borrow.Author.Needs.{needs}
 use Rattle.envelope.proofs.AutomationEnvelope.get_value_at_sample.Statement.{statement}
 use Rattle.envelope.proofs.AutomationEnvelope.get_value_at_sample.Tie as tie
@@ -16,7 +14,7 @@ get-value-at-sample-requires : tie.Need-get-value-at-sample-requires
 get-value-at-sample-requires c κs = search needs
 
 returns : tie.Need-returns
-returns c = c .get-value-at-sample .ensures ∙ ap (λ (l : Limits). getValueAtSample (c .before .before .before .args .self .points) (c .before .before .before .args .self .enabled) l (c .before .before .before .args .sample)) (c .before .limits .ensures)
+returns c = rw (sym (c .before .limits .ensures)) (c .get-value-at-sample .ensures)
 
 pub get-value-at-sample-spec : {M : Type 1} → statement M
 get-value-at-sample-spec =

@@ -1,6 +1,4 @@
-use mathlib.Core.Path.{ap, _∙_}
-use Rattle.render.specs.Render.{render}
-use Rattle.lookup.specs.declared.Limits.{Limits}
+use mathlib.Core.Path.{sym}
 use borrow.Author.Needs.{needs}
 use Rattle.envelope.proofs.AutomationEnvelope.render.Statement.{statement}
 use Rattle.envelope.proofs.AutomationEnvelope.render.Tie as tie
@@ -19,7 +17,7 @@ same-length : tie.Need-same-length
 same-length c = search needs
 
 returns : tie.Need-returns
-returns c = (c .before .before .render .ensures .0 ∙ ap (λ (l : Limits). render (c .before .before .before .before .before .before .before .args .self .points) (c .before .before .before .before .before .before .before .args .self .enabled) l (c .before .before .before .before .before .before .before .args .rate) (c .before .before .before .before .before .before .before .args .first) (c .before .before .before .before .before .before .before .args .count) (c .before .before .before .before .before .before .before .args .place) (c .before .before .before .before .before .before .before .args .out .now) .said) (c .before .before .before .before .limits .ensures), c .before .before .render .ensures .1 ∙ ap (λ (l : Limits). render (c .before .before .before .before .before .before .before .args .self .points) (c .before .before .before .before .before .before .before .args .self .enabled) l (c .before .before .before .before .before .before .before .args .rate) (c .before .before .before .before .before .before .before .args .first) (c .before .before .before .before .before .before .before .args .count) (c .before .before .before .before .before .before .before .args .place) (c .before .before .before .before .before .before .before .args .out .now) .buffer) (c .before .before .before .before .limits .ensures))
+returns c = rw (sym (c .before .before .before .before .limits .ensures)) (c .before .before .render .ensures)
 
 pub render-spec : {M : Type 1} → statement M
 render-spec = tie.close (tie.spec limits-requires render-requires same-length returns)

@@ -1,6 +1,4 @@
-use mathlib.Core.Path.{ap, _∙_}
-use Rattle.render.specs.Render.{toBuffer}
-use Rattle.lookup.specs.declared.Limits.{Limits}
+use mathlib.Core.Path.{sym}
 use borrow.Author.Needs.{needs}
 use Rattle.envelope.proofs.AutomationEnvelope.to_buffer.Statement.{statement}
 use Rattle.envelope.proofs.AutomationEnvelope.to_buffer.Tie as tie
@@ -19,7 +17,7 @@ same-length : tie.Need-same-length
 same-length c = search needs
 
 returns : tie.Need-returns
-returns c = (c .before .before .to-buffer .ensures .0 ∙ ap (λ (l : Limits). toBuffer (c .before .before .before .before .before .before .before .args .self .points) (c .before .before .before .before .before .before .before .args .self .enabled) l (c .before .before .before .before .before .before .before .args .rate) (c .before .before .before .before .before .before .before .args .duration) (c .before .before .before .before .before .before .before .args .place) (c .before .before .before .before .before .before .before .args .out .now) .said) (c .before .before .before .before .limits .ensures), c .before .before .to-buffer .ensures .1 ∙ ap (λ (l : Limits). toBuffer (c .before .before .before .before .before .before .before .args .self .points) (c .before .before .before .before .before .before .before .args .self .enabled) l (c .before .before .before .before .before .before .before .args .rate) (c .before .before .before .before .before .before .before .args .duration) (c .before .before .before .before .before .before .before .args .place) (c .before .before .before .before .before .before .before .args .out .now) .buffer) (c .before .before .before .before .limits .ensures))
+returns c = rw (sym (c .before .before .before .before .limits .ensures)) (c .before .before .to-buffer .ensures)
 
 pub to-buffer-spec : {M : Type 1} → statement M
 to-buffer-spec = tie.close (tie.spec limits-requires to-buffer-requires same-length returns)
