@@ -8,9 +8,9 @@ use lib.ListN.{length, getD, replicate}
 use lib.Ieee.{Float}
 use Rattle.numbers.specs.Bounds.{finite}
 use Rattle.points.specs.Refusal.{Said, gives}
-use Rattle.render.specs.Render.{declined, sampleAt, runInto, sampleCount}
+use Rattle.render.specs.Render.{declined, runInto, sampleCount}
 use Rattle.render.specs.Pieces.{total}
-use Rattle.envelope.specs.Envelope.{limitsOf}
+use Rattle.envelope.specs.Calls.{samplesOf}
 use Rattle.envelope.specs.Typed.{typed, typedEdit}
 use Rattle.envelope.specs.declared.AutomationEnvelope.{AutomationEnvelope}
 use Rattle.state.specs.State.{stateWords, pack}
@@ -32,10 +32,6 @@ Outside d h i = (k : ℕ) → h .mark - h .kept ≤ k → k < length (h .edits) 
 -- the place of the next edit's state: the mark modulo D, "0 where D is 0"
 abbrev pub placeOf : ℕ → Hist → ℕ
 placeOf d h = cond (eqb d 0) 0 (h .mark % d)
-
--- the samples of an envelope
-abbrev pub samplesOf : AutomationEnvelope → Float → ℕ → Float
-samplesOf e rate = sampleAt (e .points) (e .enabled) (limitsOf e) rate
 
 -- "After the list, every run of samples is refused exactly when the table says so": by 3, 13 and 8; "else its samples are that envelope's, and whatever pieces it is cut into, they leave the buffer that it leaves"
 pub record Runs (e : AutomationEnvelope) (s : Session) : Type 0 where

@@ -1,8 +1,7 @@
 -- 01's "Proved examples": "These are one table in the specs, established together". P1 to P14, on envelopes; those of lookups and ranges are what the crates below establish.
-use Prim.Native.Nat.{ℕ}
 use mathlib.Core.Path.{_≡_, refl}
 use mathlib.Core.List.{List, [], _∷_}
-use mathlib.Core.Option.{Option, none, some}
+use mathlib.Core.Option.{none, some}
 use lib.IntN.{pos}
 use lib.Ieee.{Float, binary32, ofBits, toBits, ofInt, toUnsigned, round, neg, add, sub, mul, div, lt, le, isNan}
 use Rattle.numbers.specs.Bounds.{finite, minNum, maxNum}
@@ -15,7 +14,7 @@ use Rattle.curve.specs.Curve.{code, controls, finiteControls, clamped, cubicBez
 use Rattle.curve.specs.declared.CurveType.{CurveType}
 use Rattle.curve.specs.declared.CurveType.the-variants.{Linear, Logarithmic, Bezier, QuadIn, CubicInOut}
 use Rattle.points.specs.Points.{holding, every, risingBy, validPoints}
-use Rattle.points.specs.Refusal.{Said, refuses, gives}
+use Rattle.points.specs.Refusal.{refuses, gives}
 use Rattle.points.specs.Search.{placeBy}
 use Rattle.points.specs.declared.AutomationPoint.{AutomationPoint}
 use Rattle.lookup.specs.Examples as lookups
@@ -27,7 +26,8 @@ use Rattle.lookup.specs.declared.Limit.{Limit}
 use Rattle.lookup.specs.declared.Limit.the-variants as limit
 use Rattle.analysis.specs.Examples as ranges
 use Rattle.analysis.specs.Analysis.{givenValues, rangeOf, rawInside, getRange}
-use Rattle.envelope.specs.Envelope.{new, limitsOf}
+use Rattle.envelope.specs.Envelope.{new}
+use Rattle.envelope.specs.Calls.{valueAtOf, valueAtSampleOf, rangeBetweenOf}
 use Rattle.envelope.specs.Edit.{withPoints, withSettings, editOf, edited, pointsEdited}
 use Rattle.envelope.specs.declared.AutomationEnvelope.{AutomationEnvelope}
 use Rattle.settle.specs.Settle.{editPoints, settle}
@@ -51,50 +51,36 @@ limited max step v =
     let e = holds (at t0 v ∷ []) in
     withSettings e (e .enabled) (limits max step)
 
--- ---- the calls
-
--- the lookup by time
-abbrev byTime : AutomationEnvelope → Float → Said (Option Float)
-byTime e time = getValueAt (e .points) (e .enabled) (limitsOf e) time
-
--- the lookup by sample
-abbrev bySample : AutomationEnvelope → ℕ → Said (Option Float)
-bySample e sample = getValueAtSample (e .points) (e .enabled) (limitsOf e) sample
-
--- the range between two times
-abbrev range : AutomationEnvelope → Float → Float → Said (Option (Float × Float))
-range e start end = getRange (e .points) (e .enabled) (limitsOf e) start end
-
 -- ---- the table
 
 -- P1 to P14
 pub record Table : Type 0 where
   -- "P1 empty: silent."
-  pub p1 : byTime (new 0) t1 ≡ gives none
+  pub p1 : valueAtOf (new 0) t1 ≡ gives none
   -- "P2 (0,0),(4,1) at 1: 0.25."
-  pub p2 : byTime (rising Linear) t1 ≡ gives (some (f32 0x3E80_0000))
+  pub p2 : valueAtOf (rising Linear) t1 ≡ gives (some (f32 0x3E80_0000))
   -- "P3 QuadIn at 2: 0.25."
-  pub p3 : byTime (rising QuadIn) t2 ≡ gives (some (f32 0x3E80_0000))
+  pub p3 : valueAtOf (rising QuadIn) t2 ≡ gives (some (f32 0x3E80_0000))
   -- "P4 Logarithmic at 1: 0.5."
-  pub p4 : byTime (rising Logarithmic) t1 ≡ gives (some f0·5)
+  pub p4 : valueAtOf (rising Logarithmic) t1 ≡ gives (some f0·5)
   -- "P5 CubicInOut at 1: 0.0625."
-  pub p5 : byTime (rising CubicInOut) t1 ≡ gives (some (f32 0x3D80_0000))
+  pub p5 : valueAtOf (rising CubicInOut) t1 ≡ gives (some (f32 0x3D80_0000))
   -- "P6 Bezier(1,1) at 2: 0.875."
-  pub p6 : byTime (rising (Bezier f1 f1)) t2 ≡ gives (some (f32 0x3F60_0000))
+  pub p6 : valueAtOf (rising (Bezier f1 f1)) t2 ≡ gives (some (f32 0x3F60_0000))
   -- "P7 maximum 1, step 0.625, value 1: 1.25."
-  pub p7 : byTime (limited (limit.Number f1) (limit.Number (f32 0x3F20_0000)) f1) t0 ≡ gives (some (f32 0x3FA0_0000))
+  pub p7 : valueAtOf (limited (limit.Number f1) (limit.Number (f32 0x3F20_0000)) f1) t0 ≡ gives (some (f32 0x3FA0_0000))
   -- "P8 step 1, value −2.5: −3."
-  pub p8 : byTime (limited limit.None (limit.Number f1) (f32 0xC020_0000)) t0 ≡ gives (some (f32 0xC040_0000))
+  pub p8 : valueAtOf (limited limit.None (limit.Number f1) (f32 0xC020_0000)) t0 ≡ gives (some (f32 0xC040_0000))
   -- "P9 alone, −0.0 stays; as the middle of three, at its time, 0.0."
-  pub p9-alone : byTime (holds (at t1 minusZero ∷ [])) t1 ≡ gives (some minusZero)
-  pub p9-middle : byTime (holds (at t0 f1 ∷ at t1 minusZero ∷ at t2 f1 ∷ [])) t1 ≡ gives (some f0)
+  pub p9-alone : valueAtOf (holds (at t1 minusZero ∷ [])) t1 ≡ gives (some minusZero)
+  pub p9-middle : valueAtOf (holds (at t0 f1 ∷ at t1 minusZero ∷ at t2 f1 ∷ [])) t1 ≡ gives (some f0)
   -- "P10 times 10 and 20, no positions: sample 5 silent, sample 0 the first value."
-  pub p10-silent : bySample (holds (at t10 f1 ∷ at t20 f0 ∷ [])) 5 ≡ gives none
-  pub p10-first : bySample (holds (at t10 f1 ∷ at t20 f0 ∷ [])) 0 ≡ gives (some f1)
+  pub p10-silent : valueAtSampleOf (holds (at t10 f1 ∷ at t20 f0 ∷ [])) 5 ≡ gives none
+  pub p10-first : valueAtSampleOf (holds (at t10 f1 ∷ at t20 f0 ∷ [])) 0 ≡ gives (some f1)
   -- "P11 16,777,219 to f32: 16,777,220."
   pub p11 : ofInt binary32 (pos 16777219) ≡ f32 0x4B80_0002
   -- "P12 value 2, maximum 1, time 0, range 0 to 1: (1, 2)."
-  pub p12 : range (limited (limit.Number f1) limit.None f2) t0 t1 ≡ gives (some (f1, f2))
+  pub p12 : rangeBetweenOf (limited (limit.Number f1) limit.None f2) t0 t1 ≡ gives (some (f1, f2))
   -- "P13 D = 1: edit, edit, back, back (10), forward."
   pub p13 : answersAfter (new 3) 1 newHist p13-calls ≡ gives tt ∷ gives tt ∷ gives tt ∷ refuses 10 ∷ gives tt ∷ []
   -- "P14 square root of 2: 3FB504F3."

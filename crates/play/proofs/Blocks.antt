@@ -11,12 +11,14 @@ use lib.ListN.{length, take, drop, length-append}
 use lib.Seq.{take-at}
 use Rattle.numbers.specs.Bounds.{finite}
 use Rattle.points.specs.Refusal.{Said, refuses, gives}
-use Rattle.render.specs.Render.{written, Rendered, declined, mostSamples, runInto, render}
+use Rattle.render.specs.Render.{written, Rendered, declined, mostSamples, runInto}
 use Rattle.lookup.specs.Runs.{run, run-long}
-use Rattle.envelope.specs.Envelope.{limitsOf, validEnvelope}
+use Rattle.envelope.specs.Envelope.{validEnvelope}
+use Rattle.envelope.specs.Calls.{samplesOf, renderOf}
+use Rattle.envelope.proofs.CallLaws.{render-is}
 use Rattle.fields.specs.Told.{Put}
 use Rattle.fields.proofs.Stores.{put-all}
-use Rattle.play.specs.Play.{samplesOf, sampleLines}
+use Rattle.play.specs.Play.{sampleLines}
 use Rattle.play.specs.Blocks.{over, blockCount, blockText, after, BlockTold, declines, nextBlock}
 use Rattle.play.specs.declared.Play.{Play}
 use Rattle.play.proofs.Texts.{lines-length}
@@ -27,7 +29,7 @@ never h = let z : _≡_ {A = ℕ} 0 1 = cc in absurd (omega arith)
 module _ (p : Play) (room : List Float) (long : 1024 ≤ length room) where
   -- the block's samples, rendered into the room
   abbrev rendered : Rendered
-  rendered = render (p .envelope .points) (p .envelope .enabled) (limitsOf (p .envelope)) (p .rate) (p .next) (blockCount p) 0 room
+  rendered = renderOf (p .envelope) (p .rate) (p .next) (blockCount p) 0 room
 
   abbrev samples : List Float
   samples = run (samplesOf (p .envelope) (p .rate)) (p .next) (blockCount p)
@@ -39,8 +41,8 @@ module _ (p : Play) (room : List Float) (long : 1024 ≤ length room) where
       (cond (leb (p .next + blockCount p) mostSamples) (record { said = gives tt; buffer = written 0 samples room }) (declined 13 room))
       (declined 3 room))
       (declined 1 room)
-  unfolding render runInto
-  rendered-is = rw (le-leb (blockCount p) (length room - 0) (omega arith))
+  unfolding runInto
+  rendered-is = render-is (p .envelope) (p .rate) (p .next) (blockCount p) 0 room ∙ rw (le-leb (blockCount p) (length room - 0) (omega arith))
 
   pub refused-block : (k : ℕ) (out : List ℕ) → rendered .said ≡ refuses k → nextBlock p out ≡ declines k p out
   unfolding nextBlock
@@ -93,10 +95,10 @@ module _ (p : Play) (room : List Float) (long : 1024 ≤ length room) where
 
 module _ (p : Play) (n : ℕ) (e : n ≡ blockCount p) (room : List Float) (long : 1024 ≤ length room) where
   abbrev block : Rendered
-  block = render (p .envelope .points) (p .envelope .enabled) (limitsOf (p .envelope)) (p .rate) (p .next) n 0 room
+  block = renderOf (p .envelope) (p .rate) (p .next) n 0 room
 
   same : block ≡ rendered p room long
-  same = ap (λ (k : ℕ). render (p .envelope .points) (p .envelope .enabled) (limitsOf (p .envelope)) (p .rate) (p .next) k 0 room) e
+  same = ap (λ (k : ℕ). renderOf (p .envelope) (p .rate) (p .next) k 0 room) e
 
   pub block-refused : (k : ℕ) (out : List ℕ) → block .said ≡ refuses k → (refuses k ≡ nextBlock p out .said) × ((p ≡ nextBlock p out .play) × (out ≡ nextBlock p out .bytes))
   block-refused k out q =

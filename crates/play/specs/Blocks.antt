@@ -11,8 +11,9 @@ use Rattle.points.specs.Refusal.{Said, refuses, gives}
 use Rattle.lookup.specs.Runs.{run}
 use Rattle.render.specs.Render.{sampleCount, mostSamples}
 use Rattle.envelope.specs.Envelope.{new, validEnvelope}
+use Rattle.envelope.specs.Calls.{samplesOf}
 use Rattle.sheet.specs.Sheet.{Input, declined, input}
-use Rattle.play.specs.Play.{sampleNames, refusalText, samplesOf, sampleLines}
+use Rattle.play.specs.Play.{sampleNames, refusalText, sampleLines}
 use Rattle.play.specs.declared.Play.{Play}
 use Rattle.play.specs.declared.Opened.{Opened}
 

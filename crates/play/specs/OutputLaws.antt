@@ -11,6 +11,7 @@ use Rattle.numbers.specs.Bounds.{finite}
 use Rattle.points.specs.Refusal.{gives}
 use Rattle.lookup.specs.Runs.{run, run-long, run-cut}
 use Rattle.envelope.specs.Envelope.{validEnvelope}
+use Rattle.envelope.specs.Calls.{samplesOf}
 use Rattle.envelope.specs.declared.AutomationEnvelope.{AutomationEnvelope}
 use Rattle.fields.specs.Form.{Got, bad, got}
 use Rattle.lines.specs.Lines.{Line, refused, line, meant, lineOf, check, blockForm, blockLine, blockMeaning}
@@ -19,7 +20,7 @@ use Rattle.sheet.specs.Sheet.{Input, declined, input, sheetLines, blockFrom, la
 use Rattle.lines.specs.declared.block.RawBlock.{RawBlock}
 use Rattle.lines.specs.declared.block.Block.{Block}
 use Rattle.sheet.proofs.Sheets.{sheet-read}
-use Rattle.play.specs.Play.{samplesOf, sampleLine, sampleLines, refusalText, printed}
+use Rattle.play.specs.Play.{sampleLine, sampleLines, refusalText, printed}
 use Rattle.play.specs.Blocks.{firstText, firstPlay, blockCount, blockText, after}
 use Rattle.play.specs.declared.Play.{Play}
 

@@ -5,9 +5,8 @@ use mathlib.Core.List.{List, [], _∷_, _++_}
 use lib.Dec.{leb}
 use lib.Ieee.{Float, binary32, toBits}
 use Rattle.lookup.specs.Runs.{run}
-use Rattle.render.specs.Render.{sampleAt, sampleCount, mostSamples}
-use Rattle.envelope.specs.Envelope.{limitsOf}
-use Rattle.envelope.specs.declared.AutomationEnvelope.{AutomationEnvelope}
+use Rattle.render.specs.Render.{sampleCount, mostSamples}
+use Rattle.envelope.specs.Calls.{samplesOf}
 use Rattle.fields.specs.Form.{text, space, newline}
 use Rattle.sheet.specs.Sheet.{Input, declined, input, playInput}
 use Rattle.fields.specs.Text.{digitsOf, placesOf, numberText, decimalText}
@@ -35,10 +34,6 @@ sampleLines i (x ∷ xs) = sampleLine i x ++ sampleLines (suc i) xs
 unfoldable pub refusalText : ℕ → ℕ → List ℕ
 unfolding digitsOf placesOf
 refusalText n k = refusalNames ++ (decimalText space n ++ decimalText newline k)
-
--- the envelope's samples at a rate
-abbrev pub samplesOf : AutomationEnvelope → Float → ℕ → Float
-samplesOf e rate = sampleAt (e .points) (e .enabled) (limitsOf e) rate
 
 -- "13 has line 0": "first sample plus count .. over 2^32 − 1"
 unfoldable pub counted : Input → Input

@@ -6,30 +6,13 @@ use mathlib.Core.List.{List, [], _∷_}
 use mathlib.Core.Option.{Option}
 use lib.Ieee.{Float}
 use Rattle.points.specs.Refusal.{Said, refuses}
-use Rattle.lookup.specs.Lookup.{getValueAt, getValueAtSample}
-use Rattle.render.specs.Render.{Rendered, declined, render, toBuffer}
-use Rattle.render.specs.RenderLaws.{render-invalid, buffer-invalid}
+use Rattle.render.specs.Render.{Rendered, declined}
 use Rattle.render.specs.Pieces.{Pieces}
-use Rattle.envelope.specs.Envelope.{limitsOf, validEnvelope}
-use Rattle.envelope.specs.declared.AutomationEnvelope.{AutomationEnvelope}
+use Rattle.envelope.specs.Envelope.{validEnvelope}
+use Rattle.envelope.specs.Calls.{valueAtOf, valueAtSampleOf, renderOf, toBufferOf}
+use Rattle.envelope.proofs.CallLaws.{value-invalid, sample-invalid, render-invalid, buffer-invalid}
 use Rattle.session.specs.Session.{inOrder, validSession}
 use Rattle.session.specs.declared.Session.{Session}
-
--- the four calls on an envelope
-abbrev pub valueAtOf : AutomationEnvelope → Float → Said (Option Float)
-valueAtOf e time = getValueAt (e .points) (e .enabled) (limitsOf e) time
-
--- the lookup by sample
-abbrev pub valueAtSampleOf : AutomationEnvelope → ℕ → Said (Option Float)
-valueAtSampleOf e sample = getValueAtSample (e .points) (e .enabled) (limitsOf e) sample
-
--- a run
-abbrev pub renderOf : AutomationEnvelope → Float → ℕ → ℕ → ℕ → List Float → Rendered
-renderOf e rate first count place buffer = render (e .points) (e .enabled) (limitsOf e) rate first count place buffer
-
--- `to_buffer`
-abbrev pub toBufferOf : AutomationEnvelope → Float → Float → ℕ → List Float → Rendered
-toBufferOf e rate duration place buffer = toBuffer (e .points) (e .enabled) (limitsOf e) rate duration place buffer
 
 -- 1: "envelope or session not valid"
 abbrev pub ifValid : {A : Type 0} → Session → A → A → A
@@ -77,26 +60,26 @@ module _ (s : Session) where
   not-in-order own one k = one-if (validEnvelope (s .envelope)) (inOrder s) own one k
 
   pub value-own : (time : Float) → inOrder s ≡ true → valueAtOf (s .envelope) time ≡ sessionValueAt s time
-  unfolding sessionValueAt getValueAt
-  value-own time k = own-if (validEnvelope (s .envelope)) (inOrder s) (valueAtOf (s .envelope) time) (refuses 1) (λ h. rw h) k
+  unfolding sessionValueAt
+  value-own time k = own-if (validEnvelope (s .envelope)) (inOrder s) (valueAtOf (s .envelope) time) (refuses 1) (value-invalid (s .envelope) time) k
 
   pub sample-own : (sample : ℕ) → inOrder s ≡ true → valueAtSampleOf (s .envelope) sample ≡ sessionValueAtSample s sample
-  unfolding sessionValueAtSample getValueAtSample
-  sample-own sample k = own-if (validEnvelope (s .envelope)) (inOrder s) (valueAtSampleOf (s .envelope) sample) (refuses 1) (λ h. rw h) k
+  unfolding sessionValueAtSample
+  sample-own sample k = own-if (validEnvelope (s .envelope)) (inOrder s) (valueAtSampleOf (s .envelope) sample) (refuses 1) (sample-invalid (s .envelope) sample) k
 
   pub render-own : (rate : Float) (first count place : ℕ) (buffer : List Float) → inOrder s ≡ true
       → renderOf (s .envelope) rate first count place buffer ≡ sessionRender s rate first count place buffer
   unfolding sessionRender
   render-own rate first count place buffer k =
       own-if (validEnvelope (s .envelope)) (inOrder s) (renderOf (s .envelope) rate first count place buffer) (declined 1 buffer)
-      (render-invalid (s .envelope .points) (s .envelope .enabled) (limitsOf (s .envelope)) rate first count place buffer) k
+      (render-invalid (s .envelope) rate first count place buffer) k
 
   pub buffer-own : (rate duration : Float) (place : ℕ) (buffer : List Float) → inOrder s ≡ true
       → toBufferOf (s .envelope) rate duration place buffer ≡ sessionToBuffer s rate duration place buffer
   unfolding sessionToBuffer
   buffer-own rate duration place buffer k =
       own-if (validEnvelope (s .envelope)) (inOrder s) (toBufferOf (s .envelope) rate duration place buffer) (declined 1 buffer)
-      (buffer-invalid (s .envelope .points) (s .envelope .enabled) (limitsOf (s .envelope)) rate duration place buffer) k
+      (buffer-invalid (s .envelope) rate duration place buffer) k
 
   pub value-not : (time : Float) → inOrder s ≡ false → refuses 1 ≡ sessionValueAt s time
   unfolding sessionValueAt

@@ -1,7 +1,7 @@
 use mathlib.Core.Path.{refl, sym, _∙_}
 use denote.Ref.{now}
 use Rattle.render.specs.RenderLaws.{answers}
-use Rattle.session.specs.Play.{toBufferOf, buffer-own, buffer-not}
+use Rattle.session.specs.Play.{buffer-own, buffer-not}
 use borrow.Author.Needs.{needs}
 use Rattle.session.proofs.Session.to_buffer.Statement.{statement}
 use Rattle.session.proofs.Session.to_buffer.Tie as tie
@@ -21,8 +21,10 @@ same-length c = search needs
 
 returns : tie.Need-returns
 returns c =
-    let a = c .before .before .before .before .before .before .before .before .args in
-    answers {x = toBufferOf (a .self .envelope) (a .rate) (a .duration) (a .place) (now (a .out))} (c .before .before .to-buffer .ensures .0) (c .before .before .to-buffer .ensures .1) (buffer-own (a .self) (a .rate) (a .duration) (a .place) (now (a .out)) (sym (c .before .before .before .before .before .before .in-order .ensures) ∙ c .before .before .before .before .before .if1 .taken))
+    let b = c .before .before .before .before .before in
+    let a = b .before .before .before .args in
+    let own = buffer-own (a .self) (a .rate) (a .duration) (a .place) (now (a .out)) (sym (b .before .in-order .ensures) ∙ b .if1 .taken) in
+    rw (sym own) (c .before .before .to-buffer .ensures)
 
 returns-2 : tie.Need-returns-2
 returns-2 c =
