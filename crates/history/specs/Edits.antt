@@ -2,7 +2,8 @@
 use Prim.Native.Nat.{ℕ, _+_, _-_, _%_, _≤_, _<_, min}
 use mathlib.Core.Path.{_≡_, refl, ap, sym, _∙_}
 use mathlib.Core.List.{List, [], _∷_}
-use mathlib.Core.Bool.{Bool, true, false, cond}
+use mathlib.Core.Bool.{Bool, true, cond}
+use mathlib.Core.Option.{none}
 use mathlib.Core.Logic.{⊎-elim}
 use native.Mathlib.Nat.{eq-zero-or-pos}
 use native.Mathlib.Omega.{arith}
@@ -10,44 +11,38 @@ use lib.ListN.{length, getD, take, length-append}
 use lib.Seq.{take-append-le, take-take, take-all, length-take-le}
 use lib.Dec.{eqb}
 use borrow.Author.Tests.{le-ltb, eq-eqb, ne-eqb}
+use Rattle.points.specs.Checks.{firstFailing}
 use Rattle.points.specs.Refusal.{Said, refuses, gives}
 use Rattle.envelope.specs.Envelope.{new, validEnvelope}
 use Rattle.envelope.specs.Typed.{typed}
 use Rattle.envelope.specs.declared.AutomationEnvelope.{AutomationEnvelope}
 use Rattle.state.specs.State.{pack}
-use Rattle.session.specs.Session.{statesIn, stateAt, stored, slotAfter, gate, movedTo, settled, editCall, accepted}
-use Rattle.session.specs.Session as session
+use Rattle.session.specs.Session.{statesIn, stateAt, stored, slotAfter, movedTo, settled, accepted}
 use Rattle.session.specs.Slots.{lt-or-le, length-stored, stored-same, stored-other, word-other, slots-differ, after-slot}
-use Rattle.session.specs.Calls.{Entry, madeBy, othersValid, edit, callOf}
+use Rattle.session.specs.Calls.{Entry, madeBy, edit, inTurn, callOf}
 use Rattle.session.specs.declared.Session.{Session}
-use Rattle.history.specs.Rule.{Hist, made, upTo, joinedBy, ruledBy, editRuled, ruleOf}
-use Rattle.history.specs.Entries.{entry-valid, entry-typed, others-one}
+use Rattle.history.specs.Rule.{Hist, made, upTo, joinedBy, ruledBy, editRuled, ruleTests, ruleOf}
+use Rattle.history.specs.Entries.{entry-valid, entry-typed}
 use Rattle.history.specs.After.{Holds, Outside, typedEntry}
-use Rattle.history.specs.Steps.{Inv, Stepped, made-snoc, states, envelope-typed, envelope-words, session-valid, marks, at-fits, passes}
+use Rattle.history.specs.Steps.{Inv, Stepped, made-snoc, states, envelope-typed, envelope-words, marks, at-fits, rule-by, calls-by}
 
 module _ (start : AutomationEnvelope) (d : ℕ) (h : Hist) (s : Session) (m : List ℕ) (v : Inv start d h s m) where
-  module _ (x : Entry) where
-    edit-passes : othersValid x ≡ true → callOf (edit x) s m ≡ settled s m (madeBy x (s .envelope) .said) (madeBy x (s .envelope) .envelope)
-    unfolding editCall
-    edit-passes o = rw o ((passes start d h s m v) (settled s m (madeBy x (s .envelope) .said) (madeBy x (s .envelope) .envelope)))
-
-    edit-stopped : othersValid x ≡ false → callOf (edit x) s m ≡ session.declined 1 s m
-    unfolding editCall gate
-    edit-stopped o = rw (o, (session-valid start d h s m v))
-
+  module _ (x : Entry) (passed : firstFailing (inTurn (ruleTests h (edit x))) ≡ none) where
     rule-edit : ruleOf start d h (edit x) ≡ editRuled d h x (madeBy x (s .envelope))
-    unfolding ruleOf
-    rule-edit = ap (λ (e : AutomationEnvelope). editRuled d h x (madeBy x e)) (sym (v .envelope))
+    rule-edit = rule-by start d h s m v (edit x) none passed ∙ ap (λ (e : AutomationEnvelope). editRuled d h x (madeBy x e)) (sym (v .envelope))
 
-    refused-edit : (n : ℕ) → madeBy x (s .envelope) .said ≡ refuses n → callOf (edit x) s m ≡ session.declined n s m → Stepped start d h s m (edit x)
-    refused-edit n r c =
+    calls-edit : callOf (edit x) s m ≡ settled s m (madeBy x (s .envelope) .said) (madeBy x (s .envelope) .envelope)
+    calls-edit = calls-by start d h s m v (edit x) none passed
+
+    refused-edit : (n : ℕ) → madeBy x (s .envelope) .said ≡ refuses n → Stepped start d h s m (edit x)
+    refused-edit n r =
         record {
           answer = refuses n;
           hist = h;
           session = s;
           memory = m;
           rule = rule-edit ∙ ap (λ (y : Said (Unit {0})). ruledBy y h (joinedBy d h x)) r;
-          calls = c;
+          calls = calls-edit ∙ ap (λ (y : Said (Unit {0})). settled s m y (madeBy x (s .envelope) .envelope)) r;
           inv = λ t. v;
           lent = refl;
           stays = λ i out. refl;
@@ -87,42 +82,45 @@ module _ (start : AutomationEnvelope) (d : ℕ) (h : Hist) (s : Session) (m : Li
         ap (λ (n : ℕ). test (upTo start h′ n)) e ∙ ap test new-is ∙ new)
         (lt-or-le k (h .mark + 1))
 
-    module _ (o : othersValid x ≡ true) (z : madeBy x (s .envelope) .said ≡ gives tt) where
+    module _ (z : madeBy x (s .envelope) .said ≡ gives tt) where
       abbrev s′ : Session
       s′ = movedTo s (madeBy x (s .envelope) .envelope) (slotAfter d (s .at)) (min (s .kept + 1) d) 0
 
+      abbrev w : List ℕ
+      w = pack (s .envelope)
+
       abbrev m′ : List ℕ
-      m′ = cond (eqb d 0) m (stored (s .at) (s .envelope) m)
+      m′ = cond (eqb d 0) m (stored (s .at) w m)
 
       m′-none : d ≡ 0 → m′ ≡ m
       m′-none e = rw (eq-eqb d 0 e)
 
-      m′-put : 0 < d → m′ ≡ stored (s .at) (s .envelope) m
+      m′-put : 0 < d → m′ ≡ stored (s .at) w m
       m′-put p = rw (ne-eqb d 0 (omega arith))
 
       calls′ : callOf (edit x) s m ≡ accepted s′ m′
-      calls′ = edit-passes o ∙ rw (z, (states start d h s m v))
+      calls′ = calls-edit ∙ rw (z, (states start d h s m v))
 
       before′ : 0 < d → (k : ℕ) → h .mark + 1 - min (h .kept + 1) d ≤ k → k < h .mark + 1
-          → stateAt (stored (s .at) (s .envelope) m) (k % d) ≡ pack (upTo start h′ k)
+          → stateAt (stored (s .at) w m) (k % d) ≡ pack (upTo start h′ k)
       before′ p k a b =
           ⊎-elim
           (λ (l : k < h .mark).
-          stored-other m (s .at) (s .envelope) (envelope-words start d h s m v) ((at-fits start d h s m v) p) (k % d)
+          stored-other m (s .at) w (envelope-words start d h s m v) ((at-fits start d h s m v) p) (k % d)
           (λ e. slots-differ k (h .mark) d (omega arith) (omega arith) (omega arith) (e ∙ v .at-slot p))
           ∙ v .holds .before k (omega arith) l
           ∙ ap pack (sym (upTo-old k (omega arith))))
           (λ (l : h .mark ≤ k).
           let e : k ≡ h .mark = omega arith in
-          ap (λ (n : ℕ). stateAt (stored (s .at) (s .envelope) m) n) (ap (λ (n : ℕ). n % d) e ∙ sym (v .at-slot p))
-          ∙ stored-same m (s .at) (s .envelope) (envelope-words start d h s m v) ((at-fits start d h s m v) p)
+          ap (λ (n : ℕ). stateAt (stored (s .at) w m) n) (ap (λ (n : ℕ). n % d) e ∙ sym (v .at-slot p))
+          ∙ stored-same m (s .at) w (envelope-words start d h s m v) ((at-fits start d h s m v) p)
           ∙ ap pack (v .envelope ∙ sym (upTo-old (h .mark) (omega arith)) ∙ ap (upTo start h′) (sym e)))
           (lt-or-le k (h .mark))
 
       length-m′ : length m′ ≡ length m
       length-m′ =
           ⊎-elim (λ (e : d ≡ 0). ap length (m′-none e))
-          (λ (p : 0 < d). ap length (m′-put p) ∙ length-stored m (s .at) (s .envelope) (envelope-words start d h s m v) ((at-fits start d h s m v) p)) (eq-zero-or-pos d)
+          (λ (p : 0 < d). ap length (m′-put p) ∙ length-stored m (s .at) w (envelope-words start d h s m v) ((at-fits start d h s m v) p)) (eq-zero-or-pos d)
 
       holds′ : Holds start d h′ m′
       holds′ =
@@ -163,7 +161,7 @@ module _ (start : AutomationEnvelope) (d : ℕ) (h : Hist) (s : Session) (m : Li
           ⊎-elim (λ (e : d ≡ 0). ap (λ (l : List ℕ). getD l i 0) (m′-none e))
           (λ (p : 0 < d).
           ap (λ (l : List ℕ). getD l i 0) (m′-put p)
-          ∙ word-other m (s .at) (s .envelope) (envelope-words start d h s m v) ((at-fits start d h s m v) p) i
+          ∙ word-other m (s .at) w (envelope-words start d h s m v) ((at-fits start d h s m v) p) i
           (λ e. out (h .mark) (omega arith) (omega (arith, length-h′)) (e ∙ v .at-slot p)))
           (eq-zero-or-pos d)
 
@@ -181,7 +179,6 @@ module _ (start : AutomationEnvelope) (d : ℕ) (h : Hist) (s : Session) (m : Li
             stays = stays′;
           }
 
-    pub edit-stepped : (o : Bool) → othersValid x ≡ o → (a : Said (Unit {0})) → madeBy x (s .envelope) .said ≡ a → Stepped start d h s m (edit x)
-    edit-stepped true o (refuses n) a = refused-edit n a (edit-passes o ∙ ap (λ (y : Said (Unit {0})). settled s m y (madeBy x (s .envelope) .envelope)) a)
-    edit-stepped true o (gives u) a = accepted-edit o a
-    edit-stepped false o a p = refused-edit 1 (others-one x (s .envelope) o) (edit-stopped o)
+    pub edit-stepped : (a : Said (Unit {0})) → madeBy x (s .envelope) .said ≡ a → Stepped start d h s m (edit x)
+    edit-stepped (refuses n) a = refused-edit n a
+    edit-stepped (gives u) a = accepted-edit a

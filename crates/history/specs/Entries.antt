@@ -1,16 +1,14 @@
 -- The laws of an edit, alone or with another envelope, that the history rests on. Assumes nothing.
-use mathlib.Core.Path.{_≡_, sym}
-use mathlib.Core.Bool.{true, false, false≢true}
-use Rattle.points.specs.Refusal.{refuses, gives}
-use Rattle.points.specs.Laws.{and-false}
+use mathlib.Core.Path.{_≡_}
+use mathlib.Core.Bool.{true}
+use Rattle.points.specs.Refusal.{gives}
 use Rattle.envelope.specs.Envelope.{validEnvelope}
 use Rattle.envelope.specs.EditLaws.{edit-valid}
 use Rattle.envelope.specs.Typed.{typed}
 use Rattle.envelope.specs.TypedLaws.{edit-typed}
 use Rattle.envelope.specs.JoinLaws.{join-valid, join-typed}
 use Rattle.envelope.specs.declared.AutomationEnvelope.{AutomationEnvelope}
-use Rattle.session.specs.One.{join-one}
-use Rattle.session.specs.Calls.{Entry, alone, joined, madeBy, othersValid}
+use Rattle.session.specs.Calls.{Entry, alone, joined, madeBy}
 use Rattle.history.specs.After.{typedEntry}
 
 -- an accepted edit gives a valid envelope
@@ -22,8 +20,3 @@ entry-valid (joined j other) e h = join-valid j e other h
 pub entry-typed : (x : Entry) (e : AutomationEnvelope) → typed e ≡ true → typedEntry x ≡ true → typed (madeBy x e .envelope) ≡ true
 entry-typed (alone d) e t h = edit-typed d e t h
 entry-typed (joined j other) e t h = join-typed j e other t h
-
--- another envelope that isn't valid gives 1
-pub others-one : (x : Entry) (e : AutomationEnvelope) → othersValid x ≡ false → madeBy x e .said ≡ refuses 1
-others-one (alone d) e h = absurd (false≢true (sym h))
-others-one (joined j other) e h = join-one j e other (rw h (and-false (validEnvelope e)))

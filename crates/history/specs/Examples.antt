@@ -5,6 +5,7 @@ use mathlib.Core.List.{List, [], _∷_}
 use lib.Ieee.{binary32, binary64, ofBits, toBits}
 use lib.ListN.{replicate}
 use Rattle.curve.specs.declared.CurveType.the-variants.{Linear}
+use Rattle.points.specs.Checks.{firstFailing}
 use Rattle.points.specs.Refusal.{Said, refuses, gives}
 use Rattle.points.specs.Point.{pointWith}
 use Rattle.insert.specs.Insert.{insertPoint}
@@ -18,7 +19,7 @@ use Rattle.envelope.specs.Edit.{editOf, edited, pointsEdited}
 use Rattle.envelope.specs.declared.edit.Edit.the-variants.{OfPoints}
 use Rattle.envelope.specs.declared.edit.PointsEdit.the-variants.{AddPoint}
 use Rattle.state.specs.State.{packSettings, packPoint, packPoints, pack, pointOf, pointsOf, stateOf, unpacked}
-use Rattle.session.specs.Session.{openSession, stateAt, stored, slotAfter, slotBefore, inOrder, gate, editCall, backCall, forwardCall}
+use Rattle.session.specs.Session.{openSession, stateAt, stored, slotAfter, slotBefore, inOrder}
 use Rattle.session.specs.Calls.{alone, Call, edit, back, forward, callOf}
 use Rattle.session.specs.declared.Session.{Session}
 
@@ -36,5 +37,5 @@ answersOf s m [] = []
 answersOf s m (c ∷ cs) = callOf c s m .said ∷ answersOf (callOf c s m .session) (callOf c s m .memory) cs
 
 pub p13-functions : answersOf (openSession 3 (replicate 1028 7)) (replicate 1028 7) p13-calls ≡ gives tt ∷ gives tt ∷ gives tt ∷ refuses 10 ∷ gives tt ∷ []
-unfolding answersOf openSession stateAt stored slotAfter slotBefore inOrder gate editCall backCall forwardCall new editOf edited pointsEdited editPoints settle insertPoint validPoints every everyPair risingBy finite finiteControls controls code curveOf orderKey ofBits toBits packSettings packPoint packPoints pack pointOf pointsOf stateOf unpacked
+unfolding answersOf openSession stateAt stored slotAfter slotBefore inOrder callOf firstFailing new editOf edited pointsEdited editPoints settle insertPoint validPoints every everyPair risingBy finite finiteControls controls code curveOf orderKey ofBits toBits packSettings packPoint packPoints pack pointOf pointsOf stateOf unpacked
 p13-functions = refl

@@ -3,36 +3,45 @@ use Prim.Native.Nat.{ℕ, _<_}
 use mathlib.Core.Path.{_≡_, refl, ap, ap₂, sym, _∙_}
 use mathlib.Core.List.{List, _∷_}
 use mathlib.Core.Bool.{true}
-use mathlib.Core.Logic.{⊎-elim}
-use native.Mathlib.Nat.{eq-zero-or-pos, zero-mod}
+use mathlib.Core.Option.{Option, none, some}
+use native.Mathlib.Nat.{zero-mod}
 use native.Mathlib.Omega.{arith}
 use lib.ListN.{length, getD}
 use lib.Seq.{take-nil}
 use borrow.Author.Tests.{lt-ltb}
+use Rattle.points.specs.Checks.{firstFailing}
 use Rattle.points.specs.Refusal.{Said, said}
 use Rattle.points.specs.Points.{every}
 use Rattle.points.specs.Laws.{and-left, and-right}
+use Rattle.points.specs.declared.refusal.Refusal.{Refusal}
 use Rattle.envelope.specs.Envelope.{new, validEnvelope}
 use Rattle.envelope.specs.Typed.{typed}
 use Rattle.envelope.specs.TypedLaws.{new-typed, new-valid}
 use Rattle.envelope.specs.declared.AutomationEnvelope.{AutomationEnvelope}
 use Rattle.session.specs.Session.{statesIn, opened, openSession, Called, called}
-use Rattle.session.specs.Session as session
-use Rattle.session.specs.Calls.{Entry, madeBy, othersValid, Call, edit, back, forward, Obeys, Ran, done, call}
+use Rattle.session.specs.Calls.{Entry, madeBy, Call, edit, back, forward, inTurn, Obeys, Ran, done, call}
 use Rattle.session.specs.declared.Session.{Session}
 use Rattle.session.specs.declared.SessionAnswer.{SessionAnswer}
-use Rattle.history.specs.Rule.{Hist, newHist, made, upTo, Ruled, ruleOf, histAfter, answersAfter}
+use Rattle.history.specs.Rule.{Hist, newHist, made, upTo, Ruled, ruleTests, ruleOf, histAfter, answersAfter}
 use Rattle.history.specs.After.{typedCall, After}
-use Rattle.history.specs.Steps.{Inv, Stepped, session-valid, place-is}
+use Rattle.history.specs.Steps.{Inv, Stepped, refused-call, session-valid, place-is}
 use Rattle.history.specs.Edits.{edit-stepped}
-use Rattle.history.specs.Moves.{no-back, yes-back, no-forward, yes-forward}
+use Rattle.history.specs.Moves.{yes-back, yes-forward}
 use Rattle.history.specs.Played.{runs-of}
 
 -- what a call does
-step : (start : AutomationEnvelope) (d : ℕ) (h : Hist) (s : Session) (m : List ℕ) → Inv start d h s m → (c : Call) → Stepped start d h s m c
-step start d h s m v (edit x) = edit-stepped start d h s m v x (othersValid x) refl (madeBy x (s .envelope) .said) refl
-step start d h s m v back = ⊎-elim (no-back start d h s m v) (yes-back start d h s m v) (eq-zero-or-pos (h .kept))
-step start d h s m v forward = ⊎-elim (no-forward start d h s m v) (yes-forward start d h s m v) (eq-zero-or-pos (s .ahead))
+module _ (start : AutomationEnvelope) (d : ℕ) (h : Hist) (s : Session) (m : List ℕ) (v : Inv start d h s m) where
+  passes : (c : Call) → firstFailing (inTurn (ruleTests h c)) ≡ none → Stepped start d h s m c
+  passes (edit x) p = edit-stepped start d h s m v x p (madeBy x (s .envelope) .said) refl
+  passes back p = yes-back start d h s m v p
+  passes forward p = yes-forward start d h s m v p
+
+  step : (c : Call) → Stepped start d h s m c
+  step c = go (firstFailing (inTurn (ruleTests h c))) refl
+    where
+      go : (o : Option Refusal) → firstFailing (inTurn (ruleTests h c)) ≡ o → Stepped start d h s m c
+      go none e = passes c e
+      go (some r) e = refused-call start d h s m v c r e
 
 carry : (start : AutomationEnvelope) (d : ℕ) (h h′ : Hist) (s s′ : Session) (m m′ : List ℕ) → h ≡ h′ → s ≡ s′ → m ≡ m′ → Inv start d h′ s′ m′ → Inv start d h s m
 carry start d h h′ s s′ m m′ p q r v = rw (p, q, r) v

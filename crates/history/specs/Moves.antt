@@ -2,24 +2,24 @@
 use Prim.Native.Nat.{ℕ, _+_, _-_, _*_, _/_, _%_, _≤_, _<_}
 use mathlib.Core.Path.{_≡_, refl, ap, sym, _∙_}
 use mathlib.Core.List.{List}
-use mathlib.Core.Option.{some}
+use mathlib.Core.Option.{none, some}
 use mathlib.Core.Logic.{⊎-elim}
 use native.Mathlib.Nat.{mod-lt}
 use native.Mathlib.Omega.{arith}
 use lib.ListN.{length, getD}
-use borrow.Author.Tests.{lt-ltb, le-ltb}
-use Rattle.points.specs.Refusal.{refuses, gives}
+use borrow.Author.Tests.{ltb-true}
+use Rattle.points.specs.Checks.{firstFailing}
+use Rattle.points.specs.Refusal.{gives}
 use Rattle.envelope.specs.declared.AutomationEnvelope.{AutomationEnvelope}
 use Rattle.state.specs.State.{stateWords, pack, unpacked}
 use Rattle.state.specs.StateLaws.{unpacked-pack}
-use Rattle.session.specs.Session.{statesIn, stateAt, stored, slotAfter, slotBefore, movedTo, exchanged, steppedOver, backCall, forwardCall, accepted}
-use Rattle.session.specs.Session as session
+use Rattle.session.specs.Session.{statesIn, stateAt, stored, slotAfter, slotBefore, movedTo, exchanged, steppedOver, accepted}
 use Rattle.session.specs.Slots.{lt-or-le, length-stored, stored-same, stored-other, word-other, slot-fits, slots-differ, after-slot, before-slot}
-use Rattle.session.specs.Calls.{edit, back, forward, callOf}
+use Rattle.session.specs.Calls.{back, forward, inTurn, callOf}
 use Rattle.session.specs.declared.Session.{Session}
-use Rattle.history.specs.Rule.{Hist, upTo, steppedBack, steppedForward, ruleOf}
+use Rattle.history.specs.Rule.{Hist, upTo, steppedBack, steppedForward, ruleTests}
 use Rattle.history.specs.After.{Holds}
-use Rattle.history.specs.Steps.{Inv, Stepped, states, envelope-words, passes}
+use Rattle.history.specs.Steps.{Inv, Stepped, stands, states, envelope-words, rule-by, calls-by}
 
 module _ (start : AutomationEnvelope) (d : ℕ) (h : Hist) (s : Session) (m : List ℕ) (v : Inv start d h s m) where
   -- ---- a step over edit j, whose slot is p: the session's envelope and the state in the slot change places
@@ -27,61 +27,34 @@ module _ (start : AutomationEnvelope) (d : ℕ) (h : Hist) (s : Session) (m : Li
     p-fits : p * stateWords + stateWords ≤ length m
     p-fits = slot-fits p (length m) (rw (← v .d-is, slot) (mod-lt j pos))
 
-    put-at : stateAt (stored p (s .envelope) m) (j % d) ≡ pack (upTo start h (h .mark))
+    put-at : stateAt (stored p (pack (s .envelope)) m) (j % d) ≡ pack (upTo start h (h .mark))
     put-at =
-        ap (stateAt (stored p (s .envelope) m)) (sym slot) ∙ stored-same m p (s .envelope) (envelope-words start d h s m v) p-fits ∙ ap pack (v .envelope)
+        ap (stateAt (stored p (pack (s .envelope)) m)) (sym slot) ∙ stored-same m p (pack (s .envelope)) (envelope-words start d h s m v) p-fits ∙ ap pack (v .envelope)
 
     put-not : (k : ℕ) → (k ≡ j → ⊥) → j < k + d → k < j + d
-        → stateAt (stored p (s .envelope) m) (k % d) ≡ stateAt m (k % d)
-    put-not k n a b = stored-other m p (s .envelope) (envelope-words start d h s m v) p-fits (k % d) (λ e. slots-differ k j d n a b (e ∙ slot))
+        → stateAt (stored p (pack (s .envelope)) m) (k % d) ≡ stateAt m (k % d)
+    put-not k n a b = stored-other m p (pack (s .envelope)) (envelope-words start d h s m v) p-fits (k % d) (λ e. slots-differ k j d n a b (e ∙ slot))
 
-    put-length : length (stored p (s .envelope) m) ≡ length m
-    put-length = length-stored m p (s .envelope) (envelope-words start d h s m v) p-fits
+    put-length : length (stored p (pack (s .envelope)) m) ≡ length m
+    put-length = length-stored m p (pack (s .envelope)) (envelope-words start d h s m v) p-fits
 
-    put-stays : (i : ℕ) → (i / stateWords ≡ j % d → ⊥) → getD (stored p (s .envelope) m) i 0 ≡ getD m i 0
-    put-stays i n = word-other m p (s .envelope) (envelope-words start d h s m v) p-fits i (λ e. n (e ∙ slot))
+    put-stays : (i : ℕ) → (i / stateWords ≡ j % d → ⊥) → getD (stored p (pack (s .envelope)) m) i 0 ≡ getD m i 0
+    put-stays i n = word-other m p (pack (s .envelope)) (envelope-words start d h s m v) p-fits i (λ e. n (e ∙ slot))
 
     reads : (k : ℕ) → k ≤ length (h .edits) → stateAt m (j % d) ≡ pack (upTo start h k) → unpacked (stateAt m p) ≡ some (upTo start h k)
     reads k l e =
         ap (λ (n : ℕ). unpacked (stateAt m n)) slot ∙ ap unpacked e ∙ unpacked-pack (upTo start h k) (v .in-range k l) (v .valid k l)
 
     stepped : (k at kept ahead : ℕ) → unpacked (stateAt m p) ≡ some (upTo start h k)
-        → steppedOver s m p at kept ahead ≡ accepted (movedTo s (upTo start h k) at kept ahead) (stored p (s .envelope) m)
+        → steppedOver s m p at kept ahead ≡ accepted (movedTo s (upTo start h k) at kept ahead) (stored p (pack (s .envelope)) m)
     stepped k at kept ahead e = ap (exchanged s m p (λ f. movedTo s f at kept ahead)) e
 
-  pub no-back : h .kept ≡ 0 → Stepped start d h s m back
-  unfolding ruleOf backCall
-  no-back z =
-      record {
-        answer = refuses 10;
-        hist = h;
-        session = s;
-        memory = m;
-        rule = rw z;
-        calls = (passes start d h s m v) _ ∙ rw (v .kept, z);
-        inv = λ t. v;
-        lent = refl;
-        stays = λ i out. refl;
-      }
+  module _ (passed : firstFailing (inTurn (ruleTests h back)) ≡ none) where
+    q : 0 < h .kept
+    q = ltb-true 0 (h .kept) (stands (ruleTests h back) passed)
 
-  pub no-forward : s .ahead ≡ 0 → Stepped start d h s m forward
-  unfolding ruleOf forwardCall
-  no-forward z =
-      record {
-        answer = refuses 10;
-        hist = h;
-        session = s;
-        memory = m;
-        rule = rw (le-ltb (h .mark) (length (h .edits)) (omega arith));
-        calls = (passes start d h s m v) _ ∙ rw z;
-        inv = λ t. v;
-        lent = refl;
-        stays = λ i out. refl;
-      }
-
-  module _ (q : 0 < h .kept) where
     pos-b : 0 < d
-    pos-b = omega arith
+    pos-b = omega (arith, q)
 
     abbrev hb : Hist
     hb = steppedBack h
@@ -91,32 +64,32 @@ module _ (start : AutomationEnvelope) (d : ℕ) (h : Hist) (s : Session) (m : Li
 
     slot-b : pb ≡ (h .mark - 1) % d
     slot-b =
-        let e : h .mark ≡ h .mark - 1 + 1 = omega arith in
+        let e : h .mark ≡ h .mark - 1 + 1 = omega (arith, q) in
         ap (slotBefore d) (v .at-slot pos-b ∙ ap (λ (n : ℕ). n % d) e) ∙ before-slot (h .mark - 1) d pos-b
 
     read-b : unpacked (stateAt m pb) ≡ some (upTo start h (h .mark - 1))
-    read-b = reads (h .mark - 1) pb pos-b slot-b (h .mark - 1) (omega arith) (v .holds .before (h .mark - 1) (omega arith) (omega arith))
+    read-b = reads (h .mark - 1) pb pos-b slot-b (h .mark - 1) (omega (arith, q)) (v .holds .before (h .mark - 1) (omega (arith, q)) (omega (arith, q)))
 
     abbrev sb : Session
     sb = movedTo s (upTo start h (h .mark - 1)) pb (s .kept - 1) (s .ahead + 1)
 
     abbrev mb : List ℕ
-    mb = stored pb (s .envelope) m
+    mb = stored pb (pack (s .envelope)) m
 
     holds-b : Holds start d hb mb
     unfolding upTo
     holds-b =
         record {
           before = λ k a b.
-              put-not (h .mark - 1) pb pos-b slot-b k (omega arith) (omega arith) (omega arith) ∙ v .holds .before k (omega arith) (omega arith);
+              put-not (h .mark - 1) pb pos-b slot-b k (omega (arith, q)) (omega (arith, q)) (omega (arith, q)) ∙ v .holds .before k (omega (arith, q)) (omega (arith, q));
           after = λ k a b.
               ⊎-elim
               (λ (l : k < h .mark).
-              let e : h .mark - 1 ≡ k = omega arith in
-              let f : h .mark ≡ k + 1 = omega arith in
+              let e : h .mark - 1 ≡ k = omega (arith, q) in
+              let f : h .mark ≡ k + 1 = omega (arith, q) in
               ap (λ (n : ℕ). stateAt mb (n % d)) (sym e) ∙ put-at (h .mark - 1) pb pos-b slot-b ∙ ap (λ (n : ℕ). pack (upTo start h n)) f)
               (λ (l : h .mark ≤ k).
-              put-not (h .mark - 1) pb pos-b slot-b k (omega arith) (omega arith) (omega arith) ∙ v .holds .after k l b)
+              put-not (h .mark - 1) pb pos-b slot-b k (omega (arith, q)) (omega (arith, q)) (omega (arith, q)) ∙ v .holds .after k l b)
               (lt-or-le k (h .mark));
         }
 
@@ -128,9 +101,9 @@ module _ (start : AutomationEnvelope) (d : ℕ) (h : Hist) (s : Session) (m : Li
           d-is = v .d-is ∙ ap statesIn (sym (put-length (h .mark - 1) pb pos-b slot-b));
           envelope = refl;
           kept = ap (λ (n : ℕ). n - 1) (v .kept);
-          ahead = omega arith;
-          kept-le = omega arith;
-          room = omega arith;
+          ahead = omega (arith, q);
+          kept-le = omega (arith, q);
+          room = omega (arith, q);
           at-zero = λ e. absurd (omega (arith, pos-b));
           at-slot = λ x. slot-b;
           valid = v .valid;
@@ -139,42 +112,43 @@ module _ (start : AutomationEnvelope) (d : ℕ) (h : Hist) (s : Session) (m : Li
         }
 
     calls-b : callOf back s m ≡ accepted sb mb
-    unfolding backCall
     calls-b =
-        (passes start d h s m v) _
-        ∙ rw (lt-ltb 0 (s .kept) (omega arith), (states start d h s m v)) (stepped (h .mark - 1) pb pos-b slot-b (h .mark - 1) pb (s .kept - 1) (s .ahead + 1) read-b)
+        calls-by start d h s m v back none passed
+        ∙ rw (states start d h s m v) (stepped (h .mark - 1) pb pos-b slot-b (h .mark - 1) pb (s .kept - 1) (s .ahead + 1) read-b)
 
     pub yes-back : Stepped start d h s m back
-    unfolding ruleOf
     yes-back =
         record {
           answer = gives tt;
           hist = hb;
           session = sb;
           memory = mb;
-          rule = rw (lt-ltb 0 (h .kept) q);
+          rule = rule-by start d h s m v back none passed;
           calls = calls-b;
           inv = λ t. inv-b;
           lent = put-length (h .mark - 1) pb pos-b slot-b;
-          stays = λ i out. put-stays (h .mark - 1) pb pos-b slot-b i (out (h .mark - 1) (omega arith) (omega arith));
+          stays = λ i out. put-stays (h .mark - 1) pb pos-b slot-b i (out (h .mark - 1) (omega (arith, q)) (omega (arith, q)));
         }
 
-  module _ (q : 0 < s .ahead) where
+  module _ (passed : firstFailing (inTurn (ruleTests h forward)) ≡ none) where
+    q′ : 0 < s .ahead
+    q′ = omega (arith, ltb-true (h .mark) (length (h .edits)) (stands (ruleTests h forward) passed))
+
     pos-f : 0 < d
-    pos-f = omega arith
+    pos-f = omega (arith, q′)
 
     abbrev hf : Hist
     hf = steppedForward h
 
     read-f : unpacked (stateAt m (s .at)) ≡ some (upTo start h (h .mark + 1))
     read-f =
-        reads (h .mark) (s .at) pos-f (v .at-slot pos-f) (h .mark + 1) (omega arith) (v .holds .after (h .mark) (omega arith) (omega arith))
+        reads (h .mark) (s .at) pos-f (v .at-slot pos-f) (h .mark + 1) (omega (arith, q′)) (v .holds .after (h .mark) (omega (arith, q′)) (omega (arith, q′)))
 
     abbrev sf : Session
     sf = movedTo s (upTo start h (h .mark + 1)) (slotAfter d (s .at)) (s .kept + 1) (s .ahead - 1)
 
     abbrev mf : List ℕ
-    mf = stored (s .at) (s .envelope) m
+    mf = stored (s .at) (pack (s .envelope)) m
 
     holds-f : Holds start d hf mf
     unfolding upTo
@@ -183,16 +157,16 @@ module _ (start : AutomationEnvelope) (d : ℕ) (h : Hist) (s : Session) (m : Li
           before = λ k a b.
               ⊎-elim
               (λ (l : k < h .mark).
-              put-not (h .mark) (s .at) pos-f (v .at-slot pos-f) k (omega arith) (omega arith) (omega arith)
-              ∙ v .holds .before k (omega arith) l)
+              put-not (h .mark) (s .at) pos-f (v .at-slot pos-f) k (omega (arith, q′)) (omega (arith, q′)) (omega (arith, q′))
+              ∙ v .holds .before k (omega (arith, q′)) l)
               (λ (l : h .mark ≤ k).
-              let e : h .mark ≡ k = omega arith in
+              let e : h .mark ≡ k = omega (arith, q′) in
               ap (λ (n : ℕ). stateAt mf (n % d)) (sym e) ∙ put-at (h .mark) (s .at) pos-f (v .at-slot pos-f)
               ∙ ap (λ (n : ℕ). pack (upTo start h n)) e)
               (lt-or-le k (h .mark));
           after = λ k a b.
-              put-not (h .mark) (s .at) pos-f (v .at-slot pos-f) k (omega arith) (omega arith) (omega arith)
-              ∙ v .holds .after k (omega arith) b;
+              put-not (h .mark) (s .at) pos-f (v .at-slot pos-f) k (omega (arith, q′)) (omega (arith, q′)) (omega (arith, q′))
+              ∙ v .holds .after k (omega (arith, q′)) b;
         }
 
     inv-f : Inv start d hf sf mf
@@ -203,9 +177,9 @@ module _ (start : AutomationEnvelope) (d : ℕ) (h : Hist) (s : Session) (m : Li
           d-is = v .d-is ∙ ap statesIn (sym (put-length (h .mark) (s .at) pos-f (v .at-slot pos-f)));
           envelope = refl;
           kept = ap (λ (n : ℕ). n + 1) (v .kept);
-          ahead = omega arith;
-          kept-le = omega arith;
-          room = omega arith;
+          ahead = omega (arith, q′);
+          kept-le = omega (arith, q′);
+          room = omega (arith, q′);
           at-zero = λ e. absurd (omega (arith, pos-f));
           at-slot = λ x. ap (slotAfter d) (v .at-slot pos-f) ∙ after-slot (h .mark) d pos-f;
           valid = v .valid;
@@ -214,22 +188,20 @@ module _ (start : AutomationEnvelope) (d : ℕ) (h : Hist) (s : Session) (m : Li
         }
 
     calls-f : callOf forward s m ≡ accepted sf mf
-    unfolding forwardCall
     calls-f =
-        (passes start d h s m v) _
-        ∙ rw (lt-ltb 0 (s .ahead) q, (states start d h s m v)) (stepped (h .mark) (s .at) pos-f (v .at-slot pos-f) (h .mark + 1) (slotAfter d (s .at)) (s .kept + 1) (s .ahead - 1) read-f)
+        calls-by start d h s m v forward none passed
+        ∙ rw (states start d h s m v) (stepped (h .mark) (s .at) pos-f (v .at-slot pos-f) (h .mark + 1) (slotAfter d (s .at)) (s .kept + 1) (s .ahead - 1) read-f)
 
     pub yes-forward : Stepped start d h s m forward
-    unfolding ruleOf
     yes-forward =
         record {
           answer = gives tt;
           hist = hf;
           session = sf;
           memory = mf;
-          rule = rw (lt-ltb (h .mark) (length (h .edits)) (omega arith));
+          rule = rule-by start d h s m v forward none passed;
           calls = calls-f;
           inv = λ t. inv-f;
           lent = put-length (h .mark) (s .at) pos-f (v .at-slot pos-f);
-          stays = λ i out. put-stays (h .mark) (s .at) pos-f (v .at-slot pos-f) i (out (h .mark) (omega arith) (omega arith));
+          stays = λ i out. put-stays (h .mark) (s .at) pos-f (v .at-slot pos-f) i (out (h .mark) (omega (arith, q′)) (omega (arith, q′)));
         }

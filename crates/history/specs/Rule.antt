@@ -1,13 +1,14 @@
 -- 01, "The session": its rule over a list of calls, with no step memory in it.
 use Prim.Native.Nat.{ℕ, _+_, _-_, min}
-use mathlib.Core.Bool.{cond}
+use mathlib.Core.Bool.{Bool, true}
 use mathlib.Core.List.{List, [], _∷_, _++_}
 use lib.ListN.{length, take}
 use lib.Dec.{ltb}
-use Rattle.points.specs.Refusal.{Said, refuses, gives}
+use Rattle.points.specs.Checks.{gate}
+use Rattle.points.specs.Refusal.{Said, refuses, gives, number}
 use Rattle.envelope.specs.Edit.{EditTold}
 use Rattle.envelope.specs.declared.AutomationEnvelope.{AutomationEnvelope}
-use Rattle.session.specs.Calls.{Entry, madeBy, Call, edit, back, forward}
+use Rattle.session.specs.Calls.{Entry, madeBy, Call, edit, back, forward, callValid, Tests, inTurn}
 
 -- "State: the edits that count, in a list; a mark in it; kept."
 pub record Hist : Type 0 where
@@ -70,11 +71,25 @@ steppedBack h = record { edits = h .edits; mark = h .mark - 1; kept = h .kept - 
 abbrev pub steppedForward : Hist → Hist
 steppedForward h = record { edits = h .edits; mark = h .mark + 1; kept = h .kept + 1 }
 
--- the rule for one call, from this start and with a memory for d states: "Step back, if kept > 0", "Step forward, if an entry stands after the mark", else 10
+-- "Step back, if kept > 0", "Step forward, if an entry stands after the mark", else 10; an edit needs no step
+abbrev pub standsIn : Hist → Call → Bool
+standsIn h (edit x) = true
+standsIn h back = ltb 0 (h .kept)
+standsIn h forward = ltb (h .mark) (length (h .edits))
+
+-- the tests of a call by the rule: "Each call gets the session and step memory as the last left them", so 1 is only for another envelope and 11 for none
+abbrev pub ruleTests : Hist → Call → Tests
+ruleTests h c = record { valid = callValid c; admission = record { length = true }; step = standsIn h c }
+
+-- what a call does that has passed them, from this start and with a memory for d states
+abbrev pub ruled : AutomationEnvelope → ℕ → Hist → Call → Ruled
+ruled start d h (edit x) = editRuled d h x (madeBy x (envelopeOf start h))
+ruled start d h back = ruleAccepts (steppedBack h)
+ruled start d h forward = ruleAccepts (steppedForward h)
+
+-- the rule for one call, in the session's order of refusals
 unfoldable pub ruleOf : AutomationEnvelope → ℕ → Hist → Call → Ruled
-ruleOf start d h (edit x) = editRuled d h x (madeBy x (envelopeOf start h))
-ruleOf start d h back = cond (ltb 0 (h .kept)) (ruleAccepts (steppedBack h)) (ruleRefuses 10 h)
-ruleOf start d h forward = cond (ltb (h .mark) (length (h .edits))) (ruleAccepts (steppedForward h)) (ruleRefuses 10 h)
+ruleOf start d h c = gate (inTurn (ruleTests h c)) (λ r. ruleRefuses (number r) h) (ruled start d h c)
 
 -- the history after a list of calls
 unfoldable pub histAfter : AutomationEnvelope → ℕ → Hist → List Call → Hist

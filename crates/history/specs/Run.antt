@@ -1,13 +1,13 @@
 -- Every list of calls has its run, so the history theorem speaks of all of them. Assumes nothing.
 use Prim.Native.Nat.{ℕ}
 use mathlib.Core.Path.{_≡_, refl, ap}
-use mathlib.Core.Bool.{Bool, true, _&&_}
+use mathlib.Core.Bool.{Bool}
 use mathlib.Core.List.{List, [], _∷_}
 use mathlib.Core.Option.{Option, none, some}
-use lib.ListN.{length}
-use lib.Dec.{ltb, eqb}
-use Rattle.points.specs.Refusal.{Said, refuses, gives, said}
-use Rattle.points.specs.declared.refusal.Refusal.the-variants.{NotValid, NotFinite, NoStep, MemoryLength, StoredState}
+use Rattle.points.specs.Checks.{firstFailing}
+use Rattle.points.proofs.CheckLaws.{gate-either}
+use Rattle.points.specs.Refusal.{Said, refuses, gives, said, number}
+use Rattle.points.specs.declared.refusal.Refusal.the-variants.{NotValid, NotFinite, StoredState}
 use Rattle.points.specs.declared.refusal.Answer.{Answer}
 use Rattle.points.specs.declared.refusal.Answer.the-variants.{Accepted, Refused}
 use Rattle.lookup.specs.Limits.{finiteLimits}
@@ -24,8 +24,8 @@ use Rattle.settle.specs.declared.EditedPoints.{EditedPoints}
 use Rattle.insert.specs.Insert.{mergedPoints}
 use Rattle.combine.specs.Combine.{combinedPoints}
 use Rattle.state.specs.State.{unpacked}
-use Rattle.session.specs.Session.{stateAt, validSession, Called, gate, settled, exchanged, editCall, backCall, forwardCall}
-use Rattle.session.specs.Calls.{Entry, alone, joined, madeBy, othersValid, Call, edit, back, forward, callOf, Obeys, Ran, done, call}
+use Rattle.session.specs.Session.{stateAt, Called, declined, settled, exchanged}
+use Rattle.session.specs.Calls.{Entry, alone, joined, madeBy, Call, edit, back, forward, inTurn, testsOf, ownOf, callOf, Obeys, Ran, done, call}
 use Rattle.session.specs.declared.Session.{Session}
 use Rattle.session.specs.declared.SessionAnswer.{SessionAnswer}
 
@@ -82,10 +82,6 @@ made-answered (joined j o) e = join-answered j e o
 -- ---- and so is what a call says
 
 module _ (s : Session) (m : List ℕ) where
-  gate-answered : (others : Bool) (own : Called) → Answered (own .said) → Answered (gate others s m own .said)
-  unfolding gate
-  gate-answered others own p = either CallAnswered (validSession s && others) (λ v. either CallAnswered (eqb (length m) (s .length)) (λ l. p) (by (Refused MemoryLength))) (by (Refused NotValid))
-
   settled-answered : (x : Said (Unit {0})) (e : AutomationEnvelope) → Answered x → Answered (settled s m x e .said)
   settled-answered (refuses n) e p = p
   settled-answered (gives u) e p = by Accepted
@@ -94,11 +90,16 @@ module _ (s : Session) (m : List ℕ) where
   exchanged-answered k to none = by (Refused StoredState)
   exchanged-answered k to (some e) = by Accepted
 
+  own-answered : (c : Call) → Answered (ownOf c s m .said)
+  own-answered (edit x) = settled-answered (madeBy x (s .envelope) .said) _ (made-answered x (s .envelope))
+  own-answered back = exchanged-answered _ _ (unpacked (stateAt m _))
+  own-answered forward = exchanged-answered _ _ (unpacked (stateAt m _))
+
   call-answered : (c : Call) → Answered (callOf c s m .said)
-  unfolding editCall backCall forwardCall
-  call-answered (edit x) = gate-answered (othersValid x) _ (settled-answered (madeBy x (s .envelope) .said) _ (made-answered x (s .envelope)))
-  call-answered back = gate-answered true _ (either CallAnswered (ltb 0 (s .kept)) (λ k. exchanged-answered _ _ (unpacked (stateAt m _))) (by (Refused NoStep)))
-  call-answered forward = gate-answered true _ (either CallAnswered (ltb 0 (s .ahead)) (λ k. exchanged-answered _ _ (unpacked (stateAt m _))) (by (Refused NoStep)))
+  unfolding callOf
+  call-answered c =
+      gate-either CallAnswered (firstFailing (inTurn (testsOf c s m))) (λ r. declined (number r) s m) (ownOf c s m) (λ r. by (Refused r))
+      (λ e. own-answered c)
 
   -- the answer of a call that obeys
   abbrev answerOf : Call → SessionAnswer

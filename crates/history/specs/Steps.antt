@@ -3,24 +3,29 @@ use Prim.Native.Nat.{ℕ, _+_, _*_, _%_, _≤_, _<_}
 use mathlib.Core.Path.{_≡_, refl, ap, sym, _∙_}
 use mathlib.Core.List.{List, [], _∷_, _++_}
 use mathlib.Core.Bool.{true, _&&_}
+use mathlib.Core.Option.{Option, none, some}
 use mathlib.Core.Logic.{⊎-elim}
 use native.Mathlib.Nat.{mod-lt, eq-zero-or-pos}
 use native.Mathlib.Omega.{arith}
+use lib.Dec.{ltb}
 use lib.ListN.{length, getD}
-use borrow.Author.Tests.{lt-ltb, le-leb, eq-eqb, ne-eqb}
-use Rattle.points.specs.Refusal.{Said, said}
+use borrow.Author.Tests.{lt-ltb, le-ltb, le-leb, eq-eqb, ne-eqb}
+use Rattle.points.specs.Checks.{firstFailing, unlessRefused}
+use Rattle.points.proofs.CheckLaws.{all-hold}
+use Rattle.points.specs.Refusal.{Said, refuses, said, number}
+use Rattle.points.specs.Points.{every}
+use Rattle.points.specs.Laws.{and-left, and-right}
+use Rattle.points.specs.declared.refusal.Refusal.{Refusal}
 use Rattle.envelope.specs.Envelope.{validEnvelope}
 use Rattle.envelope.specs.Typed.{typed}
 use Rattle.envelope.specs.declared.AutomationEnvelope.{AutomationEnvelope}
 use Rattle.state.specs.State.{stateWords, pack}
 use Rattle.state.specs.StateLaws.{length-pack}
-use Rattle.session.specs.Session.{statesIn, depth, placeBelow, inOrder, validSession, Called, gate}
-use Rattle.session.specs.Session as session
+use Rattle.session.specs.Session.{statesIn, depth, placeBelow, inOrder, validSession, declined}
 use Rattle.session.specs.Slots.{slot-fits}
-use Rattle.session.specs.Ways.{gate-open}
-use Rattle.session.specs.Calls.{Entry, madeBy, Call, callOf}
+use Rattle.session.specs.Calls.{Entry, madeBy, Call, edit, back, forward, callValid, stepStands, Tests, inTurn, testsOf, ownOf, callOf}
 use Rattle.session.specs.declared.Session.{Session}
-use Rattle.history.specs.Rule.{Hist, made, upTo, ruleOf}
+use Rattle.history.specs.Rule.{Hist, made, upTo, ruleRefuses, standsIn, ruleTests, ruled, ruleOf}
 use Rattle.history.specs.After.{Holds, Outside, placeOf, typedCall}
 
 -- the rule's history against the session and the memory that it runs on
@@ -91,6 +96,51 @@ module _ (start : AutomationEnvelope) (d : ℕ) (h : Hist) (s : Session) (m : Li
   pub at-fits : 0 < d → s .at * stateWords + stateWords ≤ length m
   at-fits p = slot-fits (s .at) (length m) (rw (← v .d-is, v .at-slot p) (mod-lt (h .mark) p))
 
-  -- the tests that come first are passed
-  pub passes : (own : Called) → gate true s m own ≡ own
-  passes own = sym (gate-open s m own session-valid (sym (v .words)))
+  -- ---- the session's tests are the rule's
+
+  stands-is : (c : Call) → stepStands c s ≡ standsIn h c
+  stands-is (edit x) = refl
+  stands-is back = ap (ltb 0) (v .kept)
+  stands-is forward =
+      ⊎-elim (λ (z : s .ahead ≡ 0). rw z (sym (le-ltb (h .mark) (length (h .edits)) (omega arith))))
+      (λ (p : 0 < s .ahead). lt-ltb 0 (s .ahead) p ∙ sym (lt-ltb (h .mark) (length (h .edits)) (omega arith))) (eq-zero-or-pos (s .ahead))
+
+  tests-agree : (c : Call) → testsOf c s m ≡ ruleTests h c
+  tests-agree c =
+      λ i. record {
+        valid = session-valid i && callValid c;
+        admission = record { length = eq-eqb (length m) (s .length) (sym (v .words)) i };
+        step = stands-is c i;
+      }
+
+  -- a call by what becomes of its tests
+  module _ (c : Call) (o : Option Refusal) (e : firstFailing (inTurn (ruleTests h c)) ≡ o) where
+    pub rule-by : ruleOf start d h c ≡ unlessRefused o (λ r. ruleRefuses (number r) h) (ruled start d h c)
+    unfolding ruleOf
+    rule-by = ap (λ (p : Option Refusal). unlessRefused p (λ r. ruleRefuses (number r) h) (ruled start d h c)) e
+
+    pub calls-by : callOf c s m ≡ unlessRefused o (λ r. declined (number r) s m) (ownOf c s m)
+    unfolding callOf
+    calls-by =
+        ap (λ (p : Option Refusal). unlessRefused p (λ r. declined (number r) s m) (ownOf c s m))
+        (ap (λ (t : Tests). firstFailing (inTurn t)) (tests-agree c) ∙ e)
+
+  -- one that a test refuses
+  pub refused-call : (c : Call) (r : Refusal) → firstFailing (inTurn (ruleTests h c)) ≡ some r → Stepped start d h s m c
+  refused-call c r e =
+      record {
+        answer = refuses (number r);
+        hist = h;
+        session = s;
+        memory = m;
+        rule = rule-by c (some r) e;
+        calls = calls-by c (some r) e;
+        inv = λ t. v;
+        lent = refl;
+        stays = λ i out. refl;
+      }
+
+-- where none fails a step stands
+pub stands : (t : Tests) → firstFailing (inTurn t) ≡ none → t .step ≡ true
+unfolding every
+stands t h = and-left (t .step) _ (and-right (t .admission .length) _ (and-right (t .valid) _ (all-hold (inTurn t) h)))

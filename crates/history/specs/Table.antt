@@ -14,6 +14,7 @@ use Rattle.curve.specs.Curve.{code, controls, finiteControls, clamped, cubicBez
 use Rattle.curve.specs.declared.CurveType.{CurveType}
 use Rattle.curve.specs.declared.CurveType.the-variants.{Linear, Logarithmic, Bezier, QuadIn, CubicInOut}
 use Rattle.points.specs.Points.{holding, every, risingBy, validPoints}
+use Rattle.points.specs.Checks.{firstFailing}
 use Rattle.points.specs.Refusal.{refuses, gives}
 use Rattle.points.specs.Search.{placeBy}
 use Rattle.points.specs.declared.AutomationPoint.{AutomationPoint}
@@ -87,7 +88,7 @@ pub record Table : Type 0 where
   pub p14 : sqrt binary32 f2 ≡ f32 0x3FB5_04F3
 
 pub table : Table
-unfolding answersAfter ruleOf upTo made editOf edited pointsEdited editPoints settle insertPoint new getValueAt getValueAtSample getRange rangeOf givenValues rawInside run validPoints every risingBy foundAt foundAtSample surrounded placeBy fraction constrained code controls finiteControls clamped cubicBezier inOut eased interpolated finite minNum maxNum narrow orderKey sqrt roundAway ofBits toBits ofInt toUnsigned round neg add sub mul div lt le isNan
+unfolding answersAfter ruleOf firstFailing upTo made editOf edited pointsEdited editPoints settle insertPoint new getValueAt getValueAtSample getRange rangeOf givenValues rawInside run validPoints every risingBy foundAt foundAtSample surrounded placeBy fraction constrained code controls finiteControls clamped cubicBezier inOut eased interpolated finite minNum maxNum narrow orderKey sqrt roundAway ofBits toBits ofInt toUnsigned round neg add sub mul div lt le isNan
 table =
     record {
       p1 = lookups.p1;

@@ -12,11 +12,11 @@ use lib.Ieee.{Float, nan, binary32, binary64, fits}
 use lib.ListN.{length, getD, take, drop, set, length-take, length-set}
 use lib.Seq.{take-suc, take-suc-set, take-all, drop-set-lt, drop-drop}
 use Rattle.curve.specs.declared.CurveType.the-variants.{Linear}
+use Rattle.points.proofs.CheckLaws.{number-above}
 use Rattle.points.specs.Refusal.{Said, refuses, gives, said, number}
 use Rattle.points.specs.declared.refusal.Refusal.{Refusal}
 use Rattle.points.specs.declared.refusal.Answer.{Answer}
 use Rattle.points.specs.declared.refusal.Answer.the-variants.{Refused}
-use Rattle.points.specs.declared.refusal.Refusal.the-variants.{NotValid, SheetCurve, NotFinite, BoundsCross, TooManyPoints, TimesDontRise, KeysDontRise, NoRoom, SheetForm, NoStep, MemoryLength, StoredState, TooManySamples}
 use Rattle.numbers.specs.Tests.{yes}
 use Rattle.points.specs.Points.{every}
 use Rattle.points.specs.Laws.{every-append, every-one}
@@ -79,22 +79,10 @@ pub record AfterReplay (target : ℕ) (m₀ : List ℕ) (cs : List Call) (codes�
   -- the places after the codes stay
   pub rest : drop (length cs) codes ≡ drop (length cs) codes₀
 
--- a refusal's number says it
+-- a refusal's number says it, since it isn't 0
 number-said : (r : Refusal) → saidOf (number r) ≡ refuses (number r)
 unfolding saidOf
-number-said NotValid = refl
-number-said SheetCurve = refl
-number-said NotFinite = refl
-number-said BoundsCross = refl
-number-said TooManyPoints = refl
-number-said TimesDontRise = refl
-number-said KeysDontRise = refl
-number-said NoRoom = refl
-number-said SheetForm = refl
-number-said NoStep = refl
-number-said MemoryLength = refl
-number-said StoredState = refl
-number-said TooManySamples = refl
+number-said r = rw (ne-eqb (number r) 0 (omega (arith, number-above r)))
 
 pub refusal-said : (answer : Answer) (r : Refusal) (n : ℕ) → answer ≡ Refused r → n ≡ number r → saidOf n ≡ said answer
 refusal-said answer r n h k = ap saidOf k ∙ number-said r ∙ sym (ap said h)

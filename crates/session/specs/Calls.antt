@@ -1,15 +1,20 @@
--- A session's calls as data, and what it is for calls to have run. The functions' contracts say `Obeys`, of which the runs of the history theorem are made.
-use Prim.Native.Nat.{ℕ}
+-- A session's calls as data, the order of their refusals, what each says and leaves, and what it is for calls to have run.
+-- The functions' contracts say `Obeys`, of which the runs of the history theorem are made.
+use Prim.Native.Nat.{ℕ, _+_, _-_}
 use mathlib.Core.Path.{_≡_}
-use mathlib.Core.Bool.{Bool, true}
-use mathlib.Core.List.{List, [], _∷_}
-use Rattle.points.specs.Refusal.{Said, said}
+use mathlib.Core.Bool.{Bool, true, _&&_}
+use mathlib.Core.List.{List, [], _∷_, _++_}
+use lib.ListN.{length}
+use lib.Dec.{ltb, eqb}
+use Rattle.points.specs.Checks.{Check, orElse, gate}
+use Rattle.points.specs.Refusal.{Said, said, number}
+use Rattle.points.specs.declared.refusal.Refusal.the-variants.{NotValid, NoStep, MemoryLength}
 use Rattle.envelope.specs.Envelope.{validEnvelope}
 use Rattle.envelope.specs.Edit.{EditTold, editOf, joinOf}
 use Rattle.envelope.specs.declared.AutomationEnvelope.{AutomationEnvelope}
 use Rattle.envelope.specs.declared.edit.Edit.{Edit}
 use Rattle.envelope.specs.declared.edit.Join.{Join}
-use Rattle.session.specs.Session.{Called, called, editCall, backCall, forwardCall}
+use Rattle.session.specs.Session.{depth, slotAfter, slotBefore, validSession, Called, called, declined, settled, steppedOver}
 use Rattle.session.specs.declared.Session.{Session}
 use Rattle.session.specs.declared.SessionAnswer.{SessionAnswer}
 
@@ -34,11 +39,71 @@ pub data Call : Type 0 where
   back : Call
   forward : Call
 
+-- ---- the order of refusals
+
+-- what is asked of the step memory that a call is lent; each field is true where nothing is wrong
+pub record Admission : Type 0 where
+  -- 11, "step memory of another length than at opening"
+  pub length : Bool
+
+-- the tests of a session's call
+pub record Tests : Type 0 where
+  -- 1, "envelope or session not valid": the session, and any other envelope that the call is given
+  pub valid : Bool
+  -- 11
+  pub admission : Admission
+  -- 10, "no step that way"
+  pub step : Bool
+
+-- 11
+abbrev pub admission : Admission → List Check
+admission a = orElse (a .length) MemoryLength ∷ []
+
+-- 10
+abbrev pub afterwards : Tests → List Check
+afterwards t = orElse (t .step) NoStep ∷ []
+
+-- "Order: 1, 11, 10, 12, argument 3, 4, 13, 8, 7, result 3, 6, 5." The first three of it, for every call of a session and for the rule of its history.
+-- What comes after them is the call's own: a step's 12 (`exchanged`), and what an edit says (`settled`).
+abbrev pub inTurn : Tests → List Check
+inTurn t = orElse (t .valid) NotValid ∷ (admission (t .admission) ++ afterwards t)
+
+-- ---- a call
+
+-- 1 is for the other envelope too
+abbrev pub callValid : Call → Bool
+callValid (edit x) = othersValid x
+callValid back = true
+callValid forward = true
+
+-- "Step back, if kept > 0", "Step forward, if an entry stands after the mark"; an edit needs no step
+abbrev pub stepStands : Call → Session → Bool
+stepStands (edit x) s = true
+stepStands back s = ltb 0 (s .kept)
+stepStands forward s = ltb 0 (s .ahead)
+
+-- memory m against what session s holds of the one lent at opening
+abbrev pub admissionOf : Session → List ℕ → Admission
+admissionOf s m = record { length = eqb (length m) (s .length) }
+
+-- the tests of a call on session s and memory m
+abbrev pub testsOf : Call → Session → List ℕ → Tests
+testsOf c s m = record { valid = validSession s && callValid c; admission = admissionOf s m; step = stepStands c s }
+
+-- what a call does that has passed them. An edit: by what it makes of the envelope.
+-- A step back: over the slot of the last edit before the mark, "mark − 1, kept − 1". A step forward: over the slot of the first entry after it, "both + 1".
+abbrev pub ownOf : Call → Session → List ℕ → Called
+ownOf (edit x) s m = settled s m (madeBy x (s .envelope) .said) (madeBy x (s .envelope) .envelope)
+ownOf back s m = steppedOver s m (slotBefore (depth s) (s .at)) (slotBefore (depth s) (s .at)) (s .kept - 1) (s .ahead + 1)
+ownOf forward s m = steppedOver s m (s .at) (slotAfter (depth s) (s .at)) (s .kept + 1) (s .ahead - 1)
+
 -- what a call says, and the session and the memory that it leaves
-abbrev pub callOf : Call → Session → List ℕ → Called
-callOf (edit x) s m = editCall (othersValid x) (madeBy x (s .envelope)) s m
-callOf back s m = backCall s m
-callOf forward s m = forwardCall s m
+unfoldable pub callOf : Call → Session → List ℕ → Called
+callOf c s m = gate (inTurn (testsOf c s m)) (λ r. declined (number r) s m) (ownOf c s m)
+
+-- for the code's own use: the same where 1 and 11 are behind it
+abbrev pub behind : Call → Session → List ℕ → Called
+behind c s m = gate (afterwards (testsOf c s m)) (λ r. declined (number r) s m) (ownOf c s m)
 
 -- a call on session s and memory m answered a and left the memory m′: the functions' contracts
 abbrev pub Obeys : Session → List ℕ → Call → SessionAnswer → List ℕ → Type 0

@@ -1,17 +1,15 @@
 -- "A refusal returns its number .. and changes nothing." One law over every call of a session. Assumes nothing.
 use Prim.Native.Nat.{ℕ}
 use mathlib.Core.Path.{_≡_, ap, sym, _∙_}
-use mathlib.Core.Bool.{Bool, true, _&&_}
 use mathlib.Core.List.{List}
 use mathlib.Core.Option.{Option, none, some}
-use lib.ListN.{length}
-use lib.Dec.{ltb, eqb}
-use Rattle.points.specs.Refusal.{Said, refuses, gives, said}
-use Rattle.envelope.specs.EditLaws.{either}
+use Rattle.points.specs.Checks.{firstFailing}
+use Rattle.points.proofs.CheckLaws.{gate-either}
+use Rattle.points.specs.Refusal.{Said, refuses, gives, said, number}
 use Rattle.envelope.specs.declared.AutomationEnvelope.{AutomationEnvelope}
 use Rattle.state.specs.State.{unpacked}
-use Rattle.session.specs.Session.{stateAt, validSession, Called, declined, accepted, gate, settled, exchanged, editCall, backCall, forwardCall}
-use Rattle.session.specs.Calls.{othersValid, madeBy, Call, edit, back, forward, callOf, Obeys}
+use Rattle.session.specs.Session.{depth, stateAt, slotBefore, Called, declined, accepted, settled, exchanged}
+use Rattle.session.specs.Calls.{madeBy, Call, edit, back, forward, inTurn, testsOf, ownOf, callOf, Obeys}
 use Rattle.session.specs.Ways.{not-both}
 use Rattle.session.specs.declared.Session.{Session}
 use Rattle.session.specs.declared.SessionAnswer.{SessionAnswer}
@@ -27,11 +25,6 @@ module _ (s : Session) (m : List ℕ) where
   accepted-stays : (s′ : Session) (m′ : List ℕ) → Stays s m (accepted s′ m′)
   accepted-stays s′ m′ n h = absurd (not-both h)
 
-  gate-stays : (others : Bool) (own : Called) → Stays s m own → Stays s m (gate others s m own)
-  unfolding gate
-  gate-stays others own q =
-      either (Stays s m) (validSession s && others) (λ v. either (Stays s m) (eqb (length m) (s .length)) (λ l. q) (declined-stays 11)) (declined-stays 1)
-
   settled-stays : (x : Said (Unit {0})) (e : AutomationEnvelope) → Stays s m (settled s m x e)
   settled-stays (refuses n) e = declined-stays n
   settled-stays (gives u) e = accepted-stays _ _
@@ -40,14 +33,20 @@ module _ (s : Session) (m : List ℕ) where
   exchanged-stays k to none = declined-stays 12
   exchanged-stays k to (some e) = accepted-stays _ _
 
+  own-stays : (c : Call) → Stays s m (ownOf c s m)
+  own-stays (edit x) = settled-stays (madeBy x (s .envelope) .said) (madeBy x (s .envelope) .envelope)
+  own-stays back = exchanged-stays _ _ (unpacked (stateAt m (slotBefore (depth s) (s .at))))
+  own-stays forward = exchanged-stays _ _ (unpacked (stateAt m (s .at)))
+
   call-stays : (c : Call) → Stays s m (callOf c s m)
-  unfolding editCall backCall forwardCall
-  call-stays (edit x) = gate-stays (othersValid x) _ (settled-stays (madeBy x (s .envelope) .said) (madeBy x (s .envelope) .envelope))
-  call-stays back = gate-stays true _ (either (Stays s m) (ltb 0 (s .kept)) (λ k. exchanged-stays _ _ (unpacked (stateAt m _))) (declined-stays 10))
-  call-stays forward = gate-stays true _ (either (Stays s m) (ltb 0 (s .ahead)) (λ k. exchanged-stays _ _ (unpacked (stateAt m _))) (declined-stays 10))
+  unfolding callOf
+  call-stays c =
+      gate-either (Stays s m) (firstFailing (inTurn (testsOf c s m))) (λ r. declined (number r) s m) (ownOf c s m) (λ r. declined-stays (number r))
+      (λ h. own-stays c)
 
 -- "a refused call returns the session it got", and the memory
-pub refused-call : (s : Session) (m : List ℕ) (c : Call) (a : SessionAnswer) (m′ : List ℕ) (n : ℕ) → Obeys s m c a m′ → said (a .answer) ≡ refuses n → (a .session ≡ s) × (m′ ≡ m)
+pub refused-call : (s : Session) (m : List ℕ) (c : Call) (a : SessionAnswer) (m′ : List ℕ) (n : ℕ) → Obeys s m c a m′ → said (a .answer) ≡ refuses n
+    → (a .session ≡ s) × (m′ ≡ m)
 refused-call s m c a m′ n ob h =
     let all = ob ∙ call-stays s m c n (ap (λ (x : Called). x .said) (sym ob) ∙ h) in
     (ap (λ (x : Called). x .session) all, ap (λ (x : Called). x .memory) all)

@@ -1,6 +1,6 @@
--- 01, "The session": what opening, an edit, a step back and a step forward say, and the session and the step memory that they leave.
+-- 01, "The session": its step memory, opening, its validity, and what an accepted edit and a step leave. `Calls` has the calls, with the order of their refusals.
 use Prim.Native.Nat.{ℕ, _+_, _-_, _*_, _/_, min}
-use mathlib.Core.Bool.{Bool, true, cond, _&&_}
+use mathlib.Core.Bool.{Bool, cond, _&&_}
 use mathlib.Core.List.{List, _++_}
 use mathlib.Core.Option.{Option, none, some}
 use lib.ListN.{length, take, drop}
@@ -9,7 +9,6 @@ use Rattle.points.specs.Refusal.{Said, refuses, gives, said}
 use Rattle.points.specs.declared.refusal.Refusal.{Refusal}
 use Rattle.points.specs.declared.refusal.Answer.the-variants.{Accepted, Refused}
 use Rattle.envelope.specs.Envelope.{new, validEnvelope}
-use Rattle.envelope.specs.Edit.{EditTold}
 use Rattle.envelope.specs.declared.AutomationEnvelope.{AutomationEnvelope}
 use Rattle.state.specs.State.{stateWords, pack, unpacked}
 use Rattle.session.specs.declared.Session.{Session}
@@ -29,9 +28,9 @@ depth s = statesIn (s .length)
 unfoldable pub stateAt : List ℕ → ℕ → List ℕ
 stateAt m k = take stateWords (drop (k * stateWords) m)
 
--- the memory with an envelope's state in slot k; all other words stay
-unfoldable pub stored : ℕ → AutomationEnvelope → List ℕ → List ℕ
-stored k e m = take (k * stateWords) m ++ (pack e ++ drop (k * stateWords + stateWords) m)
+-- the memory with w, the words of a state, in slot k; all other words stay
+unfoldable pub stored : ℕ → List ℕ → List ℕ → List ℕ
+stored k w m = take (k * stateWords) m ++ (w ++ drop (k * stateWords + stateWords) m)
 
 -- the slot after one, of d: after the last comes the first
 unfoldable pub slotAfter : ℕ → ℕ → ℕ
@@ -83,10 +82,6 @@ declined n s m = record { said = refuses n; session = s; memory = m }
 abbrev pub accepted : Session → List ℕ → Called
 accepted s m = record { said = gives tt; session = s; memory = m }
 
--- ---- the order of refusals: 1, 11, then the call's own (10, 12, and an edit's). `others` says that what else the call takes is valid.
-unfoldable pub gate : Bool → Session → List ℕ → Called → Called
-gate others s m own = cond (validSession s && others) (cond (eqb (length m) (s .length)) own (declined 11 s m)) (declined 1 s m)
-
 -- ---- an edit
 
 -- the session with other numbers and another envelope, over the same memory
@@ -97,43 +92,23 @@ movedTo s e at kept ahead = record { envelope = e; length = s .length; at = at; 
 abbrev pub counted : Session → List ℕ → AutomationEnvelope → Called
 counted s m e =
     accepted (movedTo s e (slotAfter (depth s) (s .at)) (min (s .kept + 1) (depth s)) 0)
-    (cond (eqb (depth s) 0) m (stored (s .at) (s .envelope) m))
+    (cond (eqb (depth s) 0) m (stored (s .at) (pack (s .envelope)) m))
 
 -- an edit's own refusals come last
 abbrev pub settled : Session → List ℕ → Said (Unit {0}) → AutomationEnvelope → Called
 settled s m (refuses n) e = declined n s m
 settled s m (gives x) e = counted s m e
 
--- an edit that makes this of the envelope; `others` says that what it takes is valid
-unfoldable pub editCall : Bool → EditTold → Session → List ℕ → Called
-editCall others told s m = gate others s m (settled s m (told .said) (told .envelope))
-
 -- ---- the steps
 
 -- over slot k the envelope and the state there change places; 12, "stored state doesn't pack a valid envelope"
 abbrev pub exchanged : Session → List ℕ → ℕ → (AutomationEnvelope → Session) → Option AutomationEnvelope → Called
 exchanged s m k to none = declined 12 s m
-exchanged s m k to (some e) = accepted (to e) (stored k (s .envelope) m)
+exchanged s m k to (some e) = accepted (to e) (stored k (pack (s .envelope)) m)
 
 -- a step over slot k that leaves these numbers
 abbrev pub steppedOver : Session → List ℕ → ℕ → ℕ → ℕ → ℕ → Called
 steppedOver s m k at kept ahead = exchanged s m k (λ e. movedTo s e at kept ahead) (unpacked (stateAt m k))
-
--- "Step back, if kept > 0: mark − 1, kept − 1." Else 10, "no step that way". It is over the slot of the edit before the mark.
-unfoldable pub backCall : Session → List ℕ → Called
-backCall s m =
-    gate true s m
-    (cond (ltb 0 (s .kept))
-    (steppedOver s m (slotBefore (depth s) (s .at)) (slotBefore (depth s) (s .at)) (s .kept - 1) (s .ahead + 1))
-    (declined 10 s m))
-
--- "Step forward, if an entry stands after the mark: both + 1." It is over the slot of that entry.
-unfoldable pub forwardCall : Session → List ℕ → Called
-forwardCall s m =
-    gate true s m
-    (cond (ltb 0 (s .ahead))
-    (steppedOver s m (s .at) (slotAfter (depth s) (s .at)) (s .kept + 1) (s .ahead - 1))
-    (declined 10 s m))
 
 -- ---- for the code's own use: the same two ends as answers
 

@@ -10,8 +10,7 @@ use lib.ListN.{length, getD, take, drop, length-append, length-drop, take-append
 use lib.Seq.{take-append-le, drop-append-le, drop-append-add, drop-drop, take-at, drop-at, length-take-le, getD-drop, getD-take}
 use lib.Dec.{ltb}
 use borrow.Author.Tests.{lt-ltb, le-ltb, ne-eqb, ltb-true, ltb-false}
-use Rattle.envelope.specs.declared.AutomationEnvelope.{AutomationEnvelope}
-use Rattle.state.specs.State.{stateWords, pack}
+use Rattle.state.specs.State.{stateWords}
 use Rattle.session.specs.Session.{stateAt, stored, slotAfter, slotBefore}
 
 pub lt-or-le : (a b : ℕ) → (a < b) ⊎ (b ≤ a)
@@ -22,68 +21,68 @@ lt-or-le a b = go (ltb a b) refl
     go false h = inr (ltb-false a b h)
 
 -- a state stored in slot p, which the memory has
-module _ (m : List ℕ) (p : ℕ) (e : AutomationEnvelope) (words : length (pack e) ≡ stateWords) (fits : p * stateWords + stateWords ≤ length m) where
+module _ (m : List ℕ) (p : ℕ) (w : List ℕ) (words : length w ≡ stateWords) (fits : p * stateWords + stateWords ≤ length m) where
   front : length (take (p * stateWords) m) ≡ p * stateWords
   front = length-take-le (p * stateWords) m (omega arith)
 
-  front₂ : length (take (p * stateWords) m ++ pack e) ≡ p * stateWords + stateWords
+  front₂ : length (take (p * stateWords) m ++ w) ≡ p * stateWords + stateWords
   front₂ = simp length-append (omega (arith, front, words))
 
-  pub length-stored : length (stored p e m) ≡ length m
+  pub length-stored : length (stored p w m) ≡ length m
   unfolding stored
   length-stored = simp (length-append, length-drop) (omega (arith, front, words))
 
-  pub stored-same : stateAt (stored p e m) p ≡ pack e
+  pub stored-same : stateAt (stored p w m) p ≡ w
   unfolding stored stateAt
   stored-same =
-      ap (take stateWords) (drop-at (take (p * stateWords) m) (pack e ++ drop (p * stateWords + stateWords) m) (p * stateWords) front)
-      ∙ take-at (pack e) (drop (p * stateWords + stateWords) m) stateWords words
+      ap (take stateWords) (drop-at (take (p * stateWords) m) (w ++ drop (p * stateWords + stateWords) m) (p * stateWords) front)
+      ∙ take-at (w) (drop (p * stateWords + stateWords) m) stateWords words
 
   within : (A B : List ℕ) (q : ℕ) → q * stateWords + stateWords ≤ length A → take stateWords (drop (q * stateWords) (A ++ B)) ≡ take stateWords (drop (q * stateWords) A)
   within A B q h =
       ap (take stateWords) (drop-append-le (q * stateWords) A B (omega arith))
       ∙ take-append-le stateWords (drop (q * stateWords) A) B (simp length-drop (omega arith))
 
-  below : (q : ℕ) → q < p → stateAt (stored p e m) q ≡ stateAt m q
+  below : (q : ℕ) → q < p → stateAt (stored p w m) q ≡ stateAt m q
   unfolding stored stateAt
   below q h =
-      within (take (p * stateWords) m) (pack e ++ drop (p * stateWords + stateWords) m) q (omega (arith, front))
+      within (take (p * stateWords) m) (w ++ drop (p * stateWords + stateWords) m) q (omega (arith, front))
       ∙ sym (within (take (p * stateWords) m) (drop (p * stateWords) m) q (omega (arith, front)))
       ∙ ap (λ (l : List ℕ). take stateWords (drop (q * stateWords) l)) (take-append-drop (p * stateWords) m)
 
   -- past the stored state the memory is as it was
-  past : (i : ℕ) → drop (p * stateWords + stateWords + i) (stored p e m) ≡ drop (p * stateWords + stateWords + i) m
+  past : (i : ℕ) → drop (p * stateWords + stateWords + i) (stored p w m) ≡ drop (p * stateWords + stateWords + i) m
   unfolding stored
   past i =
-      ap (drop (p * stateWords + stateWords + i)) (sym (append-assoc (take (p * stateWords) m) (pack e) (drop (p * stateWords + stateWords) m)))
-      ∙ ap (λ (k : ℕ). drop (k + i) ((take (p * stateWords) m ++ pack e) ++ drop (p * stateWords + stateWords) m)) (sym front₂)
-      ∙ drop-append-add (take (p * stateWords) m ++ pack e) (drop (p * stateWords + stateWords) m) i
+      ap (drop (p * stateWords + stateWords + i)) (sym (append-assoc (take (p * stateWords) m) (w) (drop (p * stateWords + stateWords) m)))
+      ∙ ap (λ (k : ℕ). drop (k + i) ((take (p * stateWords) m ++ w) ++ drop (p * stateWords + stateWords) m)) (sym front₂)
+      ∙ drop-append-add (take (p * stateWords) m ++ w) (drop (p * stateWords + stateWords) m) i
       ∙ drop-drop i (p * stateWords + stateWords) m
 
-  above : (q : ℕ) → p < q → stateAt (stored p e m) q ≡ stateAt m q
+  above : (q : ℕ) → p < q → stateAt (stored p w m) q ≡ stateAt m q
   unfolding stateAt
   above q h =
       let k : q * stateWords ≡ p * stateWords + stateWords + (q * stateWords - (p * stateWords + stateWords)) = omega arith in
-      ap (λ (n : ℕ). take stateWords (drop n (stored p e m))) k ∙ ap (take stateWords) (past (q * stateWords - (p * stateWords + stateWords)))
+      ap (λ (n : ℕ). take stateWords (drop n (stored p w m))) k ∙ ap (take stateWords) (past (q * stateWords - (p * stateWords + stateWords)))
       ∙ ap (λ (n : ℕ). take stateWords (drop n m)) (sym k)
 
-  pub stored-other : (q : ℕ) → (q ≡ p → ⊥) → stateAt (stored p e m) q ≡ stateAt m q
+  pub stored-other : (q : ℕ) → (q ≡ p → ⊥) → stateAt (stored p w m) q ≡ stateAt m q
   stored-other q h = ⊎-elim (λ l. below q l) (λ g. above q (omega arith)) (lt-or-le q p)
 
   -- a word of another slot, or of none, stays
-  pub word-other : (i : ℕ) → (i / stateWords ≡ p → ⊥) → getD (stored p e m) i 0 ≡ getD m i 0
+  pub word-other : (i : ℕ) → (i / stateWords ≡ p → ⊥) → getD (stored p w m) i 0 ≡ getD m i 0
   unfolding stored
   word-other i h = ⊎-elim low high (lt-or-le i (p * stateWords))
     where
-      low : i < p * stateWords → getD (stored p e m) i 0 ≡ getD m i 0
+      low : i < p * stateWords → getD (stored p w m) i 0 ≡ getD m i 0
       low l =
-          List·getD-append (take (p * stateWords) m) (pack e ++ drop (p * stateWords + stateWords) m) 0 i (omega (arith, front)) ∙ getD-take (p * stateWords) m i 0 l
+          List·getD-append (take (p * stateWords) m) (w ++ drop (p * stateWords + stateWords) m) 0 i (omega (arith, front)) ∙ getD-take (p * stateWords) m i 0 l
 
-      high : p * stateWords ≤ i → getD (stored p e m) i 0 ≡ getD m i 0
+      high : p * stateWords ≤ i → getD (stored p w m) i 0 ≡ getD m i 0
       high g =
           let k : i ≡ p * stateWords + stateWords + (i - (p * stateWords + stateWords)) + 0 = omega arith in
-          ap (λ (n : ℕ). getD (stored p e m) n 0) k
-          ∙ sym (getD-drop (p * stateWords + stateWords + (i - (p * stateWords + stateWords))) (stored p e m) 0 0)
+          ap (λ (n : ℕ). getD (stored p w m) n 0) k
+          ∙ sym (getD-drop (p * stateWords + stateWords + (i - (p * stateWords + stateWords))) (stored p w m) 0 0)
           ∙ ap (λ (l : List ℕ). getD l 0 0) (past (i - (p * stateWords + stateWords)))
           ∙ getD-drop (p * stateWords + stateWords + (i - (p * stateWords + stateWords))) m 0 0
           ∙ ap (λ (n : ℕ). getD m n 0) (sym k)

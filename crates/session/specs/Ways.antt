@@ -2,15 +2,18 @@
 use Prim.Native.Nat.{ℕ, _+_, _-_, _/_, _≤_, _<_, min}
 use mathlib.Core.Path.{_≡_, refl, ap, sym, _∙_}
 use mathlib.Core.Bool.{Bool, true, false, cond, _&&_}
-use mathlib.Core.List.{List, _++_, append-nil}
+use mathlib.Core.List.{List, [], _++_, append-nil}
 use mathlib.Core.Option.{Option, none, some}
 use native.Mathlib.Omega.{arith}
 use lib.ListN.{length, take, drop, length-drop, drop-of-length-le}
 use lib.Seq.{length-take-le}
 use lib.Dec.{ltb, leb, eqb}
 use borrow.Author.Tests.{lt-ltb, le-ltb, le-leb, lt-leb, eq-eqb, ne-eqb, leb-true, leb-false, ltb-true, eqb-true}
-use Rattle.points.specs.Refusal.{Said, refuses, gives, said}
-use Rattle.points.specs.Laws.{and-left, and-right}
+use Rattle.points.specs.Checks.{firstFailing, unlessRefused}
+use Rattle.points.proofs.CheckLaws.{first-holds, first-fails, all-hold, passed-over, stopped-at}
+use Rattle.points.specs.Refusal.{Said, refuses, gives, said, number}
+use Rattle.points.specs.Points.{every}
+use Rattle.points.specs.Laws.{and-left, and-right, and-true, and-false}
 use Rattle.points.specs.declared.refusal.Refusal.{Refusal}
 use Rattle.points.specs.declared.refusal.Refusal.the-variants.{NotValid, MemoryLength, StoredState}
 use Rattle.points.specs.declared.refusal.Answer.{Answer}
@@ -20,7 +23,8 @@ use Rattle.envelope.specs.Edit.{EditTold, toldEdit}
 use Rattle.envelope.specs.declared.AutomationEnvelope.{AutomationEnvelope}
 use Rattle.envelope.specs.declared.Edited.{Edited}
 use Rattle.state.specs.State.{stateWords, pack, unpacked, readAs, readState, WordsTold, writeState}
-use Rattle.session.specs.Session.{depth, stateAt, stored, slotAfter, slotBefore, placeBelow, inOrder, validSession, Called, called, declined, gate, movedTo, settled, editCall, exchanged, steppedOver, backCall, forwardCall, refusedBy, movedBy}
+use Rattle.session.specs.Session.{depth, stateAt, stored, slotAfter, slotBefore, placeBelow, inOrder, validSession, Called, called, declined, movedTo, counted, settled, exchanged, steppedOver, refusedBy, movedBy}
+use Rattle.session.specs.Calls.{Entry, madeBy, othersValid, Call, edit, back, forward, admission, admissionOf, afterwards, inTurn, testsOf, callValid, ownOf, callOf, behind}
 use Rattle.session.specs.declared.Session.{Session}
 use Rattle.session.specs.declared.SessionAnswer.{SessionAnswer}
 
@@ -110,55 +114,78 @@ part-written e part new v h p =
     let w : writeState e part ≡ record { said = gives tt; words = pack e ++ drop stateWords part } = rw (v, le-ltb (length part) 1028 (omega (arith, h))) in
     p ∙ ap (λ (w : WordsTold). w .words) w ∙ ap (λ (l : List ℕ). pack e ++ l) (drop-of-length-le part {i = 1028} (omega (arith, h))) ∙ append-nil (pack e)
 
--- ---- the tests that come first
+-- ---- the tests in turn
 
-module _ (s : Session) (m : List ℕ) (own : Called) where
-  pub gate-one : validSession s ≡ false → declined 1 s m ≡ gate true s m own
-  unfolding gate
-  gate-one h = rw h
+module _ (c : Call) (s : Session) (m : List ℕ) where
+  -- where 1 is behind, the memory's checks and then 10 decide
+  valid-first : (validSession s && callValid c) ≡ true
+      → firstFailing (inTurn (testsOf c s m)) ≡ firstFailing (admission (admissionOf s m) ++ afterwards (testsOf c s m))
+  valid-first h = first-holds (validSession s && callValid c) NotValid _ h
 
-  pub gate-eleven : validSession s ≡ true → (length m ≡ s .length → ⊥) → declined 11 s m ≡ gate true s m own
-  unfolding gate
-  gate-eleven h k = rw (h, ne-eqb (length m) (s .length) k)
+  -- the call by what becomes of its tests
+  call-by : (o : Option Refusal) → firstFailing (inTurn (testsOf c s m)) ≡ o → unlessRefused o (λ r. declined (number r) s m) (ownOf c s m) ≡ callOf c s m
+  unfolding callOf
+  call-by o e = ap (λ (p : Option Refusal). unlessRefused p (λ r. declined (number r) s m) (ownOf c s m)) (sym e)
 
-  pub gate-open : validSession s ≡ true → length m ≡ s .length → own ≡ gate true s m own
-  unfolding gate
-  gate-open h k = rw (h, eq-eqb (length m) (s .length) k)
+  pub call-one : (validSession s && callValid c) ≡ false → declined 1 s m ≡ callOf c s m
+  call-one h = call-by (some NotValid) (first-fails (validSession s && callValid c) NotValid _ h)
+
+  pub call-refused : (r : Refusal) → (validSession s && callValid c) ≡ true → firstFailing (admission (admissionOf s m)) ≡ some r
+      → declined (number r) s m ≡ callOf c s m
+  call-refused r h e = call-by (some r) (valid-first h ∙ stopped-at (admission (admissionOf s m)) (afterwards (testsOf c s m)) r e)
+
+  pub call-behind : (validSession s && callValid c) ≡ true → firstFailing (admission (admissionOf s m)) ≡ none → behind c s m ≡ callOf c s m
+  call-behind h e = call-by (firstFailing (afterwards (testsOf c s m))) (valid-first h ∙ passed-over (admission (admissionOf s m)) (afterwards (testsOf c s m)) e)
+
+-- what is asked of the memory, as the code asks it
+module _ (s : Session) (m : List ℕ) where
+  pub admits : length m ≡ s .length → none ≡ firstFailing (admission (admissionOf s m))
+  unfolding firstFailing
+  admits h = sym (first-holds (eqb (length m) (s .length)) MemoryLength [] (eq-eqb (length m) (s .length) h))
+
+  pub admits-not : (length m ≡ s .length → ⊥) → some MemoryLength ≡ firstFailing (admission (admissionOf s m))
+  admits-not h = sym (first-fails (eqb (length m) (s .length)) MemoryLength [] (ne-eqb (length m) (s .length) h))
+
+  pub admitted-length : firstFailing (admission (admissionOf s m)) ≡ none → length m ≡ s .length
+  unfolding every
+  admitted-length h = eqb-true (length m) (s .length) (and-left (eqb (length m) (s .length)) _ (all-hold (admission (admissionOf s m)) h))
 
 -- ---- an edit: its own 1 is the session's too, so the envelope's validity is tested once
 
-module _ (others : Bool) (t : EditTold) (s : Session) (m : List ℕ) where
-  pub edit-order : inOrder s ≡ false → declined 1 s m ≡ editCall others t s m
-  unfolding editCall gate
-  edit-order h = go (validEnvelope (s .envelope))
-    where
-      go : (v : Bool) → declined 1 s m ≡ cond ((v && inOrder s) && others) (cond (eqb (length m) (s .length)) (settled s m (t .said) (t .envelope)) (declined 11 s m)) (declined 1 s m)
-      go true = rw h
-      go false = refl
+and-in : (v i o : Bool) → i ≡ true → ((v && i) && o) ≡ (v && o)
+and-in v i o h = ap (λ (b : Bool). (v && b) && o) h ∙ ap (λ (b : Bool). b && o) (and-true v)
 
-  pub edit-length : (valid : Bool) → inOrder s ≡ true → (length m ≡ s .length → ⊥) → valid ≡ (validEnvelope (s .envelope) && others)
-      → called (refusedBy s (cond valid MemoryLength NotValid)) m ≡ editCall others t s m
-  unfolding editCall gate
-  edit-length valid h k p = rw p (go (validEnvelope (s .envelope)) others)
-    where
-      go : (v o : Bool)
-          → called (refusedBy s (cond (v && o) MemoryLength NotValid)) m
-          ≡ cond ((v && inOrder s) && o) (cond (eqb (length m) (s .length)) (settled s m (t .said) (t .envelope)) (declined 11 s m)) (declined 1 s m)
-      go true true = rw (h, ne-eqb (length m) (s .length) k)
-      go true false = rw h
-      go false o = refl
+and-out : (v i o : Bool) → i ≡ false → ((v && i) && o) ≡ false
+and-out v i o h = ap (λ (b : Bool). (v && b) && o) h ∙ ap (λ (b : Bool). b && o) (and-false v)
 
-  pub edit-own : ((validEnvelope (s .envelope) && others) ≡ false → t .said ≡ refuses 1) → inOrder s ≡ true → length m ≡ s .length
-      → settled s m (t .said) (t .envelope) ≡ editCall others t s m
-  unfolding editCall gate
-  edit-own = go (validEnvelope (s .envelope)) others
+module _ (x : Entry) (s : Session) (m : List ℕ) where
+  -- the validity of both envelopes
+  abbrev bothValid : Bool
+  bothValid = validEnvelope (s .envelope) && othersValid x
+
+  -- what the edit says and makes of the envelope, settled
+  abbrev settles : Said (Unit {0}) → Called
+  settles y = settled s m y (madeBy x (s .envelope) .envelope)
+
+  in-order-both : inOrder s ≡ true → (validSession s && othersValid x) ≡ bothValid
+  in-order-both h = and-in (validEnvelope (s .envelope)) (inOrder s) (othersValid x) h
+
+  pub edit-order : inOrder s ≡ false → declined 1 s m ≡ callOf (edit x) s m
+  edit-order h = call-one (edit x) s m (and-out (validEnvelope (s .envelope)) (inOrder s) (othersValid x) h)
+
+  pub edit-refused : (valid : Bool) (r : Refusal) → inOrder s ≡ true → firstFailing (admission (admissionOf s m)) ≡ some r → valid ≡ bothValid
+      → called (refusedBy s (cond valid r NotValid)) m ≡ callOf (edit x) s m
+  edit-refused true r h e p = call-refused (edit x) s m r (in-order-both h ∙ sym p) e
+  edit-refused false r h e p = call-one (edit x) s m (in-order-both h ∙ sym p)
+
+  pub edit-own : (bothValid ≡ false → madeBy x (s .envelope) .said ≡ refuses 1) → inOrder s ≡ true → firstFailing (admission (admissionOf s m)) ≡ none
+      → settles (madeBy x (s .envelope) .said) ≡ callOf (edit x) s m
+  unfolding firstFailing
+  edit-own one h e = go bothValid refl
     where
-      go : (v o : Bool) → ((v && o) ≡ false → t .said ≡ refuses 1) → inOrder s ≡ true → length m ≡ s .length
-          → settled s m (t .said) (t .envelope)
-          ≡ cond ((v && inOrder s) && o) (cond (eqb (length m) (s .length)) (settled s m (t .said) (t .envelope)) (declined 11 s m)) (declined 1 s m)
-      go true true one h k = rw (h, eq-eqb (length m) (s .length) k)
-      go true false one h k = rw h (ap (λ (x : Said (Unit {0})). settled s m x (t .envelope)) (one refl))
-      go false o one h k = ap (λ (x : Said (Unit {0})). settled s m x (t .envelope)) (one refl)
+      go : (b : Bool) → bothValid ≡ b → settles (madeBy x (s .envelope) .said) ≡ callOf (edit x) s m
+      go true p = call-behind (edit x) s m (in-order-both h ∙ p) e
+      go false p = ap settles (one p) ∙ call-one (edit x) s m (in-order-both h ∙ p)
 
 -- no answer both gives and refuses
 pub not-both : {n : ℕ} → _≡_ {A = Said (Unit {0})} (gives tt) (refuses n) → ⊥
@@ -174,29 +201,33 @@ module _ (s : Session) (m : List ℕ) (r : Edited) (a : SessionAnswer) where
   pub settle-refused : (x : Refusal) → a ≡ refusedBy s x → r .answer ≡ Refused x → called a m ≡ settled s m (said (r .answer)) (r .envelope)
   settle-refused x is h = ap (λ (y : SessionAnswer). called y m) is ∙ rw h
 
-  module _ (at kept : ℕ) (m′ : List ℕ) (is : a ≡ movedBy s (r .envelope) at kept 0) (h : r .answer ≡ Accepted) (p : at ≡ slotAfter (s .length / 1028) (s .at))
-      (q : kept ≡ min (s .kept + 1) (s .length / 1028)) where
-    pub settle-none : s .length / 1028 ≡ 0 → m′ ≡ m → called a m′ ≡ settled s m (said (r .answer)) (r .envelope)
-    settle-none z e = ap (λ (y : SessionAnswer). called y m′) is ∙ rw (h, p, q, e, eq-eqb (s .length / 1028) 0 z)
+  pub settle-counted : (m′ : List ℕ) → called a m′ ≡ counted s m (r .envelope) → r .answer ≡ Accepted → called a m′ ≡ settled s m (said (r .answer)) (r .envelope)
+  settle-counted m′ is h = is ∙ rw h
 
-    pub settle-put : (s .length / 1028 ≡ 0 → ⊥) → m′ ≡ stored (s .at) (s .envelope) m → called a m′ ≡ settled s m (said (r .answer)) (r .envelope)
-    settle-put z e = ap (λ (y : SessionAnswer). called y m′) is ∙ rw (h, p, q, e, ne-eqb (s .length / 1028) 0 z)
+-- an edit that counts
+module _ (s : Session) (m : List ℕ) (e : AutomationEnvelope) (a : SessionAnswer) (at kept : ℕ) (m′ : List ℕ) (is : a ≡ movedBy s e at kept 0)
+    (p : at ≡ slotAfter (s .length / 1028) (s .at)) (q : kept ≡ min (s .kept + 1) (s .length / 1028)) where
+  pub count-none : s .length / 1028 ≡ 0 → m′ ≡ m → called a m′ ≡ counted s m e
+  count-none z k = ap (λ (y : SessionAnswer). called y m′) is ∙ rw (p, q, k, eq-eqb (s .length / 1028) 0 z)
+
+  pub count-put : (s .length / 1028 ≡ 0 → ⊥) → m′ ≡ stored (s .at) (pack (s .envelope)) m → called a m′ ≡ counted s m e
+  count-put z k = ap (λ (y : SessionAnswer). called y m′) is ∙ rw (p, q, k, ne-eqb (s .length / 1028) 0 z)
 
 -- ---- a step
 
 module _ (s : Session) (m : List ℕ) (k at kept ahead : ℕ) (r : Edited) where
   step-done-of : (u : Option AutomationEnvelope) → toldEdit r ≡ readAs u → r .answer ≡ Accepted
-      → called (movedBy s (r .envelope) at kept ahead) (stored k (s .envelope) m) ≡ exchanged s m k (λ e. movedTo s e at kept ahead) u
+      → called (movedBy s (r .envelope) at kept ahead) (stored k (pack (s .envelope)) m) ≡ exchanged s m k (λ e. movedTo s e at kept ahead) u
   step-done-of none p h = absurd (not-both (sym (ap said h) ∙ ap (λ (t : EditTold). t .said) p))
-  step-done-of (some e) p h = ap (λ (t : EditTold). called (movedBy s (t .envelope) at kept ahead) (stored k (s .envelope) m)) p
+  step-done-of (some e) p h = ap (λ (t : EditTold). called (movedBy s (t .envelope) at kept ahead) (stored k (pack (s .envelope)) m)) p
 
   step-bad-of : (u : Option AutomationEnvelope) (x : Refusal) → toldEdit r ≡ readAs u → r .answer ≡ Refused x
       → called (refusedBy s StoredState) m ≡ exchanged s m k (λ e. movedTo s e at kept ahead) u
   step-bad-of none x p h = refl
   step-bad-of (some e) x p h = absurd (not-both (sym (sym (ap said h) ∙ ap (λ (t : EditTold). t .said) p)))
 
-  pub step-done : (a : SessionAnswer) (m′ : List ℕ) → a ≡ movedBy s (r .envelope) at kept ahead → toldEdit r ≡ readState (stateAt m k) → r .answer ≡ Accepted → m′ ≡ stored k (s .envelope) m
-      → called a m′ ≡ steppedOver s m k at kept ahead
+  pub step-done : (a : SessionAnswer) (m′ : List ℕ) → a ≡ movedBy s (r .envelope) at kept ahead → toldEdit r ≡ readState (stateAt m k) → r .answer ≡ Accepted
+      → m′ ≡ stored k (pack (s .envelope)) m → called a m′ ≡ steppedOver s m k at kept ahead
   unfolding readState
   step-done a m′ is p h e = ap (λ (y : SessionAnswer). called y m′) is ∙ rw e (step-done-of (unpacked (stateAt m k)) p h)
 
@@ -205,19 +236,19 @@ module _ (s : Session) (m : List ℕ) (k at kept ahead : ℕ) (r : Edited) where
   unfolding readState
   step-bad a x is p h = ap (λ (y : SessionAnswer). called y m) is ∙ step-bad-of (unpacked (stateAt m k)) x p h
 
-module _ (s : Session) (m : List ℕ) (v : validSession s ≡ true) (l : length m ≡ s .length) (x : Called) where
-  pub back-none : s .kept ≡ 0 → declined 10 s m ≡ backCall s m
-  unfolding backCall
-  back-none z = gate-open s m (declined 10 s m) v l ∙ ap (λ (b : Bool). gate true s m (cond b (steppedOver s m (slotBefore (depth s) (s .at)) (slotBefore (depth s) (s .at)) (s .kept - 1) (s .ahead + 1)) (declined 10 s m))) (sym (le-ltb 0 (s .kept) (omega (arith, z))))
+module _ (s : Session) (m : List ℕ) (x : Called) where
+  pub back-none : s .kept ≡ 0 → declined 10 s m ≡ behind back s m
+  unfolding firstFailing
+  back-none z = rw (le-ltb 0 (s .kept) (omega (arith, z)))
 
-  pub back-over : (k : ℕ) → 0 < s .kept → k ≡ slotBefore (s .length / 1028) (s .at) → x ≡ steppedOver s m k k (s .kept - 1) (s .ahead + 1) → x ≡ backCall s m
-  unfolding backCall
-  back-over k z p e = e ∙ rw (p, lt-ltb 0 (s .kept) z) (gate-open s m (steppedOver s m (slotBefore (depth s) (s .at)) (slotBefore (depth s) (s .at)) (s .kept - 1) (s .ahead + 1)) v l)
+  pub back-over : (k : ℕ) → 0 < s .kept → k ≡ slotBefore (s .length / 1028) (s .at) → x ≡ steppedOver s m k k (s .kept - 1) (s .ahead + 1) → x ≡ behind back s m
+  unfolding firstFailing
+  back-over k z p e = e ∙ rw (p, lt-ltb 0 (s .kept) z)
 
-  pub forward-none : s .ahead ≡ 0 → declined 10 s m ≡ forwardCall s m
-  unfolding forwardCall
-  forward-none z = gate-open s m (declined 10 s m) v l ∙ ap (λ (b : Bool). gate true s m (cond b (steppedOver s m (s .at) (slotAfter (depth s) (s .at)) (s .kept + 1) (s .ahead - 1)) (declined 10 s m))) (sym (le-ltb 0 (s .ahead) (omega (arith, z))))
+  pub forward-none : s .ahead ≡ 0 → declined 10 s m ≡ behind forward s m
+  unfolding firstFailing
+  forward-none z = rw (le-ltb 0 (s .ahead) (omega (arith, z)))
 
-  pub forward-over : (at : ℕ) → 0 < s .ahead → at ≡ slotAfter (s .length / 1028) (s .at) → x ≡ steppedOver s m (s .at) at (s .kept + 1) (s .ahead - 1) → x ≡ forwardCall s m
-  unfolding forwardCall
-  forward-over at z p e = e ∙ rw (p, lt-ltb 0 (s .ahead) z) (gate-open s m (steppedOver s m (s .at) (slotAfter (depth s) (s .at)) (s .kept + 1) (s .ahead - 1)) v l)
+  pub forward-over : (at : ℕ) → 0 < s .ahead → at ≡ slotAfter (s .length / 1028) (s .at) → x ≡ steppedOver s m (s .at) at (s .kept + 1) (s .ahead - 1) → x ≡ behind forward s m
+  unfolding firstFailing
+  forward-over at z p e = e ∙ rw (p, lt-ltb 0 (s .ahead) z)

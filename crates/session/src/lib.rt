@@ -4,13 +4,14 @@ ghost use mathlib.Core.Bool.{true, cond};
 ghost use Prim.Native.Nat.{_+_, _*_, _/_, _≤_, _<_, min};
 ghost use lib.ListN.{length};
 ghost use Rattle.points.specs.Refusal.{said};
-ghost use Rattle.points.specs.declared.refusal.Refusal.the-variants.{NotValid, MemoryLength};
+ghost use Rattle.points.specs.declared.refusal.Refusal.the-variants.{NotValid};
 ghost use Rattle.points.specs.declared.refusal.Answer.the-variants.{Accepted};
 ghost use Rattle.envelope.specs.Envelope.{validEnvelope};
 ghost use Rattle.envelope.specs.Edit.{toldEdit};
-ghost use Rattle.state.specs.State.{readState};
-ghost use Rattle.session.specs.Session.{stateAt, stored, slotAfter, slotBefore, openSession, placeBelow, inOrder, validSession, called, settled, steppedOver, refusedBy, movedBy};
-ghost use Rattle.session.specs.Calls.{Obeys, alone, joined, edit, back, forward};
+ghost use Rattle.state.specs.State.{pack, readState};
+ghost use Rattle.session.specs.Session.{stateAt, stored, slotAfter, slotBefore, openSession, placeBelow, inOrder, validSession, called, counted, settled, steppedOver, refusedBy, movedBy};
+ghost use Rattle.points.specs.Checks.{refusalOf, firstFailing};
+ghost use Rattle.session.specs.Calls.{Obeys, alone, joined, edit, back, forward, admission, admissionOf, behind};
 
 pub mod play;
 
@@ -42,7 +43,7 @@ pub struct SessionAnswer {
 fn store(slot: usize, envelope: AutomationEnvelope, memory: &mut [u64])
     requires { ⌜ slot * 1028 + 1028 ≤ length (now memory) ⌝ }
     requires { ⌜ validEnvelope envelope ≡ true ⌝ }
-    ensures { λ _. ⌜ now (memory .exit) ≡ stored slot envelope (now (memory .entry)) ⌝ }
+    ensures { λ _. ⌜ now (memory .exit) ≡ stored slot (pack envelope) (now (memory .entry)) ⌝ }
 {
     let from = slot * 1028;
     let to = from + 1028;
@@ -153,14 +154,45 @@ impl Session {
 
     // ---- edits
 
-    // The memory has another length than at opening; `valid` says that no envelope gives 1 before.
-    fn refuse_length(self, valid: bool) -> SessionAnswer
-        ensures { λ a. ⌜ a ≡ refusedBy self (cond valid MemoryLength NotValid) ⌝ }
+    // What is asked of the lent memory, by every call.
+    fn admit(self, memory: &[u64]) -> Answer
+        ensures { λ r. ⌜ refusalOf r ≡ firstFailing (admission (admissionOf self (now (memory .entry)))) ⌝ }
+    {
+        if memory.len() == self.length {
+            Answer::Accepted
+        } else {
+            Answer::Refused(Refusal::MemoryLength)
+        }
+    }
+
+    // A refusal that comes after 1; `valid` says whether the call's envelopes are valid, so that they give no 1.
+    fn refuse_after(self, valid: bool, refusal: Refusal) -> SessionAnswer
+        ensures { λ a. ⌜ a ≡ refusedBy self (cond valid refusal NotValid) ⌝ }
     {
         if valid {
-            self.refuse(Refusal::MemoryLength)
+            self.refuse(refusal)
         } else {
             self.refuse(Refusal::NotValid)
+        }
+    }
+
+    // An edit that counts: the envelope before it goes into its slot, if there is one.
+    fn count(mut self, made: AutomationEnvelope, memory: &mut [u64]) -> SessionAnswer
+        requires { ⌜ inOrder self ≡ true ⌝ }
+        requires { ⌜ length (now memory) ≡ self .length ⌝ }
+        requires { ⌜ validEnvelope (self .envelope) ≡ true ⌝ }
+        ensures { λ a. ⌜ called a (now (memory .exit)) ≡ counted self (now (memory .entry)) made ⌝ }
+    {
+        let depth = self.length / 1028;
+        let at = self.at;
+        let next = slot_after(depth, at);
+        let kept = one_more(self.kept, depth);
+        if depth == 0 {
+            self.moved(made, next, kept, 0)
+        } else {
+            let old = self.envelope;
+            store(at, old, memory);
+            self.moved(made, next, kept, 0)
         }
     }
 
@@ -174,18 +206,8 @@ impl Session {
         let answer = r.answer;
         match answer {
             Answer::Accepted => {
-                let depth = self.length / 1028;
-                let at = self.at;
-                let next = slot_after(depth, at);
-                let kept = one_more(self.kept, depth);
                 let made = r.envelope;
-                if depth == 0 {
-                    self.moved(made, next, kept, 0)
-                } else {
-                    let old = self.envelope;
-                    store(at, old, memory);
-                    self.moved(made, next, kept, 0)
-                }
+                self.count(made, memory)
             }
             Answer::Refused(refusal) => self.refuse(refusal),
         }
@@ -197,10 +219,10 @@ impl Session {
     {
         let envelope = self.envelope;
         if self.in_order() {
-            if memory.len() == self.length {
-                self.settle(envelope.edit(e), memory)
-            } else {
-                self.refuse_length(envelope.is_valid())
+            let admitted = self.admit(memory);
+            match admitted {
+                Answer::Accepted => self.settle(envelope.edit(e), memory),
+                Answer::Refused(refusal) => self.refuse_after(envelope.is_valid(), refusal),
             }
         } else {
             self.refuse(Refusal::NotValid)
@@ -218,10 +240,13 @@ impl Session {
     {
         let envelope = self.envelope;
         if self.in_order() {
-            if memory.len() == self.length {
-                self.settle(envelope.join(join, other), memory)
-            } else {
-                self.refuse_length(envelope.is_valid() & other.is_valid())
+            let admitted = self.admit(memory);
+            match admitted {
+                Answer::Accepted => self.settle(envelope.join(join, other), memory),
+                Answer::Refused(refusal) => self.refuse_after(
+                    envelope.is_valid() & other.is_valid(),
+                    refusal,
+                ),
             }
         } else {
             self.refuse(Refusal::NotValid)
@@ -256,20 +281,45 @@ impl Session {
         }
     }
 
+    // A step back where 1 and 11 are behind it.
+    fn step_back(mut self, memory: &mut [u64]) -> SessionAnswer
+        requires { ⌜ validSession self ≡ true ⌝ }
+        requires { ⌜ length (now memory) ≡ self .length ⌝ }
+        ensures { λ a. ⌜ called a (now (memory .exit)) ≡ behind back self (now (memory .entry)) ⌝ }
+    {
+        let kept = self.kept;
+        if kept == 0 {
+            self.refuse(Refusal::NoStep)
+        } else {
+            let slot = slot_before(self.length / 1028, self.at);
+            self.step_over(slot, slot, kept - 1, self.ahead + 1, memory)
+        }
+    }
+
+    // A step forward where 1 and 11 are behind it.
+    fn step_forward(mut self, memory: &mut [u64]) -> SessionAnswer
+        requires { ⌜ validSession self ≡ true ⌝ }
+        requires { ⌜ length (now memory) ≡ self .length ⌝ }
+        ensures { λ a. ⌜ called a (now (memory .exit)) ≡ behind forward self (now (memory .entry)) ⌝ }
+    {
+        let ahead = self.ahead;
+        if ahead == 0 {
+            self.refuse(Refusal::NoStep)
+        } else {
+            let at = self.at;
+            let next = slot_after(self.length / 1028, at);
+            self.step_over(at, next, self.kept + 1, ahead - 1, memory)
+        }
+    }
+
     pub fn back(mut self, memory: &mut [u64]) -> SessionAnswer
         ensures { λ a. ⌜ Obeys self (now (memory .entry)) back a (now (memory .exit)) ⌝ }
     {
         if self.is_valid() {
-            if memory.len() == self.length {
-                let kept = self.kept;
-                if kept == 0 {
-                    self.refuse(Refusal::NoStep)
-                } else {
-                    let slot = slot_before(self.length / 1028, self.at);
-                    self.step_over(slot, slot, kept - 1, self.ahead + 1, memory)
-                }
-            } else {
-                self.refuse(Refusal::MemoryLength)
+            let admitted = self.admit(memory);
+            match admitted {
+                Answer::Accepted => self.step_back(memory),
+                Answer::Refused(refusal) => self.refuse(refusal),
             }
         } else {
             self.refuse(Refusal::NotValid)
@@ -280,17 +330,10 @@ impl Session {
         ensures { λ a. ⌜ Obeys self (now (memory .entry)) forward a (now (memory .exit)) ⌝ }
     {
         if self.is_valid() {
-            if memory.len() == self.length {
-                let ahead = self.ahead;
-                if ahead == 0 {
-                    self.refuse(Refusal::NoStep)
-                } else {
-                    let at = self.at;
-                    let next = slot_after(self.length / 1028, at);
-                    self.step_over(at, next, self.kept + 1, ahead - 1, memory)
-                }
-            } else {
-                self.refuse(Refusal::MemoryLength)
+            let admitted = self.admit(memory);
+            match admitted {
+                Answer::Accepted => self.step_forward(memory),
+                Answer::Refused(refusal) => self.refuse(refusal),
             }
         } else {
             self.refuse(Refusal::NotValid)

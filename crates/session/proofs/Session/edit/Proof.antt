@@ -1,12 +1,14 @@
+-- The tests in turn: the session's order, what `admit` refuses (but 1 for the envelope first), and the edit's own, whose 1 is the session's too.
 use mathlib.Core.Path.{ap, sym, _∙_}
 use denote.Ref.{now}
-use mathlib.Core.Bool.{true}
 use Rattle.points.specs.Laws.{and-true}
 use Rattle.envelope.specs.Envelope.{validEnvelope}
-use Rattle.envelope.specs.Edit.{EditTold, editOf}
+use Rattle.envelope.specs.Edit.{EditTold}
+use Rattle.points.specs.Checks.{refusalOf}
 use Rattle.session.specs.Session.{called, settled}
+use Rattle.session.specs.Calls.{alone}
 use Rattle.session.specs.One.{edit-one}
-use Rattle.session.specs.Ways.{edit-order, edit-length, edit-own, accepted-passed}
+use Rattle.session.specs.Ways.{admitted-length, edit-order, edit-refused, edit-own, accepted-passed}
 use Rattle.session.specs.declared.SessionAnswer.{SessionAnswer}
 use borrow.Author.Needs.{needs}
 use Rattle.session.proofs.Session.edit.Statement.{statement}
@@ -15,32 +17,47 @@ use Rattle.session.proofs.Session.edit.Reads as reads
 use Rattle.session.proofs.Session.edit.Lts as lts
 use Rattle.envelope.proofs.AutomationEnvelope.edit.Reads as edit-reads
 use Rattle.envelope.proofs.AutomationEnvelope.is_valid.Reads as is-valid-reads
+use Rattle.session.proofs.Session.admit.Reads as admit-reads
 use Rattle.session.proofs.Session.in_order.Reads as in-order-reads
 use Rattle.session.proofs.Session.refuse.Reads as refuse-reads
-use Rattle.session.proofs.Session.refuse_length.Reads as refuse-length-reads
+use Rattle.session.proofs.Session.refuse_after.Reads as refuse-after-reads
 use Rattle.session.proofs.Session.settle.Reads as settle-reads
 
 in-order-requires : tie.Need-in-order-requires
 in-order-requires c κs = search needs
+
+admit-requires : tie.Need-admit-requires
+admit-requires c κs = search needs
+
+enum-told : tie.Need-enum-told
+enum-told c = search needs
 
 edit-requires : tie.Need-edit-requires
 edit-requires c κs = search needs
 
 settle-requires : tie.Need-settle-requires
 settle-requires c κs =
-    let a = c .before .before .before .before .before .before .before .before .args in (
-      sym (c .before .before .before .before .before .in-order .ensures) ∙ c .before .before .before .before .if1 .taken,
+    let made = c .before in
+    let told = made .before in
+    let admitted = told .before .before in
+    let tested = admitted .before .before in
+    let a = tested .before .before .before .before .args in (
+      sym (tested .before .in-order .ensures) ∙ tested .if1 .taken,
       (
-        c .before .before .if2 .taken,
-        accepted-passed (validEnvelope (a .self .envelope)) (c .before .edit .result .answer) (λ f. ap (λ (t : EditTold). t .said) (c .before .edit .ensures) ∙ edit-one (a .e) (a .self .envelope) f),
+        admitted-length (a .self) (now (a .memory)) (sym (admitted .admit .ensures) ∙ ap refusalOf (told .enum-told .given .1)),
+        accepted-passed (validEnvelope (a .self .envelope)) (made .edit .result .answer)
+            (λ f. ap (λ (t : EditTold). t .said) (made .edit .ensures) ∙ edit-one (a .e) (a .self .envelope) f),
       ),
     )
+
+enum-known-admitted : tie.Need-enum-known-admitted
+enum-known-admitted c = search needs
 
 is-valid-requires : tie.Need-is-valid-requires
 is-valid-requires c κs = search needs
 
-refuse-length-requires : tie.Need-refuse-length-requires
-refuse-length-requires c κs = search needs
+refuse-after-requires : tie.Need-refuse-after-requires
+refuse-after-requires c κs = search needs
 
 refuse-requires : tie.Need-refuse-requires
 refuse-requires c κs = search needs
@@ -50,36 +67,56 @@ same-length c = search needs
 
 returns : tie.Need-returns
 returns c =
-    let a = c .before .before .before .before .before .before .before .before .before .before .before .args in
+    let made = c .before .before .before .before in
+    let told = made .before in
+    let admitted = told .before .before in
+    let tested = admitted .before .before in
+    let a = tested .before .before .before .before .args in
     c .before .before .settle .ensures
-    ∙ ap (λ (t : EditTold). settled (a .self) (now (a .memory)) (t .said) (t .envelope)) (c .before .before .before .before .edit .ensures)
-    ∙ edit-own true (editOf (a .e) (a .self .envelope)) (a .self) (now (a .memory)) (λ h. edit-one (a .e) (a .self .envelope) (sym (and-true (validEnvelope (a .self .envelope))) ∙ h))
-    (sym (c .before .before .before .before .before .before .before .before .in-order .ensures) ∙ c .before .before .before .before .before .before .before .if1 .taken) (c .before .before .before .before .before .if2 .taken)
+    ∙ ap (λ (t : EditTold). settled (a .self) (now (a .memory)) (t .said) (t .envelope)) (made .edit .ensures)
+    ∙ edit-own (alone (a .e)) (a .self) (now (a .memory))
+    (λ h. edit-one (a .e) (a .self .envelope) (sym (and-true (validEnvelope (a .self .envelope))) ∙ h))
+    (sym (tested .before .in-order .ensures) ∙ tested .if1 .taken)
+    (sym (admitted .admit .ensures) ∙ ap refusalOf (told .enum-told .given .1))
+
+same-length-2 : tie.Need-same-length-2
+same-length-2 c = search needs
 
 returns-2 : tie.Need-returns-2
 returns-2 c =
-    let a = c .before .before .before .before .before .before .before .before .args in
-    ap (λ (x : SessionAnswer). called x (now (a .memory))) (c .refuse-length .ensures)
-    ∙ edit-length true (editOf (a .e) (a .self .envelope)) (a .self) (now (a .memory)) (c .before .is-valid .result) (sym (c .before .before .before .before .before .in-order .ensures) ∙ c .before .before .before .before .if1 .taken) (c .before .before .if2 .left)
-    (c .before .is-valid .ensures ∙ sym (and-true (validEnvelope (a .self .envelope))))
+    let valid = c .before in
+    let told = valid .before .before in
+    let admitted = told .before .before in
+    let tested = admitted .before .before in
+    let a = tested .before .before .before .before .args in
+    ap (λ (x : SessionAnswer). called x (now (a .memory))) (c .refuse-after .ensures)
+    ∙ edit-refused (alone (a .e)) (a .self) (now (a .memory)) (valid .is-valid .result) _
+    (sym (tested .before .in-order .ensures) ∙ tested .if1 .taken)
+    (sym (admitted .admit .ensures) ∙ ap refusalOf (told .admitted .given .1))
+    (valid .is-valid .ensures ∙ sym (and-true (validEnvelope (a .self .envelope))))
 
 returns-3 : tie.Need-returns-3
 returns-3 c =
-    let a = c .before .before .before .before .before .args in
+    let tested = c .before in
+    let a = tested .before .before .before .before .args in
     ap (λ (x : SessionAnswer). called x (now (a .memory))) (c .refuse .ensures)
-    ∙ edit-order true (editOf (a .e) (a .self .envelope)) (a .self) (now (a .memory)) (sym (c .before .before .in-order .ensures) ∙ c .before .if1 .left)
+    ∙ edit-order (alone (a .e)) (a .self) (now (a .memory)) (sym (tested .before .in-order .ensures) ∙ tested .if1 .left)
 
 pub edit-spec : {M : Type 1} → statement M
 edit-spec =
     tie.close
     (tie.spec
     in-order-requires
+    admit-requires
+    enum-told
     edit-requires
     settle-requires
+    enum-known-admitted
     is-valid-requires
-    refuse-length-requires
+    refuse-after-requires
     refuse-requires
     same-length
     returns
+    same-length-2
     returns-2
     returns-3)

@@ -1,91 +1,97 @@
+-- The tests in turn: 1 by `is_valid`, what `admit` refuses, and the rest is `step_forward`'s.
 use mathlib.Core.Path.{ap, sym, _∙_}
 use denote.Ref.{now}
-use native.Mathlib.Omega.{arith}
-use Rattle.points.specs.Laws.{and-left, and-right}
-use Rattle.envelope.specs.Envelope.{validEnvelope}
-use Rattle.session.specs.Session.{inOrder, called, forwardCall}
-use Rattle.session.specs.Ways.{in-order, gate-one, gate-eleven, forward-none, forward-over}
+use Rattle.points.specs.Laws.{and-true}
+use Rattle.points.specs.Checks.{refusalOf}
+use Rattle.session.specs.Session.{validSession, called}
+use Rattle.session.specs.Calls.{forward}
+use Rattle.session.specs.Ways.{admitted-length, call-one, call-refused, call-behind}
 use Rattle.session.specs.declared.SessionAnswer.{SessionAnswer}
 use borrow.Author.Needs.{needs}
 use Rattle.session.proofs.Session.forward.Statement.{statement}
 use Rattle.session.proofs.Session.forward.Tie as tie
 use Rattle.session.proofs.Session.forward.Reads as reads
 use Rattle.session.proofs.Session.forward.Lts as lts
+use Rattle.session.proofs.Session.admit.Reads as admit-reads
 use Rattle.session.proofs.Session.is_valid.Reads as is-valid-reads
 use Rattle.session.proofs.Session.refuse.Reads as refuse-reads
-use Rattle.session.proofs.Session.step_over.Reads as step-over-reads
-use Rattle.session.proofs.slot_after.Reads as slot-after-reads
+use Rattle.session.proofs.Session.step_forward.Reads as step-forward-reads
 
 is-valid-requires : tie.Need-is-valid-requires
 is-valid-requires c κs = search needs
 
+admit-requires : tie.Need-admit-requires
+admit-requires c κs = search needs
+
+enum-told : tie.Need-enum-told
+enum-told c = search needs
+
+step-forward-requires : tie.Need-step-forward-requires
+step-forward-requires c κs =
+    let admitted = c .before .before .before in
+    let tested = admitted .before .before in
+    let a = tested .before .before .before .args in (
+      sym (tested .before .is-valid .ensures) ∙ tested .if1 .taken,
+      admitted-length (a .self) (now (a .memory)) (sym (admitted .admit .ensures) ∙ ap refusalOf (c .before .enum-told .given .1)),
+    )
+
+enum-known-admitted : tie.Need-enum-known-admitted
+enum-known-admitted c = search needs
+
 refuse-requires : tie.Need-refuse-requires
 refuse-requires c κs = search needs
-
-slot-after-requires : tie.Need-slot-after-requires
-slot-after-requires c κs = in-order (c .before .before .before .before .before .before .before .args .self) (and-right (validEnvelope (c .before .before .before .before .before .before .before .args .self .envelope)) (inOrder (c .before .before .before .before .before .before .before .args .self)) (sym (c .before .before .before .before .before .is-valid .ensures) ∙ c .before .before .before .before .if1 .taken)) .at-most
-
-add-step-over : tie.Need-add-step-over
-add-step-over c = let o = in-order (c .before .before .before .before .before .before .before .before .before .args .self) (and-right (validEnvelope (c .before .before .before .before .before .before .before .before .before .args .self .envelope)) (inOrder (c .before .before .before .before .before .before .before .before .before .args .self)) (sym (c .before .before .before .before .before .before .before .is-valid .ensures) ∙ c .before .before .before .before .before .before .if1 .taken)) in omega (arith, o .room, c .before .before .before .if3 .left, c .before .before .before .before .if2 .taken)
-
-sub-step-over : tie.Need-sub-step-over
-sub-step-over c = search needs
-
-step-over-requires : tie.Need-step-over-requires
-step-over-requires c κs =
-    let s = c .before .before .before .before .before .before .before .before .before .before .args .self in
-    let v = sym (c .before .before .before .before .before .before .before .before .is-valid .ensures) ∙ c .before .before .before .before .before .before .before .if1 .taken in
-    let o = in-order s (and-right (validEnvelope (s .envelope)) (inOrder s) v) in
-    let r = o .room in
-    let l = o .below (omega (arith, r, c .before .before .before .before .if3 .left)) in
-    (omega (arith, l, c .before .before .before .before .before .if2 .taken), and-left (validEnvelope (s .envelope)) (inOrder s) v)
 
 refuse-requires-2 : tie.Need-refuse-requires-2
 refuse-requires-2 c κs = search needs
 
-refuse-requires-3 : tie.Need-refuse-requires-3
-refuse-requires-3 c κs = search needs
-
-returns : tie.Need-returns
-returns c =
-    let a = c .before .before .before .before .before .before .before .args in
-    ap (λ (x : SessionAnswer). called x (now (a .memory))) (c .refuse .ensures)
-    ∙ forward-none (a .self) (now (a .memory)) (sym (c .before .before .before .before .before .is-valid .ensures) ∙ c .before .before .before .before .if1 .taken) (c .before .before .if2 .taken) (called (c .refuse .result) (now (a .memory))) (c .before .if3 .taken)
-
 same-length : tie.Need-same-length
 same-length c = search needs
 
+returns : tie.Need-returns
+returns c =
+    let told = c .before .before .before .before in
+    let admitted = told .before .before in
+    let tested = admitted .before .before in
+    let a = tested .before .before .before .args in
+    let valid = sym (tested .before .is-valid .ensures) ∙ tested .if1 .taken in
+    c .before .before .step-forward .ensures
+    ∙ call-behind forward (a .self) (now (a .memory)) (and-true (validSession (a .self)) ∙ valid)
+    (sym (admitted .admit .ensures) ∙ ap refusalOf (told .enum-told .given .1))
+
+same-length-2 : tie.Need-same-length-2
+same-length-2 c = search needs
+
 returns-2 : tie.Need-returns-2
 returns-2 c =
-    let a = c .before .before .before .before .before .before .before .before .before .before .before .before .before .args in
-    forward-over (a .self) (now (a .memory)) (sym (c .before .before .before .before .before .before .before .before .before .before .before .is-valid .ensures) ∙ c .before .before .before .before .before .before .before .before .before .before .if1 .taken) (c .before .before .before .before .before .before .before .before .if2 .taken) _ (c .before .before .before .before .before .slot-after .result) (omega (arith, c .before .before .before .before .before .before .before .if3 .left)) (c .before .before .before .before .before .slot-after .ensures) (c .before .before .step-over .ensures)
+    let told = c .before .before in
+    let admitted = told .before .before in
+    let tested = admitted .before .before in
+    let a = tested .before .before .before .args in
+    let valid = sym (tested .before .is-valid .ensures) ∙ tested .if1 .taken in
+    ap (λ (x : SessionAnswer). called x (now (a .memory))) (c .refuse .ensures)
+    ∙ call-refused forward (a .self) (now (a .memory)) _ (and-true (validSession (a .self)) ∙ valid)
+    (sym (admitted .admit .ensures) ∙ ap refusalOf (told .admitted .given .1))
 
 returns-3 : tie.Need-returns-3
-unfolding forwardCall
 returns-3 c =
-    let a = c .before .before .before .before .before .before .args in
-    ap (λ (x : SessionAnswer). called x (now (a .memory))) (c .refuse2 .ensures) ∙ gate-eleven (a .self) (now (a .memory)) _ (sym (c .before .before .before .before .is-valid .ensures) ∙ c .before .before .before .if1 .taken) (c .before .if2 .left)
-
-returns-4 : tie.Need-returns-4
-unfolding forwardCall
-returns-4 c =
-    let a = c .before .before .before .before .args in
-    ap (λ (x : SessionAnswer). called x (now (a .memory))) (c .refuse3 .ensures) ∙ gate-one (a .self) (now (a .memory)) _ (sym (c .before .before .is-valid .ensures) ∙ c .before .if1 .left)
+    let tested = c .before in
+    let a = tested .before .before .before .args in
+    ap (λ (x : SessionAnswer). called x (now (a .memory))) (c .refuse2 .ensures)
+    ∙ call-one forward (a .self) (now (a .memory)) (and-true (validSession (a .self)) ∙ sym (tested .before .is-valid .ensures) ∙ tested .if1 .left)
 
 pub forward-spec : {M : Type 1} → statement M
 forward-spec =
     tie.close
     (tie.spec
     is-valid-requires
+    admit-requires
+    enum-told
+    step-forward-requires
+    enum-known-admitted
     refuse-requires
-    slot-after-requires
-    add-step-over
-    sub-step-over
-    step-over-requires
     refuse-requires-2
-    refuse-requires-3
-    returns
     same-length
+    returns
+    same-length-2
     returns-2
-    returns-3
-    returns-4)
+    returns-3)

@@ -1,12 +1,15 @@
+-- As `edit`, with 1 for either envelope.
 use mathlib.Core.Path.{ap, sym, _∙_}
 use denote.Ref.{now}
 use mathlib.Core.Bool.{_&&_}
 use Rattle.points.specs.Laws.{and-left}
 use Rattle.envelope.specs.Envelope.{validEnvelope}
-use Rattle.envelope.specs.Edit.{EditTold, joinOf}
+use Rattle.envelope.specs.Edit.{EditTold}
+use Rattle.points.specs.Checks.{refusalOf}
 use Rattle.session.specs.Session.{called, settled}
+use Rattle.session.specs.Calls.{joined}
 use Rattle.session.specs.One.{join-one}
-use Rattle.session.specs.Ways.{edit-order, edit-length, edit-own, accepted-passed}
+use Rattle.session.specs.Ways.{admitted-length, edit-order, edit-refused, edit-own, accepted-passed}
 use Rattle.session.specs.declared.SessionAnswer.{SessionAnswer}
 use borrow.Author.Needs.{needs}
 use Rattle.session.proofs.Session.join.Statement.{statement}
@@ -15,27 +18,43 @@ use Rattle.session.proofs.Session.join.Reads as reads
 use Rattle.session.proofs.Session.join.Lts as lts
 use Rattle.envelope.proofs.AutomationEnvelope.is_valid.Reads as is-valid-reads
 use Rattle.envelope.proofs.AutomationEnvelope.join.Reads as join-reads
+use Rattle.session.proofs.Session.admit.Reads as admit-reads
 use Rattle.session.proofs.Session.in_order.Reads as in-order-reads
 use Rattle.session.proofs.Session.refuse.Reads as refuse-reads
-use Rattle.session.proofs.Session.refuse_length.Reads as refuse-length-reads
+use Rattle.session.proofs.Session.refuse_after.Reads as refuse-after-reads
 use Rattle.session.proofs.Session.settle.Reads as settle-reads
 
 in-order-requires : tie.Need-in-order-requires
 in-order-requires c κs = search needs
+
+admit-requires : tie.Need-admit-requires
+admit-requires c κs = search needs
+
+enum-told : tie.Need-enum-told
+enum-told c = search needs
 
 join-requires : tie.Need-join-requires
 join-requires c κs = search needs
 
 settle-requires : tie.Need-settle-requires
 settle-requires c κs =
-    let a = c .before .before .before .before .before .before .before .before .args in (
-      sym (c .before .before .before .before .before .in-order .ensures) ∙ c .before .before .before .before .if1 .taken,
+    let made = c .before in
+    let told = made .before in
+    let admitted = told .before .before in
+    let tested = admitted .before .before in
+    let a = tested .before .before .before .before .args in
+    let e = a .self .envelope in (
+      sym (tested .before .in-order .ensures) ∙ tested .if1 .taken,
       (
-        c .before .before .if2 .taken,
-        λ h. and-left (validEnvelope (a .self .envelope)) (validEnvelope (a .other))
-            (accepted-passed (validEnvelope (a .self .envelope) && validEnvelope (a .other)) (c .before .join .result .answer) (λ f. ap (λ (t : EditTold). t .said) (c .before .join .ensures) ∙ join-one (a .join) (a .self .envelope) (a .other) f) h),
+        admitted-length (a .self) (now (a .memory)) (sym (admitted .admit .ensures) ∙ ap refusalOf (told .enum-told .given .1)),
+        λ h. and-left (validEnvelope e) (validEnvelope (a .other))
+            (accepted-passed (validEnvelope e && validEnvelope (a .other)) (made .join .result .answer)
+            (λ f. ap (λ (t : EditTold). t .said) (made .join .ensures) ∙ join-one (a .join) e (a .other) f) h),
       ),
     )
+
+enum-known-admitted : tie.Need-enum-known-admitted
+enum-known-admitted c = search needs
 
 is-valid-requires : tie.Need-is-valid-requires
 is-valid-requires c κs = search needs
@@ -43,8 +62,8 @@ is-valid-requires c κs = search needs
 is-valid-requires-2 : tie.Need-is-valid-requires-2
 is-valid-requires-2 c κs = search needs
 
-refuse-length-requires : tie.Need-refuse-length-requires
-refuse-length-requires c κs = search needs
+refuse-after-requires : tie.Need-refuse-after-requires
+refuse-after-requires c κs = search needs
 
 refuse-requires : tie.Need-refuse-requires
 refuse-requires c κs = search needs
@@ -54,37 +73,57 @@ same-length c = search needs
 
 returns : tie.Need-returns
 returns c =
-    let a = c .before .before .before .before .before .before .before .before .before .before .before .args in
+    let made = c .before .before .before .before in
+    let told = made .before in
+    let admitted = told .before .before in
+    let tested = admitted .before .before in
+    let a = tested .before .before .before .before .args in
     c .before .before .settle .ensures
-    ∙ ap (λ (t : EditTold). settled (a .self) (now (a .memory)) (t .said) (t .envelope)) (c .before .before .before .before .join .ensures)
-    ∙ edit-own (validEnvelope (a .other)) (joinOf (a .join) (a .self .envelope) (a .other)) (a .self) (now (a .memory)) (λ h. join-one (a .join) (a .self .envelope) (a .other) h)
-    (sym (c .before .before .before .before .before .before .before .before .in-order .ensures) ∙ c .before .before .before .before .before .before .before .if1 .taken) (c .before .before .before .before .before .if2 .taken)
+    ∙ ap (λ (t : EditTold). settled (a .self) (now (a .memory)) (t .said) (t .envelope)) (made .join .ensures)
+    ∙ edit-own (joined (a .join) (a .other)) (a .self) (now (a .memory)) (λ h. join-one (a .join) (a .self .envelope) (a .other) h)
+    (sym (tested .before .in-order .ensures) ∙ tested .if1 .taken)
+    (sym (admitted .admit .ensures) ∙ ap refusalOf (told .enum-told .given .1))
+
+same-length-2 : tie.Need-same-length-2
+same-length-2 c = search needs
 
 returns-2 : tie.Need-returns-2
 returns-2 c =
-    let a = c .before .before .before .before .before .before .before .before .before .args in
-    ap (λ (x : SessionAnswer). called x (now (a .memory))) (c .refuse-length .ensures)
-    ∙ edit-length (validEnvelope (a .other)) (joinOf (a .join) (a .self .envelope) (a .other)) (a .self) (now (a .memory)) (c .before .before .is-valid .result && c .before .is-valid2 .result) (sym (c .before .before .before .before .before .before .in-order .ensures) ∙ c .before .before .before .before .before .if1 .taken) (c .before .before .before .if2 .left)
-    (λ i. c .before .before .is-valid .ensures i && c .before .is-valid2 .ensures i)
+    let valid2 = c .before in
+    let valid = valid2 .before in
+    let told = valid .before .before in
+    let admitted = told .before .before in
+    let tested = admitted .before .before in
+    let a = tested .before .before .before .before .args in
+    ap (λ (x : SessionAnswer). called x (now (a .memory))) (c .refuse-after .ensures)
+    ∙ edit-refused (joined (a .join) (a .other)) (a .self) (now (a .memory)) (valid .is-valid .result && valid2 .is-valid2 .result) _
+    (sym (tested .before .in-order .ensures) ∙ tested .if1 .taken)
+    (sym (admitted .admit .ensures) ∙ ap refusalOf (told .admitted .given .1))
+    (λ i. valid .is-valid .ensures i && valid2 .is-valid2 .ensures i)
 
 returns-3 : tie.Need-returns-3
 returns-3 c =
-    let a = c .before .before .before .before .before .args in
+    let tested = c .before in
+    let a = tested .before .before .before .before .args in
     ap (λ (x : SessionAnswer). called x (now (a .memory))) (c .refuse .ensures)
-    ∙ edit-order (validEnvelope (a .other)) (joinOf (a .join) (a .self .envelope) (a .other)) (a .self) (now (a .memory)) (sym (c .before .before .in-order .ensures) ∙ c .before .if1 .left)
+    ∙ edit-order (joined (a .join) (a .other)) (a .self) (now (a .memory)) (sym (tested .before .in-order .ensures) ∙ tested .if1 .left)
 
 pub join-spec : {M : Type 1} → statement M
 join-spec =
     tie.close
     (tie.spec
     in-order-requires
+    admit-requires
+    enum-told
     join-requires
     settle-requires
+    enum-known-admitted
     is-valid-requires
     is-valid-requires-2
-    refuse-length-requires
+    refuse-after-requires
     refuse-requires
     same-length
     returns
+    same-length-2
     returns-2
     returns-3)

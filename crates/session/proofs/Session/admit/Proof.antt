@@ -1,0 +1,20 @@
+-- The memory's length against the one at opening.
+use denote.Ref.{now}
+use Rattle.session.specs.Ways.{admits, admits-not}
+use Rattle.session.proofs.Session.admit.Statement.{statement}
+use Rattle.session.proofs.Session.admit.Tie as tie
+use Rattle.session.proofs.Session.admit.Reads as reads
+use Rattle.session.proofs.Session.admit.Lts as lts
+
+returns : tie.Need-returns
+returns c =
+    let a = c .before .before .args in
+    admits (a .self) (now (a .memory)) (c .if1 .taken)
+
+returns-2 : tie.Need-returns-2
+returns-2 c =
+    let a = c .before .before .args in
+    admits-not (a .self) (now (a .memory)) (c .if1 .left)
+
+pub admit-spec : {M : Type 1} → statement M
+admit-spec = tie.close (tie.spec returns returns-2)
