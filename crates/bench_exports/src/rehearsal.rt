@@ -6,15 +6,11 @@ use envelope::edit::Edit;
 use envelope::edit::PointsEdit;
 use session::Session;
 
-// A session whose envelope is that one, with no edit yet.
-fn started(envelope: AutomationEnvelope, length: usize) -> Session {
-    Session {
-        envelope,
-        length,
-        at: 0,
-        kept: 0,
-        ahead: 0,
-    }
+// A new session, but from that envelope.
+fn started(envelope: AutomationEnvelope, memory: &[u64]) -> Session {
+    let mut s = Session::open(7, memory);
+    s.envelope = envelope;
+    s
 }
 
 fn shift(x: f64) -> Edit {
@@ -35,7 +31,7 @@ pub extern "C" fn rattle_session_edit(
     turns: u32,
     memory: &mut [u64],
 ) -> u64 {
-    let mut s = started(made(times, values, curve), memory.len());
+    let mut s = started(made(times, values, curve), memory);
     let mut i: u32 = 0;
     while i < turns {
         let r = s.edit(shift(turn(i)), memory);
@@ -54,7 +50,7 @@ pub extern "C" fn rattle_session_step(
     turns: u32,
     memory: &mut [u64],
 ) -> u64 {
-    let begun = started(made(times, values, curve), memory.len());
+    let begun = started(made(times, values, curve), memory);
     let first = begun.edit(shift(0.25), memory);
     let mut s = first.session;
     let mut i: u32 = 0;

@@ -37,7 +37,10 @@ edit-requires : tie.Need-edit-requires Inv-loop μ-loop
 edit-requires c κs = tt
 
 add-i : tie.Need-add-i Inv-loop μ-loop
-add-i c = omega (arith, c .before .before .before .before .before .before .before .before .before .before .before .before .before .before .fits .turns .fits)
+add-i c =
+    let turn = c .before .before .before .before .before .before .before in
+    let start = turn .before .before .before .before .before .before .before .before in
+    omega (arith, turn .loop-test .taken, start .fits .turns .fits)
 
 loop-less : tie.Need-loop-less Inv-loop μ-loop
 loop-less c = omega arith

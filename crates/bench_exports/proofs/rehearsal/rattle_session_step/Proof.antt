@@ -41,7 +41,10 @@ forward-requires : tie.Need-forward-requires Inv-loop μ-loop
 forward-requires c κs = tt
 
 add-i : tie.Need-add-i Inv-loop μ-loop
-add-i c = omega (arith, c .before .before .before .before .before .before .before .before .before .before .before .before .before .before .before .before .before .before .before .before .before .before .before .fits .turns .fits)
+add-i c =
+    let turn = c .before .before .before .before .before .before .before .before .before .before in
+    let start = turn .before .before .before .before .before .before .before .before .before .before .before .before .before .before in
+    omega (arith, turn .loop-test .taken, start .fits .turns .fits)
 
 loop-less : tie.Need-loop-less Inv-loop μ-loop
 loop-less c = omega arith
