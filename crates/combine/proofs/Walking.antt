@@ -1,7 +1,7 @@
--- The ordered walk of two lists of points: what one turn does, and what the turns have done. Assumes nothing.
+-- The ordered walk of two lists of points: what one turn does, what the turns have done, and how a combination ends by it. Assumes nothing.
 use Prim.Native.Nat.{ℕ, _+_, _-_, _≤_, _<_, min}
 use mathlib.Core.Path.{_≡_, refl, sym, ap, subst, _∙_}
-use mathlib.Core.Bool.{Bool, true, false, cond, _&&_}
+use mathlib.Core.Bool.{Bool, true, false, cond, _&&_, and-false}
 use mathlib.Core.List.{List, [], _∷_, _++_, map, append-assoc, append-nil}
 use native.Mathlib.Nat.{lt-trans}
 use native.Mathlib.Numerals.{add-one}
@@ -15,15 +15,19 @@ use Rattle.numbers.specs.Order.{orderKey}
 use Rattle.points.specs.Point.{anyPoint, finitePoint, pointWith}
 use Rattle.curve.specs.declared.CurveType.the-variants.{Linear}
 use Rattle.points.specs.Points.{every, rising, timeKey, listOf, holding, validPoints}
-use Rattle.points.specs.Laws.{every-append, every-one}
+use Rattle.points.specs.Laws.{and-both, every-append, every-one}
 use Rattle.points.specs.Search.{placeBy, place-at, rising-at, lower-up-to}
 use Rattle.points.specs.ValidLaws.{valid-count, valid-rising}
 use Rattle.points.specs.declared.AutomationPoint.{AutomationPoint}
 use Rattle.points.specs.declared.Points.{Points}
+use Rattle.points.specs.declared.refusal.Refusal.the-variants.{NotValid, NotFinite, TooManyPoints}
+use Rattle.settle.specs.Settle.{Proposal, plain, refused, accepted}
 use Rattle.settle.proofs.Ends.{pushed}
+use Rattle.settle.proofs.Judging.{one, argument-three, result-three, five, accepts}
 use Rattle.lookup.specs.Lookup.{pointAt}
 use Rattle.lookup.specs.LookupLaws.{at-place}
-use Rattle.combine.specs.Combine.{applied, mergeFrom, mergeTimes, timeOf, timesOf, sideAt, combinedPoint, combinedList}
+use Rattle.combine.specs.Combine.{finiteOperation, applied, mergeFrom, mergeTimes, timeOf, timesOf, validSide, sideAt, combinedPoint, combinedList, combinedPoints}
+use Rattle.combine.specs.Combined.{combined-rises}
 use Rattle.combine.specs.Walk.{endsOf, sideWith, nearAt, nextOf, walked}
 use Rattle.combine.specs.declared.Operation.{Operation}
 use Rattle.combine.specs.declared.Side.{Side}
@@ -368,7 +372,7 @@ module _ (op : Operation) (a b : Side) (left right : Ends) (ha : left ≡ endsOf
   walk-is : w ≡ walked op a b
   walk-is = h ∙ λ i. walked op (side-own a left ha i) (side-own b right hb i)
 
-  pub ok-is : w .ok ≡ every finitePoint (combinedList op a b)
+  ok-is : w .ok ≡ every finitePoint (combinedList op a b)
   unfolding walked
   ok-is = ap (λ (x : Walked). x .ok) walk-is
 
@@ -376,12 +380,49 @@ module _ (op : Operation) (a b : Side) (left right : Ends) (ha : left ≡ endsOf
   unfolding walked
   total-is = ap (λ (x : Walked). x .total) walk-is
 
-  pub few-is : w .total ≤ 256 → leb (length (combinedList op a b)) 256 ≡ true
+  few-is : w .total ≤ 256 → leb (length (combinedList op a b)) 256 ≡ true
   few-is k = le-leb (length (combinedList op a b)) 256 (subst (λ (n : ℕ). n ≤ 256) total-is k)
 
-  pub many-is : 256 < w .total → leb (length (combinedList op a b)) 256 ≡ false
+  many-is : 256 < w .total → leb (length (combinedList op a b)) 256 ≡ false
   many-is k = lt-leb (length (combinedList op a b)) 256 (subst (λ (n : ℕ). 256 < n) total-is k)
 
-  pub points-are : w .total ≤ 256 → w .points ≡ holding (combinedList op a b)
+  points-are : w .total ≤ 256 → w .points ≡ holding (combinedList op a b)
   unfolding walked
   points-are k = ap (λ (x : Walked). x .points) walk-is ∙ ap holding (take-all 256 (combinedList op a b) (omega (arith, total-is)))
+
+  -- what the code makes of it, where both sides are valid and the operation is finite
+  module _ (va : validSide a ≡ true) (vb : validSide b ≡ true) (f : finiteOperation op ≡ true) where
+    abbrev l : List AutomationPoint
+    l = combinedList op a b
+
+    pub walk-lost : w .ok ≡ false → refused (a .points) NotFinite ≡ combinedPoints op a b
+    unfolding combinedPoints
+    walk-lost k = result-three (refused (a .points)) (accepted (holding l)) (plain (finiteOperation op) l) (and-both va vb) f refl (sym ok-is ∙ k)
+
+    pub walk-full : w .ok ≡ true → 256 < w .total → refused (a .points) TooManyPoints ≡ combinedPoints op a b
+    unfolding combinedPoints
+    walk-full k n = five (refused (a .points)) (accepted (holding l)) (plain (finiteOperation op) l) (and-both va vb) f refl (sym ok-is ∙ k) (combined-rises op a b va vb) (many-is n)
+
+    pub walk-made : w .ok ≡ true → w .total ≤ 256 → accepted (w .points) ≡ combinedPoints op a b
+    unfolding combinedPoints
+    walk-made k n =
+        ap accepted (points-are n)
+        ∙ accepts (refused (a .points)) (accepted (holding l)) (plain (finiteOperation op) l) (and-both va vb) f refl (sym ok-is ∙ k) (combined-rises op a b va vb) (few-is n)
+
+-- ---- where there is no walk
+
+module _ (op : Operation) (a b : Side) where
+  abbrev combination : Proposal
+  combination = plain (finiteOperation op) (combinedList op a b)
+
+  pub first-invalid : validSide a ≡ false → refused (a .points) NotValid ≡ combinedPoints op a b
+  unfolding combinedPoints
+  first-invalid v = one (refused (a .points)) (accepted (holding (combinedList op a b))) combination (ap (λ (x : Bool). x && validSide b) v)
+
+  pub other-invalid : validSide b ≡ false → refused (a .points) NotValid ≡ combinedPoints op a b
+  unfolding combinedPoints
+  other-invalid v = one (refused (a .points)) (accepted (holding (combinedList op a b))) combination (ap (λ (x : Bool). validSide a && x) v ∙ and-false (validSide a))
+
+  pub factor-lost : validSide a ≡ true → validSide b ≡ true → finiteOperation op ≡ false → refused (a .points) NotFinite ≡ combinedPoints op a b
+  unfolding combinedPoints
+  factor-lost va vb f = argument-three (refused (a .points)) (accepted (holding (combinedList op a b))) combination (and-both va vb) f

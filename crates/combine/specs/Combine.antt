@@ -11,8 +11,7 @@ use Rattle.curve.specs.Curve.{clamped}
 use Rattle.curve.specs.declared.CurveType.the-variants.{Linear}
 use Rattle.points.specs.Points.{listOf}
 use Rattle.points.specs.declared.AutomationPoint.{AutomationPoint}
-use Rattle.points.specs.declared.refusal.Refusal.the-variants.{NotValid}
-use Rattle.settle.specs.Settle.{refused, editPoints}
+use Rattle.settle.specs.Settle.{plain, judged}
 use Rattle.points.specs.Point.{pointWith}
 use Rattle.settle.specs.declared.EditedPoints.{EditedPoints}
 use Rattle.lookup.specs.Limits.{valid}
@@ -82,6 +81,7 @@ combinedPoint op a b time = pointWith time (applied op (sideAt a time) (sideAt b
 abbrev pub combinedList : Operation → Side → Side → List AutomationPoint
 combinedList op a b = map (combinedPoint op a b) (mergeTimes (timesOf a) (timesOf b))
 
--- 1 where either isn't valid, then the refusals of an edit that makes this list: 3 for blend's factor, then the result's 3, 6, 5
+-- an edit of the first side's points that makes this list, given both sides
 unfoldable pub combinedPoints : Operation → Side → Side → EditedPoints
-combinedPoints op a b = cond (validSide a && validSide b) (editPoints (a .points) (finiteOperation op) (combinedList op a b)) (refused (a .points) NotValid)
+unfolding judged
+combinedPoints op a b = judged (a .points) (validSide a && validSide b) (plain (finiteOperation op) (combinedList op a b))

@@ -6,14 +6,15 @@ use lib.Ieee.{Float}
 use Rattle.numbers.specs.Bounds.{finite}
 use Rattle.curve.specs.Curve.{finiteControls}
 use Rattle.curve.specs.F32.{f0, f1}
-use Rattle.points.specs.Refusal.{Said, refuses, gives, said}
+use Rattle.points.specs.Checks.{firstFailing, gate}
+use Rattle.points.specs.Refusal.{Said, refuses, gives, number, said}
 use Rattle.points.specs.Point.{finitePoint}
 use Rattle.points.specs.Points.{listOf}
 use Rattle.points.specs.declared.Points.{Points}
 use Rattle.points.specs.declared.refusal.Refusal.{Refusal}
 use Rattle.points.specs.declared.refusal.Answer.{Answer}
 use Rattle.points.specs.declared.refusal.Answer.the-variants.{Accepted, Refused}
-use Rattle.settle.specs.Settle.{editPoints}
+use Rattle.settle.specs.Settle.{plain, causes, editPoints}
 use Rattle.settle.specs.declared.EditedPoints.{EditedPoints}
 use Rattle.pointwise.specs.Each.{changed, scaledTime, normalized, clampedEdit, fadedInAll, fadedOutAll}
 use Rattle.pointwise.specs.declared.Change.the-variants as change
@@ -103,9 +104,11 @@ unfoldable pub replaced : AutomationEnvelope → EditedPoints → EditTold
 unfolding new
 replaced e r = cond (finiteLimits (limitsOf e)) (renewed e r) (declined e 1)
 
--- "the setting of enabled, and of minimum, maximum and step (each a number or none)": 1, then 3
+-- "the setting of enabled, and of minimum, maximum and step (each a number or none)": an edit that keeps the list of points
 unfoldable pub setting : AutomationEnvelope → Bool → AutomationEnvelope → EditTold
-setting e finiteArgument changed = cond (validEnvelope e) (cond finiteArgument (record { said = gives tt; envelope = changed }) (declined e 3)) (declined e 1)
+unfolding firstFailing
+setting e finiteArgument set =
+    gate (causes (validEnvelope e) (plain finiteArgument (listOf (e .points)))) (λ r. declined e (number r)) (record { said = gives tt; envelope = set })
 
 -- the same envelope with another switch and other limits
 abbrev pub withSettings : AutomationEnvelope → Bool → Limits → AutomationEnvelope

@@ -4,22 +4,19 @@ use mathlib.Core.Path.{_≡_, refl, sym}
 use mathlib.Core.Bool.{Bool, true, false, cond, _&&_, false≢true}
 use mathlib.Core.List.{List, map}
 use native.Mathlib.Omega.{arith}
-use lib.Dec.{leb}
-use lib.Ieee.{Float, lt}
-use lib.ListN.{length}
+use lib.Ieee.{Float}
 use Rattle.numbers.specs.Bounds.{finite}
 use Rattle.points.specs.Refusal.{Said, gives, refuses, number}
-use Rattle.points.specs.Point.{finitePoint}
-use Rattle.points.specs.Points.{every, rising, listOf, holding, validPoints}
-use Rattle.points.specs.ValidLaws.{holding-valid}
+use Rattle.points.specs.Points.{listOf, holding, validPoints}
+pub use Rattle.points.specs.Laws.{and-both as both}
 use Rattle.points.specs.declared.AutomationPoint.{AutomationPoint}
 use Rattle.points.specs.declared.Points.{Points}
 use Rattle.points.specs.declared.refusal.Refusal.{Refusal}
-use Rattle.points.specs.declared.refusal.Refusal.the-variants.{NotValid, NotFinite, BoundsCross, TooManyPoints, TimesDontRise}
 use Rattle.points.specs.declared.refusal.Answer.the-variants.{Accepted}
-use Rattle.settle.specs.Settle.{refused, settle, editPoints}
+use Rattle.settle.specs.Settle.{plain, refused, editPoints}
+use Rattle.settle.proofs.Judging.{causes-either, judged-either}
 use Rattle.settle.specs.declared.EditedPoints.{EditedPoints}
-use Rattle.pointwise.specs.Each.{changed, clampedEdit}
+use Rattle.pointwise.specs.Each.{changed, clamping, clampedEdit}
 use Rattle.pointwise.specs.declared.Change.the-variants.{Clamp}
 use Rattle.insert.specs.Insert.{merged, mergedPoints}
 use Rattle.lookup.specs.Limits.{finiteLimit, finiteLimits}
@@ -40,9 +37,6 @@ pub either : {A : Type 0} (P : A → Type 0) (b : Bool) {x y : A} → (b ≡ tru
 either P true passed failed = passed refl
 either P false passed failed = failed
 
-pub both : {a b : Bool} → a ≡ true → b ≡ true → (a && b) ≡ true
-both p q = λ i. p i && q i
-
 pub parts : (a b c d : Bool) → (a && b && c && d) ≡ true → (a ≡ true) × (b ≡ true) × (c ≡ true) × (d ≡ true)
 parts true true true d h = (refl, refl, refl, h)
 parts true true false d h = absurd (false≢true h)
@@ -57,33 +51,20 @@ accepted l = record { answer = Accepted; points = holding l }
 
 -- so what holds of both holds of what the edit gives
 module _ (P : EditedPoints → Type 0) (ps : Points) (refusing : (n : Refusal) → P (refused ps n)) where
-  settle-either : (l : List AutomationPoint) → (validPoints (holding l) ≡ true → P (accepted l)) → P (settle ps l)
-  unfolding settle
-  settle-either l holds =
-      either P (every finitePoint l)
-      (λ f. either P (rising l)
-      (λ r. either P (leb (length l) 256) (λ n. holds (rw (holding-valid, n, f, r))) (refusing TooManyPoints))
-      (refusing TimesDontRise))
-      (refusing NotFinite)
-
   pub edit-either : (ok : Bool) (l : List AutomationPoint) → (validPoints (holding l) ≡ true → P (accepted l)) → P (editPoints ps ok l)
   unfolding editPoints
-  edit-either ok l holds = either P (validPoints ps) (λ v. either P ok (λ f. settle-either l holds) (refusing NotFinite)) (refusing NotValid)
+  edit-either ok l holds = judged-either P ps (validPoints ps) (plain ok l) refusing (λ p. holds (p .makes))
 
   pub clamp-either : (min max : Float)
       → (validPoints (holding (map (changed (Clamp min max)) (listOf ps))) ≡ true → P (accepted (map (changed (Clamp min max)) (listOf ps)))) → P (clampedEdit ps min max)
   unfolding clampedEdit
-  clamp-either min max holds =
-      either P (validPoints ps)
-      (λ v. either P (finite min && finite max)
-      (λ f. either P (lt max min) (λ c. refusing BoundsCross) (settle-either (map (changed (Clamp min max)) (listOf ps)) holds))
-      (refusing NotFinite))
-      (refusing NotValid)
+  clamp-either min max holds = judged-either P ps (validPoints ps) (clamping min max (listOf ps)) refusing (λ p. holds (p .makes))
 
   pub merge-either : (other : Points) (offset : Float)
       → (validPoints (holding (merged (listOf ps) (listOf other) offset)) ≡ true → P (accepted (merged (listOf ps) (listOf other) offset))) → P (mergedPoints ps other offset)
   unfolding mergedPoints
-  merge-either other offset holds = either P (validPoints other) (λ v. edit-either (finite offset) (merged (listOf ps) (listOf other) offset) holds) (refusing NotValid)
+  merge-either other offset holds =
+      judged-either P ps (validPoints ps && validPoints other) (plain (finite offset) (merged (listOf ps) (listOf other) offset)) refusing (λ p. holds (p .makes))
 
   module _ (holds : (l : List AutomationPoint) → validPoints (holding l) ≡ true → P (accepted l)) where
     made : (ok : Bool) (l : List AutomationPoint) → P (editPoints ps ok l)
@@ -158,7 +139,8 @@ replaced-accepted e l v = either (Fair e) (finiteLimits (limitsOf e)) (λ f. ren
 setting-fair : (e : AutomationEnvelope) (ok : Bool) (f : AutomationEnvelope) → (validEnvelope e ≡ true → ok ≡ true → validEnvelope f ≡ true) → f .target ≡ e .target
     → Fair e (setting e ok f)
 unfolding setting
-setting-fair e ok f v t = either (Fair e) (validEnvelope e) (λ h. either (Fair e) ok (λ k. accepts e f (v h k) t) (declines e 3)) (declines e 1)
+setting-fair e ok f v t =
+    causes-either (Fair e) (λ r. declined e (number r)) _ (validEnvelope e) (plain ok (listOf (e .points))) (λ r. declines e (number r)) (λ p. accepts e f (v (p .given) (p .arguments)) t)
 
 -- the settings and the points of a valid envelope
 valid-parts : (e : AutomationEnvelope) → validEnvelope e ≡ true

@@ -14,9 +14,9 @@ use Rattle.points.specs.Refusal.{gives, refuses, number}
 use Rattle.points.specs.Points.{every, listOf, holding, validPoints}
 use Rattle.points.specs.ValidLaws.{valid-count}
 use Rattle.points.specs.declared.refusal.Refusal.{Refusal}
-use Rattle.points.specs.declared.refusal.Refusal.the-variants.{NotValid}
-use Rattle.settle.specs.Settle.{refused}
+use Rattle.settle.specs.Settle.{plain, refused}
 use Rattle.settle.specs.declared.EditedPoints.{EditedPoints}
+use Rattle.settle.proofs.Judging.{judged-either}
 use Rattle.lookup.specs.Lookup.{valueAt}
 use Rattle.combine.specs.Combine.{finiteOperation, applied, mergeTimes, timeOf, timesOf, validSide, sideAt, combinedPoint, combinedList, combinedPoints}
 use Rattle.combine.specs.Times.{merged-every}
@@ -26,7 +26,7 @@ use Rattle.combine.specs.declared.Side.{Side}
 use Rattle.envelope.specs.Envelope.{validEnvelope}
 use Rattle.envelope.specs.Edit.{renewed, sideOf, combineOf, joinOf}
 use Rattle.envelope.specs.Typed.{typedPoint, typedPoints, typed}
-use Rattle.envelope.specs.EditLaws.{either, accepted, edit-either, Fair, declines, renews, merge-fair}
+use Rattle.envelope.specs.EditLaws.{accepted, Fair, declines, renews, merge-fair}
 use Rattle.envelope.specs.TypedLists.{TypedList, every-map, point-parts, linear-typed, pointWith-typed, listOf-typed, holding-typed}
 use Rattle.envelope.specs.TypedLookup.{FitsIf, maxNum-fits, minNum-fits, valueAt-fits}
 use Rattle.envelope.specs.TypedLaws.{parted, renewed-typed, merge-typed}
@@ -39,7 +39,7 @@ combine-either : (P : EditedPoints → Type 0) (op : Operation) (a b : Side) →
     → (validPoints (holding (combinedList op a b)) ≡ true → P (accepted (combinedList op a b))) → P (combinedPoints op a b)
 unfolding combinedPoints
 combine-either P op a b refusing holds =
-    either P (validSide a && validSide b) (λ v. edit-either P (a .points) refusing (finiteOperation op) (combinedList op a b) holds) (refusing NotValid)
+    judged-either P (a .points) (validSide a && validSide b) (plain (finiteOperation op) (combinedList op a b)) refusing (λ p. holds (p .makes))
 
 combine-fair : (op : Operation) (e other : AutomationEnvelope) → Fair e (combineOf op e other)
 unfolding combineOf

@@ -7,6 +7,7 @@ use lib.Dec.{ltb, leb}
 use lib.Ieee.{Float, binary32, binary64, fits}
 use lib.Ieee.Bits.{ofBits-fits}
 use Rattle.numbers.specs.Tests.{yes as passes}
+use Rattle.points.specs.Refusal.{number}
 use Rattle.points.specs.Point.{finitePoint}
 use Rattle.points.specs.Points.{every, risingBy, rising, listOf, holding}
 use Rattle.points.specs.Laws.{and-left, and-right}
@@ -15,7 +16,8 @@ use Rattle.points.specs.declared.AutomationPoint.{AutomationPoint}
 use Rattle.points.specs.declared.Points.{Points}
 use Rattle.points.specs.declared.refusal.Answer.{Answer}
 use Rattle.points.specs.declared.refusal.Answer.the-variants.{Accepted, Refused}
-use Rattle.settle.specs.Settle.{editPoints}
+use Rattle.settle.specs.Settle.{plain, editPoints}
+use Rattle.settle.proofs.Judging.{causes-either}
 use Rattle.settle.specs.declared.EditedPoints.{EditedPoints}
 use Rattle.pointwise.specs.Each.{fadedInAll}
 use Rattle.pointwise.specs.declared.Change.the-variants as change
@@ -24,7 +26,7 @@ use Rattle.shape.specs.Shape.{inside, near}
 use Rattle.lookup.specs.Limits.{finiteLimit, finiteLimits}
 use Rattle.lookup.specs.declared.Limits.{Limits}
 use Rattle.envelope.specs.Envelope.{new, limitsOf, validEnvelope}
-use Rattle.envelope.specs.Edit.{EditTold, ifAccepted, pointsEdited, replacedPoints, withPoints, withSettings, edited, replaced, setting, editOf, mergeOf}
+use Rattle.envelope.specs.Edit.{EditTold, declined, ifAccepted, pointsEdited, replacedPoints, withPoints, withSettings, edited, replaced, setting, editOf, mergeOf}
 use Rattle.envelope.specs.Typed.{typedCurve, typedPoint, typedPoints, typedLimit, typed, typedPointsEdit, typedReplacement, typedEdit}
 use Rattle.envelope.specs.EditLaws.{either, both, parts, edit-either, clamp-either, merge-either}
 use Rattle.envelope.specs.TypedLists.{TypedList, every-sub, keepIf-sub, removeFirst-sub, simplified-sub, every-insert, each, scaledTime-typed, normalized-typed, fadedInAll-typed, fadedOutAll-typed, reversed-typed, quantized-typed, merged-typed, rampList-typed, pulseList-typed, listOf-typed, holding-typed}
@@ -156,7 +158,7 @@ replaced-typed e r t h = either TypedTold (finiteLimits (limitsOf e)) (λ f. ren
 
 setting-typed : (e : AutomationEnvelope) (ok : Bool) (f : AutomationEnvelope) → typed e ≡ true → typed f ≡ true → TypedTold (setting e ok f)
 unfolding setting
-setting-typed e ok f t u = either TypedTold (validEnvelope e) (λ v. either TypedTold ok (λ k. u) t) t
+setting-typed e ok f t u = causes-either TypedTold (λ r. declined e (number r)) _ (validEnvelope e) (plain ok (listOf (e .points))) (λ r. t) (λ p. u)
 
 -- ---- 01's list of edits, and merge
 

@@ -217,9 +217,7 @@ module _ (l : List AutomationPoint) (h : TypedList l) where
   insertAll-typed new k = every-fold typedPoint (λ made p. insertPoint p made) (λ made p m t. every-insert typedPoint p t made m) l new h k
 
   pub merged-typed : (other : List AutomationPoint) (offset : Float) → TypedList other → TypedList (merged l other offset)
-  merged-typed other offset k =
-      every-fold typedPoint (λ made p. insertPoint (changed (Shift offset) p) made)
-      (λ made p m t. every-insert typedPoint (changed (Shift offset) p) (changed-typed (Shift offset) p refl t) made m) l other h k
+  merged-typed other offset k = insertAll-typed (map (changed (Shift offset)) other) (each (Shift offset) refl other k)
 
 -- ---- the lists of 000's constructors
 

@@ -7,20 +7,23 @@ use mathlib.Core.Option.{Option, none, some}
 use Rattle.points.specs.Checks.{firstFailing}
 use Rattle.points.proofs.CheckLaws.{gate-either}
 use Rattle.points.specs.Refusal.{Said, refuses, gives, said, number}
-use Rattle.points.specs.declared.refusal.Refusal.the-variants.{NotValid, NotFinite, StoredState}
+use Rattle.points.specs.Points.{listOf}
+use Rattle.points.specs.declared.refusal.Refusal.the-variants.{NotValid, StoredState}
 use Rattle.points.specs.declared.refusal.Answer.{Answer}
 use Rattle.points.specs.declared.refusal.Answer.the-variants.{Accepted, Refused}
 use Rattle.lookup.specs.Limits.{finiteLimits}
 use Rattle.envelope.specs.Envelope.{limitsOf, validEnvelope}
 use Rattle.envelope.specs.EditLaws.{either}
-use Rattle.envelope.specs.Edit.{EditTold, editOf, edited, replaced, setting, mergeOf, sideOf, combineOf, joinOf}
+use Rattle.envelope.specs.Edit.{EditTold, declined as declinedEdit, editOf, edited, replaced, setting, mergeOf, sideOf, combineOf, joinOf}
 use Rattle.envelope.specs.declared.AutomationEnvelope.{AutomationEnvelope}
 use Rattle.envelope.specs.declared.edit.Join.{Join}
 use Rattle.envelope.specs.declared.edit.Join.the-variants.{Merge, Combine}
 use Rattle.envelope.specs.declared.edit.Edit.{Edit}
 use Rattle.envelope.specs.declared.edit.Edit.the-variants.{OfPoints, Replace, SetEnabled, SetMin, SetMax, SetStep}
 use lib.Ieee.{Float}
+use Rattle.settle.specs.Settle.{plain}
 use Rattle.settle.specs.declared.EditedPoints.{EditedPoints}
+use Rattle.settle.proofs.Judging.{causes-either}
 use Rattle.insert.specs.Insert.{mergedPoints}
 use Rattle.combine.specs.Combine.{combinedPoints}
 use Rattle.state.specs.State.{unpacked}
@@ -55,7 +58,8 @@ replaced-answered e r = either EditAnswered (finiteLimits (limitsOf e)) (λ f. b
 
 setting-answered : (e : AutomationEnvelope) (ok : Bool) (new : AutomationEnvelope) → Answered (setting e ok new .said)
 unfolding setting
-setting-answered e ok new = either EditAnswered (validEnvelope e) (λ v. either EditAnswered ok (λ f. by Accepted) (by (Refused NotFinite))) (by (Refused NotValid))
+setting-answered e ok new =
+    causes-either EditAnswered (λ r. declinedEdit e (number r)) (record { said = gives tt; envelope = new }) (validEnvelope e) (plain ok (listOf (e .points))) (λ r. by (Refused r)) (λ p. by Accepted)
 
 edit-answered : (d : Edit) (e : AutomationEnvelope) → Answered (editOf d e .said)
 unfolding editOf

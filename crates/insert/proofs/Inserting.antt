@@ -1,7 +1,7 @@
 -- Laws of a point that goes to its place by time. Assumes nothing.
 use Prim.Native.Nat.{ℕ, zero, suc, min, _+_, _-_, _≤_, _<_, zero-le, suc-le-suc}
 use mathlib.Core.Path.{_≡_, refl, sym, ap, _∙_}
-use mathlib.Core.Bool.{Bool, true, false, cond, not, _&&_, false≢true}
+use mathlib.Core.Bool.{Bool, true, false, cond, not, false≢true}
 use mathlib.Core.List.{List, [], _∷_, _++_, foldl-append, append-nil, append-assoc}
 use native.Mathlib.Nat.{le-of-suc-le-suc, not-suc-le-zero, lt-trans}
 use native.Mathlib.Omega.{arith}
@@ -11,7 +11,7 @@ use lib.Seq.{getD-take, set-append-left, length-take-le, take-append-seam, take-
 use borrow.Author.Tests.{ltb-true, ltb-false, lt-ltb, le-leb, lt-leb, eqb-true, eqb-false, eq-eqb, ne-eqb, not-true, not-false}
 use Rattle.points.specs.Point.{unused, anyPoint}
 use Rattle.points.specs.Points.{every, rising, risingBy, timeKey, listOf, holding}
-use Rattle.points.specs.Laws.{and-left, and-right}
+use Rattle.points.specs.Laws.{and-left, and-right, and-both as and-yes}
 use Rattle.points.specs.ValidLaws.{listOf-holding}
 use Rattle.points.specs.Search.{placeBy, place-bound, Searching, search-end}
 use Rattle.points.specs.declared.AutomationPoint.{AutomationPoint}
@@ -65,9 +65,6 @@ module _ {A : Type 0} where
   shift-end (suc i) p (x ∷ l) u r h = ap (λ (k : List A). x ∷ k) (shift-end i p l u r (le-of-suc-le-suc h))
 
 -- ---- the list with the point in its place
-
-and-yes : {a b : Bool} → a ≡ true → b ≡ true → (a && b) ≡ true
-and-yes p q = λ i. p i && q i
 
 module _ (p : AutomationPoint) where
   abbrev k : ℕ

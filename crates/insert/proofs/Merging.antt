@@ -17,13 +17,13 @@ use Rattle.curve.specs.declared.CurveType.{CurveType}
 use Rattle.curve.specs.declared.CurveType.the-variants.{Linear}
 use Rattle.points.specs.Point.{finitePoint, pointWith}
 use Rattle.points.specs.Points.{every, rising, timeKey, listOf, holding, validPoints}
-use Rattle.points.specs.Laws.{and-left, and-right, and-true}
+use Rattle.points.specs.Laws.{and-left, and-right, and-true, and-both as both}
 use Rattle.points.specs.ValidLaws.{holding-listOf, valid-count, valid-finite, valid-rising}
 use Rattle.points.specs.declared.AutomationPoint.{AutomationPoint}
 use Rattle.points.specs.declared.Points.{Points}
 use Rattle.points.specs.declared.refusal.Refusal.the-variants.{NotValid, NotFinite, TooManyPoints}
-use Rattle.points.specs.declared.refusal.Answer.the-variants.{Accepted}
-use Rattle.settle.specs.Settle.{refused, settle, editPoints}
+use Rattle.settle.specs.Settle.{plain, refused, accepted, judged, settle, editPoints}
+use Rattle.settle.proofs.Judging.{one, argument-three, result-three, five, accepts}
 use Rattle.pointwise.specs.Each.{zero64, changed}
 use Rattle.pointwise.specs.Places.{mappedIn}
 use Rattle.pointwise.specs.declared.Change.the-variants.{Shift}
@@ -36,33 +36,34 @@ use Rattle.insert.proofs.Inserting.{every-all}
 
 pub not-valid : (ps : Points) (ok : Bool) (l : List AutomationPoint) → validPoints ps ≡ false → refused ps NotValid ≡ editPoints ps ok l
 unfolding editPoints
-not-valid ps ok l v = rw v
+not-valid ps ok l v = one (refused ps) (accepted (holding l)) (plain ok l) v
 
 pub not-finite : (ps : Points) (ok : Bool) (l : List AutomationPoint) → validPoints ps ≡ true → ok ≡ false → refused ps NotFinite ≡ editPoints ps ok l
 unfolding editPoints
-not-finite ps ok l v o = rw (v, o)
+not-finite ps ok l v o = argument-three (refused ps) (accepted (holding l)) (plain ok l) v o
 
 pub settled : (ps : Points) (ok : Bool) (l : List AutomationPoint) → validPoints ps ≡ true → ok ≡ true → settle ps l ≡ editPoints ps ok l
-unfolding editPoints
-settled ps ok l v o = rw (v, o)
+unfolding settle editPoints
+settled ps ok l v o = λ i. judged ps (sym v i) (plain (sym o i) l)
 
-pub room : (ps : Points) (l : List AutomationPoint) → every finitePoint l ≡ true → rising l ≡ true → leb (length l) 256 ≡ true → record { answer = Accepted; points = holding l } ≡ settle ps l
-unfolding settle
-room ps l f r h = rw (f, r, h)
+module _ (ps : Points) (l : List AutomationPoint) where
+  pub room : every finitePoint l ≡ true → rising l ≡ true → leb (length l) 256 ≡ true → accepted (holding l) ≡ settle ps l
+  unfolding settle
+  room f r h = accepts (refused ps) (accepted (holding l)) (plain true l) refl refl refl f r h
 
-pub no-room : (ps : Points) (l : List AutomationPoint) → every finitePoint l ≡ true → rising l ≡ true → leb (length l) 256 ≡ false → refused ps TooManyPoints ≡ settle ps l
-unfolding settle
-no-room ps l f r h = rw (f, r, h)
+  pub no-room : every finitePoint l ≡ true → rising l ≡ true → leb (length l) 256 ≡ false → refused ps TooManyPoints ≡ settle ps l
+  unfolding settle
+  no-room f r h = five (refused ps) (accepted (holding l)) (plain true l) refl refl refl f r h
 
-bad-result : (ps : Points) (l : List AutomationPoint) → every finitePoint l ≡ false → refused ps NotFinite ≡ settle ps l
-unfolding settle
-bad-result ps l f = rw f
+  bad-result : every finitePoint l ≡ false → refused ps NotFinite ≡ settle ps l
+  unfolding settle
+  bad-result f = result-three (refused ps) (accepted (holding l)) (plain true l) refl refl refl f
 
 -- new points that hold l, where the arguments are finite and every number of l is
 pub made-new : (ps new : Points) (ok : Bool) (l : List AutomationPoint) → validPoints ps ≡ true → (ok && every finitePoint l) ≡ true → rising l ≡ true → length l ≤ 256 → new ≡ holding l
-    → record { answer = Accepted; points = new } ≡ editPoints ps ok l
+    → accepted new ≡ editPoints ps ok l
 made-new ps new ok l v f r h n =
-    ap (λ (x : Points). record { answer = Accepted; points = x }) n ∙ room ps l (and-right ok (every finitePoint l) f) r (le-leb (length l) 256 h) ∙ settled ps ok l v (and-left ok (every finitePoint l) f)
+    ap accepted n ∙ room ps l (and-right ok (every finitePoint l) f) r (le-leb (length l) 256 h) ∙ settled ps ok l v (and-left ok (every finitePoint l) f)
 
 -- either 3, of an argument or of the result
 pub any-three : (ps : Points) (ok : Bool) (l : List AutomationPoint) → validPoints ps ≡ true → (ok && every finitePoint l) ≡ false → refused ps NotFinite ≡ editPoints ps ok l
@@ -74,13 +75,8 @@ valid-sorted ps v len = record { few = valid-count ps v; holds = holding-listOf 
 
 -- ---- a merge
 
-module _ (offset : Float) where
-  abbrev shift : AutomationPoint → AutomationPoint
-  shift q = changed (Shift offset) q
-
-  pub merged-is : (l other : List AutomationPoint) → insertAll l (map shift other) ≡ merged l other offset
-  merged-is l [] = refl
-  merged-is l (q ∷ other) = merged-is (insertPoint (shift q) l) other
+abbrev shift : Float → AutomationPoint → AutomationPoint
+shift offset q = changed (Shift offset) q
 
 -- a time that isn't finite, whatever else the point holds
 abbrev fine : AutomationPoint → Bool
@@ -177,19 +173,16 @@ merge-bad offset l other o h = unfine (insertAll l (map (shift offset) other)) (
 
 pub merge-invalid : (ps other : Points) (offset : Float) → validPoints ps ≡ false → refused ps NotValid ≡ mergedPoints ps other offset
 unfolding mergedPoints
-merge-invalid ps other offset v = go (validPoints other)
-  where
-    go : (b : Bool) → refused ps NotValid ≡ cond b (editPoints ps (finite offset) (merged (listOf ps) (listOf other) offset)) (refused ps NotValid)
-    go true = not-valid ps (finite offset) (merged (listOf ps) (listOf other) offset) v
-    go false = refl
+merge-invalid ps other offset v = let l = merged (listOf ps) (listOf other) offset in one (refused ps) (accepted (holding l)) (plain (finite offset) l) (ap (λ (b : Bool). b && validPoints other) v)
 
 pub merge-other : (ps other : Points) (offset : Float) → validPoints other ≡ false → refused ps NotValid ≡ mergedPoints ps other offset
 unfolding mergedPoints
-merge-other ps other offset v = rw v
+merge-other ps other offset w = let l = merged (listOf ps) (listOf other) offset in one (refused ps) (accepted (holding l)) (plain (finite offset) l) (and-no (validPoints ps) w)
 
 pub merge-valid : (ps other : Points) (offset : Float) → validPoints other ≡ true → editPoints ps (finite offset) (merged (listOf ps) (listOf other) offset) ≡ mergedPoints ps other offset
-unfolding mergedPoints
-merge-valid ps other offset v = rw v
+unfolding editPoints mergedPoints
+merge-valid ps other offset w =
+    ap (λ (b : Bool). judged ps b (plain (finite offset) (merged (listOf ps) (listOf other) offset))) (sym (and-true (validPoints ps)) ∙ ap (λ (b : Bool). validPoints ps && b) (sym w))
 
 -- what the code makes of the other's points, all being valid: `shifted` has each at its time plus the offset
 module _ (ps other shifted : Points) (offset : Float) (v : validPoints ps ≡ true) (w : validPoints other ≡ true) (len : length (other .places) ≡ 256)
@@ -206,21 +199,17 @@ module _ (ps other shifted : Points) (offset : Float) (v : validPoints ps ≡ tr
   -- a time that isn't finite
   pub merge-lost : every finitePoint (listOf shifted) ≡ false → refused ps NotFinite ≡ mergedPoints ps other offset
   merge-lost h =
-      bad-result ps whole (ap (every finitePoint) (sym (merged-is offset (listOf ps) (listOf other)))
-      ∙ merge-bad offset (listOf ps) (listOf other) (valid-finite other w) (ap (every finitePoint) (sym shifted-list) ∙ h))
+      bad-result ps whole (merge-bad offset (listOf ps) (listOf other) (valid-finite other w) (ap (every finitePoint) (sym shifted-list) ∙ h))
       ∙ whole-is
 
   pub merge-made : settle ps (insertAll (listOf ps) (listOf shifted)) ≡ mergedPoints ps other offset
-  merge-made = ap (settle ps) (ap (insertAll (listOf ps)) shifted-list ∙ merged-is offset (listOf ps) (listOf other)) ∙ whole-is
+  merge-made = ap (λ (l : List AutomationPoint). settle ps (insertAll (listOf ps) l)) shifted-list ∙ whole-is
 
 -- ---- a ramp and a pulse
 
 implied : (a b : Bool) → (a ≡ true → b ≡ true) → a ≡ (a && b)
 implied true b h = sym (h refl)
 implied false b h = refl
-
-both : {a b : Bool} → a ≡ true → b ≡ true → (a && b) ≡ true
-both p q = λ i. p i && q i
 
 -- two points, in each order
 pub pair-up : (a b : AutomationPoint) → timeKey a < timeKey b → (a ∷ (b ∷ [])) ≡ insertAll [] (a ∷ (b ∷ []))

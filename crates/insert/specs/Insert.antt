@@ -1,6 +1,6 @@
 -- The edits that put points in, as 000 has them.
-use mathlib.Core.Bool.{cond}
-use mathlib.Core.List.{List, [], _∷_, foldl}
+use mathlib.Core.Bool.{cond, _&&_}
+use mathlib.Core.List.{List, [], _∷_, map, foldl}
 use lib.Dec.{ltb, eqb}
 use lib.Ieee.{Float, binary64, add}
 use Rattle.numbers.specs.Bounds.{finite}
@@ -10,9 +10,8 @@ use Rattle.curve.specs.declared.CurveType.the-variants.{Linear}
 use Rattle.points.specs.Points.{timeKey, listOf, validPoints}
 use Rattle.points.specs.declared.AutomationPoint.{AutomationPoint}
 use Rattle.points.specs.declared.Points.{Points}
-use Rattle.points.specs.declared.refusal.Refusal.the-variants.{NotValid}
 use Rattle.settle.specs.declared.EditedPoints.{EditedPoints}
-use Rattle.settle.specs.Settle.{refused, editPoints}
+use Rattle.settle.specs.Settle.{plain, judged}
 use Rattle.points.specs.Point.{pointWith}
 use Rattle.pointwise.specs.declared.Change.the-variants.{Shift}
 use Rattle.pointwise.specs.Each.{zero64, changed}
@@ -30,11 +29,12 @@ insertAll l new = foldl (λ made p. insertPoint p made) l new
 
 -- merge: the other's points, each at its time plus the offset, in order; positions stay
 abbrev pub merged : List AutomationPoint → List AutomationPoint → Float → List AutomationPoint
-merged l other offset = foldl (λ made p. insertPoint (changed (Shift offset) p) made) l other
+merged l other offset = insertAll l (map (changed (Shift offset)) other)
 
--- merge's refusals: 1 where either isn't valid, then those of an edit that makes this list
+-- an edit that makes this list, given the other's points too
 unfoldable pub mergedPoints : Points → Points → Float → EditedPoints
-mergedPoints ps other offset = cond (validPoints other) (editPoints ps (finite offset) (merged (listOf ps) (listOf other) offset)) (refused ps NotValid)
+unfolding judged
+mergedPoints ps other offset = judged ps (validPoints ps && validPoints other) (plain (finite offset) (merged (listOf ps) (listOf other) offset))
 
 -- fade_in, fade_out and ramp: from one value at 0 to another at the duration
 abbrev pub rampList : Float → Float → Float → CurveType → List AutomationPoint

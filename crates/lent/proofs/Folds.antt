@@ -12,11 +12,10 @@ use Rattle.points.specs.Point.{finitePoint}
 use Rattle.points.specs.Points.{every, risingBy, rising, timeKey, listOf, holding, validPoints}
 use Rattle.points.specs.Laws.{and-true, and-false, and-left, and-right, every-append, every-one}
 use Rattle.points.specs.ValidLaws.{listOf-holding, holding-valid}
-use Rattle.points.specs.declared.refusal.Refusal.the-variants.{NotValid, NotFinite}
-use Rattle.points.specs.declared.refusal.Answer.the-variants.{Accepted}
 use Rattle.points.specs.declared.AutomationPoint.{AutomationPoint}
 use Rattle.points.specs.declared.Points.{Points}
-use Rattle.settle.specs.Settle.{refused, settle, editPoints}
+use Rattle.settle.specs.Settle.{plain, refused, accepted, editPoints}
+use Rattle.settle.proofs.Judging.{one, argument-three, accepts}
 use Rattle.settle.specs.declared.EditedPoints.{EditedPoints}
 use Rattle.insert.specs.Insert.{insertPoint}
 use Rattle.insert.proofs.Inserting.{insert-last, rising-prefix}
@@ -57,15 +56,16 @@ ends-bad m ps l h v =
 
 -- one more point, after the others
 added-last : (m : Merging) (l : List AutomationPoint) (p : AutomationPoint) → m .gathered ≡ holding l → every finitePoint l ≡ true → rising l ≡ true → finitePoint p ≡ true
-    → rising (l ++ (p ∷ [])) ≡ true → length (l ++ (p ∷ [])) ≤ 256 → addedTo m p ≡ record { answer = Accepted; points = holding (l ++ (p ∷ [])) }
-unfolding editPoints settle
+    → rising (l ++ (p ∷ [])) ≡ true → length (l ++ (p ∷ [])) ≤ 256 → addedTo m p ≡ accepted (holding (l ++ (p ∷ [])))
+unfolding editPoints
 added-last m l p g f r fp rp n =
     let all : every finitePoint (l ++ (p ∷ [])) ≡ true = every-append finitePoint l (p ∷ []) ∙ (λ i. f i && (every-one finitePoint p ∙ fp) i) in
     let len : length l ≤ 256 = omega (arith, n, length-append l (p ∷ [])) in
     let valid : validPoints (holding l) ≡ true = holding-valid l ∙ (λ i. le-leb (length l) 256 len i && (f i && r i)) in
     let made : insertPoint p (listOf (holding l)) ≡ l ++ (p ∷ []) = ap (insertPoint p) (listOf-holding l) ∙ insert-last l p rp in
     ap (λ (ps : Points). editPoints ps (finitePoint p) (insertPoint p (listOf ps))) g
-    ∙ rw (valid, fp, made, all, rp, le-leb (length (l ++ (p ∷ []))) 256 n)
+    ∙ ap (editPoints (holding l) (finitePoint p)) made
+    ∙ sym (accepts (refused (holding l)) (accepted (holding (l ++ (p ∷ [])))) (plain (finitePoint p) (l ++ (p ∷ []))) valid fp refl all rp (le-leb (length (l ++ (p ∷ []))) 256 n))
 
 -- a list that is too long is none of a valid envelope's
 too-long : (l : List AutomationPoint) → leb (length l) 256 ≡ false → validList l ≡ false
@@ -88,7 +88,7 @@ not-rising l ps p h = go (rising (l ++ (p ∷ ps))) refl
 
 -- ---- a turn
 
-step-gathered : (m : Merging) (p : AutomationPoint) (ps : Points) → addedTo m p ≡ record { answer = Accepted; points = ps } → mergeStep m p .gathered ≡ ps
+step-gathered : (m : Merging) (p : AutomationPoint) (ps : Points) → addedTo m p ≡ accepted ps → mergeStep m p .gathered ≡ ps
 unfolding mergeStep
 step-gathered m p ps h = ap (λ (e : EditedPoints). e .points) h
 
@@ -102,11 +102,14 @@ step-later m l p r = λ q. rising-two l p q r
 
 refused-point : (m : Merging) (p : AutomationPoint) → finitePoint p ≡ false → isAccepted (addedTo m p .answer) ≡ false
 unfolding editPoints
-refused-point m p h = ap (λ (b : Bool). isAccepted (editPoints (m .gathered) b (insertPoint p (listOf (m .gathered))) .answer)) h ∙ go (validPoints (m .gathered))
+refused-point m p h = go (validPoints (m .gathered)) refl
   where
-    go : (v : Bool) → isAccepted (cond v (refused (m .gathered) NotFinite) (refused (m .gathered) NotValid) .answer) ≡ false
-    go true = refl
-    go false = refl
+    l : List AutomationPoint
+    l = insertPoint p (listOf (m .gathered))
+
+    go : (v : Bool) → validPoints (m .gathered) ≡ v → isAccepted (addedTo m p .answer) ≡ false
+    go true v = ap (λ (r : EditedPoints). isAccepted (r .answer)) (sym (argument-three (refused (m .gathered)) (accepted (holding l)) (plain (finitePoint p) l) v h))
+    go false v = ap (λ (r : EditedPoints). isAccepted (r .answer)) (sym (one (refused (m .gathered)) (accepted (holding l)) (plain (finitePoint p) l) v))
 
 -- ps after the points l that m has gathered
 abbrev Gathers : List AutomationPoint → List AutomationPoint → Merging → Type 0

@@ -3,7 +3,6 @@ use mathlib.Core.Path.{_≡_, refl, ap, _∙_}
 use mathlib.Core.Bool.{Bool, true, false, cond}
 use mathlib.Core.List.{List, map}
 use lib.Ieee.{Float, binary64, sub, le}
-use lib.ListN.{length, length-map}
 use Rattle.curve.specs.declared.CurveType.{CurveType}
 use Rattle.points.specs.Points.{listOf, holding}
 use Rattle.points.specs.ValidLaws.{listOf-holding}
@@ -25,30 +24,17 @@ kept-or-mapped : (b : Bool) (change : List AutomationPoint → Change) (l : List
 kept-or-mapped true change l = refl
 kept-or-mapped false change l = ap (λ (m : List AutomationPoint). mappedIn (changed (change m)) (holding l)) (listOf-holding l) ∙ mapped-holding (changed (change l)) l
 
-kept-length : (b : Bool) (f : AutomationPoint → AutomationPoint) (l : List AutomationPoint) → length (cond b l (map f l)) ≡ length l
-kept-length true f l = refl
-kept-length false f l = length-map l f
-
 module _ (duration : Float) (c : CurveType) (l : List AutomationPoint) where
   pub faded-in-holding : fadedInPlaces duration c (holding l) ≡ holding (fadedInAll duration c l)
   faded-in-holding = kept-or-mapped (le duration zero64) (λ m. FadeIn (firstTime m) duration c) l
 
-  pub faded-in-length : length (fadedInAll duration c l) ≡ length l
-  faded-in-length = kept-length (le duration zero64) (changed (FadeIn (firstTime l) duration c)) l
-
   pub faded-out-holding : fadedOutPlaces duration c (holding l) ≡ holding (fadedOutAll duration c l)
   faded-out-holding = kept-or-mapped (le duration zero64) (λ m. FadeOut (sub binary64 (lastTime m) duration) duration c) l
-
-  pub faded-out-length : length (fadedOutAll duration c l) ≡ length l
-  faded-out-length = kept-length (le duration zero64) (changed (FadeOut (sub binary64 (lastTime l) duration) duration c)) l
 
 -- both fades, the one out after the one in
 module _ (a b : Float) (c : CurveType) (l : List AutomationPoint) where
   pub fades-holding : fadedOutPlaces b c (fadedInPlaces a c (holding l)) ≡ holding (fadedOutAll b c (fadedInAll a c l))
   fades-holding = ap (fadedOutPlaces b c) (faded-in-holding a c l) ∙ faded-out-holding b c (fadedInAll a c l)
-
-  pub fades-length : length (fadedOutAll b c (fadedInAll a c l)) ≡ length l
-  fades-length = faded-out-length b c (fadedInAll a c l) ∙ faded-in-length a c l
 
 -- the fade out of what the fade in made, where its duration keeps the points, and where it changes them
 module _ (a b : Float) (c : CurveType) (ps x : Points) (e : x ≡ fadedInPlaces a c ps) where

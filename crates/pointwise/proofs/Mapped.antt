@@ -74,7 +74,7 @@ mapped-holding f l =
 -- how an edit ends that changes each point in its place
 pub ends-each : {r : EditedPoints} (f : AutomationPoint → AutomationPoint) (ps new : Points) {ok ok′ : Bool} → r ≡ finished ps ok new → ok ≡ ok′
     → length (ps .places) ≡ 256 → new ≡ mappedIn f ps → r ≡ editPoints ps ok′ (map f (listOf ps))
-ends-each f ps new g o len n = ends-kept (mappedIn f) (map f) (mapped-holding f) (λ l. length-map l f) ps new g o len n
+ends-each f ps new g o len n = ends-kept (mappedIn f) (map f) (mapped-holding f) ps new g o len n
 
 -- as a list
 pub mapped-list : (f : AutomationPoint → AutomationPoint) (ps : Points) → validPoints ps ≡ true → length (ps .places) ≡ 256 → listOf (mappedIn f ps) ≡ map f (listOf ps)

@@ -1,5 +1,5 @@
 -- The edits that change each point by itself, as 000 has them, operation by operation.
-use mathlib.Core.Bool.{true, false, cond, _&&_}
+use mathlib.Core.Bool.{true, false, cond, not, _&&_}
 use mathlib.Core.List.{List, [], _∷_, map, foldl}
 use lib.Ieee.{Float, inf, binary32, binary64, add, sub, mul, div, lt, le, ofBits}
 use Rattle.numbers.specs.Narrow.{narrow}
@@ -10,9 +10,8 @@ use Rattle.curve.specs.declared.CurveType.{CurveType}
 use Rattle.points.specs.Points.{listOf, validPoints}
 use Rattle.points.specs.declared.AutomationPoint.{AutomationPoint}
 use Rattle.points.specs.declared.Points.{Points}
-use Rattle.points.specs.declared.refusal.Refusal.the-variants.{NotValid, NotFinite, BoundsCross}
 use Rattle.grid.specs.Grid.{quantizedTime}
-use Rattle.settle.specs.Settle.{refused, settle}
+use Rattle.settle.specs.Settle.{Proposal, judged}
 use Rattle.settle.specs.declared.EditedPoints.{EditedPoints}
 use Rattle.pointwise.specs.declared.Change.{Change}
 use Rattle.pointwise.specs.declared.Change.the-variants.{Shift, ScaleTime, Reflect, Quantize, Invert, Normalize, Scale, Offset, Clamp, FadeIn, FadeOut, Gate, Compress}
@@ -118,12 +117,11 @@ fadedInAll duration c l = cond (le duration zero64) l (map (changed (FadeIn (fir
 abbrev pub fadedOutAll : Float → CurveType → List AutomationPoint → List AutomationPoint
 fadedOutAll duration c l = cond (le duration zero64) l (map (changed (FadeOut (sub binary64 (lastTime l) duration) duration c)) l)
 
--- clamp_values: 1, argument 3, then 4 where its first bound is above its second, then the result's refusals; no other edit gives 4
+-- clamp_values, the one edit that has bounds: 4 where the first is above the second
+abbrev pub clamping : Float → Float → List AutomationPoint → Proposal
+clamping min max l = record { finiteArguments = finite min && finite max; boundsInOrder = not (lt max min); list = map (changed (Clamp min max)) l }
+
+-- of the points
 unfoldable pub clampedEdit : Points → Float → Float → EditedPoints
-unfolding settle
-clampedEdit ps min max =
-    cond (validPoints ps)
-    (cond (finite min && finite max)
-    (cond (lt max min) (refused ps BoundsCross) (settle ps (map (changed (Clamp min max)) (listOf ps))))
-    (refused ps NotFinite))
-    (refused ps NotValid)
+unfolding judged
+clampedEdit ps min max = judged ps (validPoints ps) (clamping min max (listOf ps))

@@ -3,17 +3,16 @@ use mathlib.Core.Path.{_≡_, refl, ap, sym, _∙_}
 use mathlib.Core.Bool.{Bool, true, false, cond, _&&_, false≢true}
 use mathlib.Core.List.{List}
 use lib.Ieee.{Float}
-use Rattle.numbers.specs.Bounds.{finite}
 use Rattle.points.specs.Refusal.{refuses, said}
-use Rattle.points.specs.Points.{validPoints, listOf}
+use Rattle.points.specs.Points.{validPoints}
 use Rattle.points.specs.declared.AutomationPoint.{AutomationPoint}
 use Rattle.points.specs.declared.Points.{Points}
 use Rattle.points.specs.declared.refusal.Refusal.the-variants.{NotValid}
 use Rattle.points.specs.declared.refusal.Answer.the-variants.{Refused}
-use Rattle.settle.specs.Settle.{editPoints, refused}
+use Rattle.settle.specs.Settle.{plain, judged, editPoints}
 use Rattle.settle.specs.declared.EditedPoints.{EditedPoints}
 use Rattle.pointwise.specs.Each.{clampedEdit}
-use Rattle.insert.specs.Insert.{mergedPoints, merged}
+use Rattle.insert.specs.Insert.{mergedPoints}
 use Rattle.lookup.specs.Limits.{finiteLimits}
 use Rattle.combine.specs.Combine.{finiteOperation, combinedList, combinedPoints}
 use Rattle.combine.specs.declared.Operation.{Operation}
@@ -100,13 +99,7 @@ edit-one (SetStep l) e h = setting-one e _ _ h
 
 merged-one : (ps other : Points) (offset : Float) → (validPoints ps && validPoints other) ≡ false → mergedPoints ps other offset .answer ≡ Refused NotValid
 unfolding mergedPoints
-merged-one ps other offset = go (validPoints ps) refl (validPoints other) refl
-  where
-    go : (a : Bool) → validPoints ps ≡ a → (b : Bool) → validPoints other ≡ b → (a && b) ≡ false
-        → cond b (editPoints ps (finite offset) (merged (listOf ps) (listOf other) offset)) (refused ps NotValid) .answer ≡ Refused NotValid
-    go true p true q h = absurd (false≢true (sym h))
-    go a p false q h = refl
-    go false p true q h = edit-points-one ps _ _ p
+merged-one ps other offset h = rw h
 
 merge-one : (e o : AutomationEnvelope) (offset : Float) → (validEnvelope e && validEnvelope o) ≡ false → mergeOf e o offset .said ≡ refuses 1
 unfolding mergeOf edited
@@ -123,7 +116,7 @@ merge-one e o offset = go (finiteLimits (limitsOf e)) (validPoints (e .points)) 
 
 combine-one : (op : Operation) (e o : AutomationEnvelope) → (validEnvelope e && validEnvelope o) ≡ false → combineOf op e o .said ≡ refuses 1
 unfolding combineOf combinedPoints
-combine-one op e o h = ap (λ (b : Bool). said (cond b (editPoints (e .points) (finiteOperation op) (combinedList op (sideOf e) (sideOf o))) (refused (e .points) NotValid) .answer)) h
+combine-one op e o h = ap (λ (b : Bool). said (judged (e .points) b (plain (finiteOperation op) (combinedList op (sideOf e) (sideOf o))) .answer)) h
 
 pub join-one : (j : Join) (e o : AutomationEnvelope) → (validEnvelope e && validEnvelope o) ≡ false → joinOf j e o .said ≡ refuses 1
 unfolding joinOf

@@ -1,3 +1,4 @@
 pub mod Lists
+pub mod Judging
 pub mod Ends
 pub mod Tested

@@ -4,7 +4,7 @@ use mathlib.Core.Path.{_≡_, refl, sym, ap, _∙_}
 use mathlib.Core.Bool.{Bool, true, false, _&&_, _||_, false≢true}
 use mathlib.Core.List.{List}
 use native.Mathlib.Omega.{arith}
-use borrow.Author.Tests.{eqb-true}
+use borrow.Author.Tests.{eqb-true, le-leb}
 use lib.Dec.{eqb, ltb}
 use lib.ListN.{length, take, getD, set}
 use lib.Seq.{lt-length-set, take-set-le, getD-set-same, getD-set-other}
@@ -14,10 +14,10 @@ use Rattle.points.specs.Laws.{and-both, and-true, every-more, rising-next, risi
 use Rattle.points.specs.declared.AutomationPoint.{AutomationPoint}
 use Rattle.points.specs.declared.Points.{Points}
 use Rattle.points.specs.declared.refusal.Refusal.the-variants.{NotValid, NotFinite, TimesDontRise}
-use Rattle.points.specs.declared.refusal.Answer.the-variants.{Accepted}
-use Rattle.settle.specs.Settle.{refused}
+use Rattle.settle.specs.Settle.{plain, refused, accepted}
 use Rattle.settle.specs.Finish.{finished}
-use Rattle.settle.specs.declared.EditedPoints.{EditedPoints}
+use Rattle.settle.proofs.Judging.{one, argument-three, result-three, six, accepts}
+use Rattle.settle.proofs.Ends.{listOf-few}
 
 -- ---- one more point: the one at i
 
@@ -85,21 +85,22 @@ module _ (l : List AutomationPoint) (i : ℕ) (q : AutomationPoint) (h : i < len
 module _ (ps new : Points) (ok : Bool) {valid : Bool} (v : valid ≡ validPoints ps) where
   pub out-valid : valid ≡ false → refused ps NotValid ≡ finished ps ok new
   unfolding finished
-  out-valid a = rw (sym v ∙ a)
+  out-valid a = one (refused ps) (accepted new) (plain ok (listOf new)) (sym v ∙ a)
 
   pub out-ok : valid ≡ true → ok ≡ false → refused ps NotFinite ≡ finished ps ok new
   unfolding finished
-  out-ok a b = rw (sym v ∙ a, b)
+  out-ok a b = argument-three (refused ps) (accepted new) (plain ok (listOf new)) (sym v ∙ a) b
 
-  pub out-finite : {finite : Bool} → valid ≡ true → ok ≡ true → finite ≡ every finitePoint (listOf new) → finite ≡ false → refused ps NotFinite ≡ finished ps ok new
-  unfolding finished
-  out-finite a b f c = rw (sym v ∙ a, b, sym f ∙ c)
+  module _ (a : valid ≡ true) (b : ok ≡ true) {finite : Bool} (f : finite ≡ every finitePoint (listOf new)) where
+    pub out-finite : finite ≡ false → refused ps NotFinite ≡ finished ps ok new
+    unfolding finished
+    out-finite c = result-three (refused ps) (accepted new) (plain ok (listOf new)) (sym v ∙ a) b refl (sym f ∙ c)
 
-  pub out-rise : {finite rise : Bool} → valid ≡ true → ok ≡ true → finite ≡ every finitePoint (listOf new) → finite ≡ true → rise ≡ rising (listOf new) → rise ≡ false → refused ps TimesDontRise ≡ finished ps ok new
-  unfolding finished
-  out-rise a b f c r d = rw (sym v ∙ a, b, sym f ∙ c, sym r ∙ d)
+    pub out-rise : {rise : Bool} → finite ≡ true → rise ≡ rising (listOf new) → rise ≡ false → refused ps TimesDontRise ≡ finished ps ok new
+    unfolding finished
+    out-rise c r d = six (refused ps) (accepted new) (plain ok (listOf new)) (sym v ∙ a) b refl (sym f ∙ c) (sym r ∙ d)
 
-  pub out-accepted : {finite rise : Bool} → valid ≡ true → ok ≡ true → finite ≡ every finitePoint (listOf new) → finite ≡ true → rise ≡ rising (listOf new) → rise ≡ true
-      → _≡_ {A = EditedPoints} (record { answer = Accepted; points = new }) (finished ps ok new)
-  unfolding finished
-  out-accepted a b f c r d = rw (sym v ∙ a, b, sym f ∙ c, sym r ∙ d)
+    -- there are no more points than places
+    pub out-accepted : {rise : Bool} → finite ≡ true → rise ≡ rising (listOf new) → rise ≡ true → length (new .places) ≡ 256 → accepted new ≡ finished ps ok new
+    unfolding finished
+    out-accepted c r d len = accepts (refused ps) (accepted new) (plain ok (listOf new)) (sym v ∙ a) b refl (sym f ∙ c) (sym r ∙ d) (le-leb _ _ (listOf-few new len))

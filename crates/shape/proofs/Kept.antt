@@ -1,20 +1,20 @@
 -- Laws of the edits that change which points there are: what one more element does to what a loop keeps. Assumes nothing.
-use Prim.Native.Nat.{ℕ, zero, suc, min, _+_, _-_, _≤_, _<_, zero-le, suc-le-suc}
+use Prim.Native.Nat.{ℕ, zero, suc, min, _+_, _-_, _≤_, _<_}
 use mathlib.Core.Path.{_≡_, refl, sym, ap, _∙_}
 use mathlib.Core.Bool.{Bool, true, false, cond, not, _&&_, false≢true}
-use mathlib.Core.List.{List, [], _∷_, _++_, append-nil, append-assoc, reverse, reverse-cons}
+use mathlib.Core.List.{List, [], _∷_, _++_, append-nil, append-assoc}
 use native.Mathlib.Numerals.{add-one}
 use native.Mathlib.Nat.{le-of-suc-le-suc, not-suc-le-zero}
 use native.Mathlib.Omega.{arith}
 use lib.Dec.{eqb}
 use lib.Ieee.{Float}
-use lib.ListN.{length, take, drop, getD, set, length-append, length-take}
+use lib.ListN.{length, take, drop, getD, set, length-take}
 use lib.Seq.{take-suc, getD-take}
 use borrow.Author.Tests.{eqb-true, eq-eqb, ne-eqb, not-true}
 use Rattle.points.specs.Point.{anyPoint}
 use Rattle.points.specs.Points.{every, timeKey, listOf, holding}
 use Rattle.points.specs.Laws.{and-left, and-right}
-use Rattle.points.specs.Middles.{middles, keep-cons, keep-one, middles-yes, middles-no, middles-few}
+use Rattle.points.specs.Middles.{middles, keep-cons, middles-yes, middles-no}
 use Rattle.points.specs.declared.AutomationPoint.{AutomationPoint}
 use Rattle.points.specs.declared.Points.{Points}
 use Rattle.settle.proofs.Ends.{pushed}
@@ -50,11 +50,6 @@ module _ {A : Type 0} where
 
   pub keep-no : (q : A → Bool) (l : List A) (i : ℕ) (d : A) → i < length l → q (getD l i d) ≡ false → keepIf q (take (i + 1) l) ≡ keepIf q (take i l)
   keep-no q l i d h y = keep-more q l i d h ∙ ap (λ (b : Bool). keepIf q (take i l) ++ cond b (getD l i d ∷ []) []) y ∙ append-nil (keepIf q (take i l))
-
-  pub keep-few : (q : A → Bool) (l : List A) → length (keepIf q l) ≤ length l
-  unfolding keepIf
-  keep-few q [] = zero-le
-  keep-few q (x ∷ l) = keep-one (q x) x (keepIf q l) (length l) (keep-few q l)
 
   -- ---- all but the first that passes a test
 
@@ -107,15 +102,6 @@ module _ {A : Type 0} where
   pub remove-past : (q : A → Bool) (l : List A) (i : ℕ) (d : A) → i < length l → (noneOf q (take i l) && q (getD l i d)) ≡ false
       → removeFirst q (take (i + 1) l) ≡ removeFirst q (take i l) ++ (getD l i d ∷ [])
   remove-past q l i d h y = rw (add-one, take-suc l i d h) (past q (take i l) (getD l i d) (noneOf q (take i l)) (q (getD l i d)) refl refl y)
-
-  remove-cons : (b : Bool) (x : A) (l k : List A) → length k ≤ length l → length (cond b l (x ∷ k)) ≤ suc (length l)
-  remove-cons true x l k h = omega arith
-  remove-cons false x l k h = suc-le-suc h
-
-  pub remove-few : (q : A → Bool) (l : List A) → length (removeFirst q l) ≤ length l
-  unfolding removeFirst
-  remove-few q [] = zero-le
-  remove-few q (x ∷ l) = remove-cons (q x) x l (removeFirst q l) (remove-few q l)
 
 -- ---- neighbours at the same time: the first stays
 
@@ -183,12 +169,6 @@ simplified-few t [] h = refl
 simplified-few t (p ∷ []) h = refl
 simplified-few t (p ∷ (q ∷ l)) h = absurd (not-suc-le-zero (le-of-suc-le-suc (le-of-suc-le-suc h)))
 
-pub simplified-bound : (t : Float) (l : List AutomationPoint) → length (simplified t l) ≤ length l
-simplified-bound t [] = zero-le
-simplified-bound t (p ∷ []) = suc-le-suc zero-le
-simplified-bound t (p ∷ (q ∷ l)) =
-    omega (arith, length-append (middles (differs t) (p ∷ (q ∷ l))) (drop (length l) (q ∷ l)), middles-few (differs t) (p ∷ (q ∷ l)), ap length (last-is q l anyPoint))
-
 -- ---- the loops that look back: n places hold points, and a turn reads the one at i
 
 module _ (ps : Points) (n i : ℕ) (len : length (ps .places) ≡ 256) (used : n ≡ min (ps .count) 256) where
@@ -233,7 +213,3 @@ module _ (ps : Points) (n i : ℕ) (len : length (ps .places) ≡ 256) (used : n
 
     pub middles-pass : q (at (i - 2)) (at (i - 1)) (at i) ≡ false → out ≡ holding (take 1 l ++ middles q (take (i + 1) l))
     middles-pass y = e ∙ ap (λ (k : List AutomationPoint). holding (take 1 l ++ k)) (sym (middles-no q l i anyPoint p (omega (arith, long)) (sym three ∙ y)))
-
-pub reverse-long : {A : Type 0} (l : List A) → length (reverse l) ≡ length l
-reverse-long [] = refl
-reverse-long (x ∷ l) = ap length (reverse-cons x l) ∙ length-append (reverse l) (x ∷ []) ∙ add-one (length (reverse l)) ∙ ap suc (reverse-long l)

@@ -1,5 +1,5 @@
 -- Quantized times of valid points do not fall, so that equal ones stand side by side: to compare neighbours keeps the first of each, and what is kept rises. Assumes nothing.
-use Prim.Native.Nat.{ℕ, _≤_, _<_, zero-le, suc-le-suc}
+use Prim.Native.Nat.{ℕ, _≤_, _<_}
 use mathlib.Core.Path.{_≡_, refl, sym, ap, _∙_, subst}
 use mathlib.Core.Bool.{Bool, true, false, cond, not, _&&_}
 use mathlib.Core.List.{List, [], _∷_, map}
@@ -7,7 +7,6 @@ use native.Mathlib.Nat.{le-trans, le-of-lt}
 use native.Mathlib.Omega.{arith}
 use borrow.Author.Tests.{ltb-true, eqb-true, eqb-false, ne-eqb, lt-ltb}
 use lib.Dec.{T, ltb, eqb}
-use lib.ListN.{length, length-map}
 use lib.Ieee.{Float, le}
 use Rattle.numbers.specs.Bounds.{finite}
 use Rattle.numbers.specs.Tests.{yes}
@@ -20,13 +19,13 @@ use Rattle.points.specs.declared.Points.{Points}
 use Rattle.settle.specs.Settle.{editPoints}
 use Rattle.settle.specs.Finish.{finished}
 use Rattle.settle.specs.declared.EditedPoints.{EditedPoints}
-use Rattle.settle.proofs.Ends.{ends-valid, listOf-few}
+use Rattle.settle.proofs.Ends.{ends-valid}
 use Rattle.pointwise.specs.Each.{zero64, changed}
 use Rattle.pointwise.specs.declared.Change.the-variants.{Quantize}
 use Rattle.grid.proofs.Quantized.{quantized-keeps-order}
 use Rattle.shape.specs.Neighbours.{differingAfter, withoutRepeats}
 use Rattle.shape.specs.Shape.{keepIf, firsts, quantized}
-use Rattle.shape.proofs.Kept.{keep-few, after-same}
+use Rattle.shape.proofs.Kept.{after-same}
 use Rattle.shape.proofs.Fits.{timeFits}
 
 -- ---- times that do not fall, from the key k on
@@ -130,27 +129,9 @@ module _ (grid : Float) (g : finite grid ≡ true) (a : le grid zero64 ≡ false
 pub quantized-stays : (grid : Float) (l : List AutomationPoint) → le grid zero64 ≡ true → quantized grid l ≡ l
 quantized-stays grid l h = rw h
 
-firsts-few : (l : List AutomationPoint) → length (firsts l) ≤ length l
-unfolding firsts
-firsts-few [] = zero-le
-firsts-few (p ∷ l) = suc-le-suc (le-trans (keep-few (other p) (firsts l)) (firsts-few l))
-
--- of a grid that is not finite nothing else matters
-not-finite : (ps new : Points) (l : List AutomationPoint) → finished ps false new ≡ editPoints ps false l
-unfolding finished editPoints
-not-finite ps new l = refl
-
 -- on one above it
-pub ends-quantized : {r : EditedPoints} (ps new : Points) (grid : Float) {ok : Bool} → r ≡ finished ps ok new → ok ≡ finite grid → le grid zero64 ≡ false → length (ps .places) ≡ 256 → every timeFits (listOf ps) ≡ true
+pub ends-quantized : {r : EditedPoints} (ps new : Points) (grid : Float) {ok : Bool} → r ≡ finished ps ok new → ok ≡ finite grid → le grid zero64 ≡ false → every timeFits (listOf ps) ≡ true
     → (validPoints ps ≡ true → new ≡ holding (withoutRepeats (map (changed (Quantize grid)) (listOf ps)))) → r ≡ editPoints ps (finite grid) (firsts (map (changed (Quantize grid)) (listOf ps)))
-ends-quantized {r} ps new grid {ok} f o a len t made = f ∙ go (finite grid) refl o
-  where
-    l : List AutomationPoint
-    l = map (changed (Quantize grid)) (listOf ps)
-
-    go : (b : Bool) → finite grid ≡ b → ok ≡ b → finished ps ok new ≡ editPoints ps b (firsts l)
-    go false g o = ap (λ (b : Bool). finished ps b new) o ∙ not-finite ps new (firsts l)
-    go true g o = ends-valid ps new (firsts l) refl o (λ v. (
-      omega (arith, firsts-few l, length-map (listOf ps) (changed (Quantize grid)), listOf-few ps len),
-      made v ∙ ap holding (repeats-firsts grid g a (listOf ps) (valid-finite ps v) t (valid-rising ps v)),
-    ))
+ends-quantized ps new grid f o a t made =
+    ends-valid ps new (firsts (map (changed (Quantize grid)) (listOf ps))) f o
+    (λ v g. made v ∙ ap holding (repeats-firsts grid (sym o ∙ g) a (listOf ps) (valid-finite ps v) t (valid-rising ps v)))

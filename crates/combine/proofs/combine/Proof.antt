@@ -1,12 +1,11 @@
--- `combine::combine` meets its contract. Assumes nothing.
-use mathlib.Core.Path.{sym, ap, _∙_}
-use borrow.Author.Tests.{not-true, not-false}
-use Rattle.points.specs.declared.Points.{Points}
-use Rattle.points.specs.declared.refusal.Answer.the-variants.{Accepted}
-use Rattle.settle.specs.declared.EditedPoints.{EditedPoints}
-use Rattle.combine.specs.Combined.{side-points, combinedWays, combined-ways}
-use Rattle.combine.proofs.Walking.{ends-own, ok-is, few-is, many-is, points-are}
+-- `combine::combine` meets its contract: each way out is the first of the edit's causes that fails. Assumes nothing.
+use mathlib.Core.Path.{_≡_, sym, _∙_}
+use mathlib.Core.Bool.{true}
 use borrow.Author.Needs.{needs}
+use borrow.Author.Tests.{not-true, not-false}
+use Rattle.combine.specs.Combine.{finiteOperation, validSide}
+use Rattle.combine.specs.Combined.{side-points}
+use Rattle.combine.proofs.Walking.{ends-own, first-invalid, other-invalid, factor-lost, walk-lost, walk-full, walk-made}
 use Rattle.combine.proofs.combine.Statement.{statement}
 use Rattle.combine.proofs.combine.Tie as tie
 
@@ -17,8 +16,9 @@ refuse-requires : tie.Need-refuse-requires
 refuse-requires c κs = search needs
 
 returns : tie.Need-returns
-unfolding combinedWays
-returns c = sym (combined-ways (c .before .before .before .before .args .operation) (c .before .before .before .before .args .first) (c .before .before .before .before .args .other) ∙ rw (sym (c .before .before .is-valid .ensures) ∙ not-true _ (c .before .if1 .taken)) (sym (c .refuse .ensures)))
+returns c =
+    let args = c .before .before .before .before .args in
+    c .refuse .ensures ∙ first-invalid (args .operation) (args .first) (args .other) (sym (c .before .before .is-valid .ensures) ∙ not-true _ (c .before .if1 .taken))
 
 is-valid-requires-2 : tie.Need-is-valid-requires-2
 is-valid-requires-2 c κs = search needs
@@ -27,8 +27,9 @@ refuse-requires-2 : tie.Need-refuse-requires-2
 refuse-requires-2 c κs = search needs
 
 returns-2 : tie.Need-returns-2
-unfolding combinedWays
-returns-2 c = sym (combined-ways (c .before .before .before .before .before .before .args .operation) (c .before .before .before .before .before .before .args .first) (c .before .before .before .before .before .before .args .other) ∙ rw (sym (c .before .before .before .before .is-valid .ensures) ∙ not-false _ (c .before .before .before .if1 .left), sym (c .before .before .is-valid2 .ensures) ∙ not-true _ (c .before .if2 .taken)) (sym (c .refuse2 .ensures)))
+returns-2 c =
+    let args = c .before .before .before .before .before .before .args in
+    c .refuse2 .ensures ∙ other-invalid (args .operation) (args .first) (args .other) (sym (c .before .before .is-valid2 .ensures) ∙ not-true _ (c .before .if2 .taken))
 
 is-finite-requires : tie.Need-is-finite-requires
 is-finite-requires c κs = search needs
@@ -37,35 +38,75 @@ refuse-requires-3 : tie.Need-refuse-requires-3
 refuse-requires-3 c κs = search needs
 
 returns-3 : tie.Need-returns-3
-unfolding combinedWays
-returns-3 c = sym (combined-ways (c .before .before .before .before .before .before .before .before .args .operation) (c .before .before .before .before .before .before .before .before .args .first) (c .before .before .before .before .before .before .before .before .args .other) ∙ rw (sym (c .before .before .before .before .before .before .is-valid .ensures) ∙ not-false _ (c .before .before .before .before .before .if1 .left), sym (c .before .before .before .before .is-valid2 .ensures) ∙ not-false _ (c .before .before .before .if2 .left), sym (c .before .before .is-finite .ensures) ∙ not-true _ (c .before .if3 .taken)) (sym (c .refuse3 .ensures)))
+returns-3 c =
+    let args = c .before .before .before .before .before .before .before .before .args in
+    let first : validSide (args .first) ≡ true = sym (c .before .before .before .before .before .before .is-valid .ensures) ∙ not-false _ (c .before .before .before .before .before .if1 .left) in
+    let other : validSide (args .other) ≡ true = sym (c .before .before .before .before .is-valid2 .ensures) ∙ not-false _ (c .before .before .before .if2 .left) in
+    c .refuse3 .ensures ∙ factor-lost (args .operation) (args .first) (args .other) first other (sym (c .before .before .is-finite .ensures) ∙ not-true _ (c .before .if3 .taken))
 
 ends-requires : tie.Need-ends-requires
-ends-requires c κs = (sym (c .before .before .before .before .before .before .is-valid .ensures) ∙ not-false _ (c .before .before .before .before .before .if1 .left))
+ends-requires c κs = sym (c .before .before .before .before .before .before .is-valid .ensures) ∙ not-false _ (c .before .before .before .before .before .if1 .left)
 
 ends-requires-2 : tie.Need-ends-requires-2
-ends-requires-2 c κs = (sym (c .before .before .before .before .before .is-valid2 .ensures) ∙ not-false _ (c .before .before .before .before .if2 .left))
+ends-requires-2 c κs = sym (c .before .before .before .before .before .is-valid2 .ensures) ∙ not-false _ (c .before .before .before .before .if2 .left)
 
 walk-requires : tie.Need-walk-requires
-walk-requires c κs = (side-points (c .before .before .before .before .before .before .before .before .before .before .args .first) (sym (c .before .before .before .before .before .before .before .before .is-valid .ensures) ∙ not-false _ (c .before .before .before .before .before .before .before .if1 .left)), side-points (c .before .before .before .before .before .before .before .before .before .before .args .other) (sym (c .before .before .before .before .before .before .is-valid2 .ensures) ∙ not-false _ (c .before .before .before .before .before .if2 .left)), ends-own (c .before .before .before .before .before .before .before .before .before .before .args .first) (c .before .ends .result) (c .before .ends .ensures), ends-own (c .before .before .before .before .before .before .before .before .before .before .args .other) (c .ends2 .result) (c .ends2 .ensures))
+walk-requires c κs =
+    let tested = c .before .before .before in
+    let args = tested .before .before .before .before .before .before .before .args in (
+      side-points (args .first) (sym (tested .before .before .before .before .before .is-valid .ensures) ∙ not-false _ (tested .before .before .before .before .if1 .left)),
+      side-points (args .other) (sym (tested .before .before .before .is-valid2 .ensures) ∙ not-false _ (tested .before .before .if2 .left)),
+      ends-own (args .first) (c .before .ends .result) (c .before .ends .ensures),
+      ends-own (args .other) (c .ends2 .result) (c .ends2 .ensures),
+    )
 
 refuse-requires-4 : tie.Need-refuse-requires-4
 refuse-requires-4 c κs = search needs
 
 returns-4 : tie.Need-returns-4
-unfolding combinedWays
-returns-4 c = sym (combined-ways (c .before .before .before .before .before .before .before .before .before .before .before .before .before .before .args .operation) (c .before .before .before .before .before .before .before .before .before .before .before .before .before .before .args .first) (c .before .before .before .before .before .before .before .before .before .before .before .before .before .before .args .other) ∙ rw (sym (c .before .before .before .before .before .before .before .before .before .before .before .before .is-valid .ensures) ∙ not-false _ (c .before .before .before .before .before .before .before .before .before .before .before .if1 .left), sym (c .before .before .before .before .before .before .before .before .before .before .is-valid2 .ensures) ∙ not-false _ (c .before .before .before .before .before .before .before .before .before .if2 .left), sym (c .before .before .before .before .before .before .before .before .is-finite .ensures) ∙ not-false _ (c .before .before .before .before .before .before .before .if3 .left), sym (ok-is (c .before .before .before .before .before .before .before .before .before .before .before .before .before .before .args .operation) (c .before .before .before .before .before .before .before .before .before .before .before .before .before .before .args .first) (c .before .before .before .before .before .before .before .before .before .before .before .before .before .before .args .other) (c .before .before .before .before .before .ends .result) (c .before .before .before .before .ends2 .result) (c .before .before .before .before .before .ends .ensures) (c .before .before .before .before .ends2 .ensures) (c .before .before .before .walk .result) (c .before .before .before .walk .ensures)) ∙ not-true _ (c .before .if4 .taken)) (sym (c .refuse4 .ensures)))
+returns-4 c =
+    let walked = c .before .before .before in
+    let tested = c .before .before .before .before .before .before .before in
+    let args = tested .before .before .before .before .before .before .before .args in
+    let first : validSide (args .first) ≡ true = sym (tested .before .before .before .before .before .is-valid .ensures) ∙ not-false _ (tested .before .before .before .before .if1 .left) in
+    let other : validSide (args .other) ≡ true = sym (tested .before .before .before .is-valid2 .ensures) ∙ not-false _ (tested .before .before .if2 .left) in
+    let factor : finiteOperation (args .operation) ≡ true = sym (tested .before .is-finite .ensures) ∙ not-false _ (tested .if3 .left) in
+    let left = walked .before .before .ends in
+    let right = walked .before .ends2 in
+    let made = walked .walk in
+    c .refuse4 .ensures ∙ walk-lost (args .operation) (args .first) (args .other) (left .result) (right .result) (left .ensures) (right .ensures) (made .result) (made .ensures)
+    first other factor (not-true _ (c .before .if4 .taken))
 
 refuse-requires-5 : tie.Need-refuse-requires-5
 refuse-requires-5 c κs = search needs
 
 returns-5 : tie.Need-returns-5
-unfolding combinedWays
-returns-5 c = sym (combined-ways (c .before .before .before .before .before .before .before .before .before .before .before .before .before .before .before .before .args .operation) (c .before .before .before .before .before .before .before .before .before .before .before .before .before .before .before .before .args .first) (c .before .before .before .before .before .before .before .before .before .before .before .before .before .before .before .before .args .other) ∙ rw (sym (c .before .before .before .before .before .before .before .before .before .before .before .before .before .before .is-valid .ensures) ∙ not-false _ (c .before .before .before .before .before .before .before .before .before .before .before .before .before .if1 .left), sym (c .before .before .before .before .before .before .before .before .before .before .before .before .is-valid2 .ensures) ∙ not-false _ (c .before .before .before .before .before .before .before .before .before .before .before .if2 .left), sym (c .before .before .before .before .before .before .before .before .before .before .is-finite .ensures) ∙ not-false _ (c .before .before .before .before .before .before .before .before .before .if3 .left), sym (ok-is (c .before .before .before .before .before .before .before .before .before .before .before .before .before .before .before .before .args .operation) (c .before .before .before .before .before .before .before .before .before .before .before .before .before .before .before .before .args .first) (c .before .before .before .before .before .before .before .before .before .before .before .before .before .before .before .before .args .other) (c .before .before .before .before .before .before .before .ends .result) (c .before .before .before .before .before .before .ends2 .result) (c .before .before .before .before .before .before .before .ends .ensures) (c .before .before .before .before .before .before .ends2 .ensures) (c .before .before .before .before .before .walk .result) (c .before .before .before .before .before .walk .ensures)) ∙ not-false _ (c .before .before .before .if4 .left), many-is (c .before .before .before .before .before .before .before .before .before .before .before .before .before .before .before .before .args .operation) (c .before .before .before .before .before .before .before .before .before .before .before .before .before .before .before .before .args .first) (c .before .before .before .before .before .before .before .before .before .before .before .before .before .before .before .before .args .other) (c .before .before .before .before .before .before .before .ends .result) (c .before .before .before .before .before .before .ends2 .result) (c .before .before .before .before .before .before .before .ends .ensures) (c .before .before .before .before .before .before .ends2 .ensures) (c .before .before .before .before .before .walk .result) (c .before .before .before .before .before .walk .ensures) (c .before .if5 .taken)) (sym (c .refuse5 .ensures)))
+returns-5 c =
+    let walked = c .before .before .before .before .before in
+    let tested = c .before .before .before .before .before .before .before .before .before in
+    let args = tested .before .before .before .before .before .before .before .args in
+    let first : validSide (args .first) ≡ true = sym (tested .before .before .before .before .before .is-valid .ensures) ∙ not-false _ (tested .before .before .before .before .if1 .left) in
+    let other : validSide (args .other) ≡ true = sym (tested .before .before .before .is-valid2 .ensures) ∙ not-false _ (tested .before .before .if2 .left) in
+    let factor : finiteOperation (args .operation) ≡ true = sym (tested .before .is-finite .ensures) ∙ not-false _ (tested .if3 .left) in
+    let left = walked .before .before .ends in
+    let right = walked .before .ends2 in
+    let made = walked .walk in
+    c .refuse5 .ensures ∙ walk-full (args .operation) (args .first) (args .other) (left .result) (right .result) (left .ensures) (right .ensures) (made .result) (made .ensures)
+    first other factor (not-false _ (c .before .before .before .if4 .left)) (c .before .if5 .taken)
 
 returns-6 : tie.Need-returns-6
-unfolding combinedWays
-returns-6 c = sym (combined-ways (c .before .before .before .before .before .before .before .before .before .before .before .before .before .before .before .before .args .operation) (c .before .before .before .before .before .before .before .before .before .before .before .before .before .before .before .before .args .first) (c .before .before .before .before .before .before .before .before .before .before .before .before .before .before .before .before .args .other) ∙ rw (sym (c .before .before .before .before .before .before .before .before .before .before .before .before .before .before .is-valid .ensures) ∙ not-false _ (c .before .before .before .before .before .before .before .before .before .before .before .before .before .if1 .left), sym (c .before .before .before .before .before .before .before .before .before .before .before .before .is-valid2 .ensures) ∙ not-false _ (c .before .before .before .before .before .before .before .before .before .before .before .if2 .left), sym (c .before .before .before .before .before .before .before .before .before .before .is-finite .ensures) ∙ not-false _ (c .before .before .before .before .before .before .before .before .before .if3 .left), sym (ok-is (c .before .before .before .before .before .before .before .before .before .before .before .before .before .before .before .before .args .operation) (c .before .before .before .before .before .before .before .before .before .before .before .before .before .before .before .before .args .first) (c .before .before .before .before .before .before .before .before .before .before .before .before .before .before .before .before .args .other) (c .before .before .before .before .before .before .before .ends .result) (c .before .before .before .before .before .before .ends2 .result) (c .before .before .before .before .before .before .before .ends .ensures) (c .before .before .before .before .before .before .ends2 .ensures) (c .before .before .before .before .before .walk .result) (c .before .before .before .before .before .walk .ensures)) ∙ not-false _ (c .before .before .before .if4 .left), few-is (c .before .before .before .before .before .before .before .before .before .before .before .before .before .before .before .before .args .operation) (c .before .before .before .before .before .before .before .before .before .before .before .before .before .before .before .before .args .first) (c .before .before .before .before .before .before .before .before .before .before .before .before .before .before .before .before .args .other) (c .before .before .before .before .before .before .before .ends .result) (c .before .before .before .before .before .before .ends2 .result) (c .before .before .before .before .before .before .before .ends .ensures) (c .before .before .before .before .before .before .ends2 .ensures) (c .before .before .before .before .before .walk .result) (c .before .before .before .before .before .walk .ensures) (c .before .if5 .left)) (ap {B = EditedPoints} (λ (p : Points). record { answer = Accepted; points = p }) (sym (points-are (c .before .before .before .before .before .before .before .before .before .before .before .before .before .before .before .before .args .operation) (c .before .before .before .before .before .before .before .before .before .before .before .before .before .before .before .before .args .first) (c .before .before .before .before .before .before .before .before .before .before .before .before .before .before .before .before .args .other) (c .before .before .before .before .before .before .before .ends .result) (c .before .before .before .before .before .before .ends2 .result) (c .before .before .before .before .before .before .before .ends .ensures) (c .before .before .before .before .before .before .ends2 .ensures) (c .before .before .before .before .before .walk .result) (c .before .before .before .before .before .walk .ensures) (c .before .if5 .left)))))
+returns-6 c =
+    let walked = c .before .before .before .before .before in
+    let tested = c .before .before .before .before .before .before .before .before .before in
+    let args = tested .before .before .before .before .before .before .before .args in
+    let first : validSide (args .first) ≡ true = sym (tested .before .before .before .before .before .is-valid .ensures) ∙ not-false _ (tested .before .before .before .before .if1 .left) in
+    let other : validSide (args .other) ≡ true = sym (tested .before .before .before .is-valid2 .ensures) ∙ not-false _ (tested .before .before .if2 .left) in
+    let factor : finiteOperation (args .operation) ≡ true = sym (tested .before .is-finite .ensures) ∙ not-false _ (tested .if3 .left) in
+    let left = walked .before .before .ends in
+    let right = walked .before .ends2 in
+    let made = walked .walk in
+    walk-made (args .operation) (args .first) (args .other) (left .result) (right .result) (left .ensures) (right .ensures) (made .result) (made .ensures)
+    first other factor (not-false _ (c .before .before .before .if4 .left)) (c .before .if5 .left)
 
 pub combine-spec : {M : Type 1} → statement M
 combine-spec =

@@ -1,12 +1,10 @@
 use mathlib.Core.Path.{_≡_, sym, ap, _∙_}
 use mathlib.Core.Bool.{true}
-use Rattle.points.specs.declared.Points.{Points}
-use Rattle.points.specs.declared.refusal.Answer.the-variants.{Accepted}
 use Rattle.points.specs.Point.{finitePoint}
 use Rattle.points.specs.Points.{listOf, every, rising}
 use Rattle.points.specs.ValidLaws.{valid-finite, valid-rising}
 use Rattle.points.proofs.Good.{places}
-use Rattle.settle.specs.declared.EditedPoints.{EditedPoints}
+use Rattle.settle.specs.Settle.{accepted}
 use Rattle.insert.specs.Insert.{insertAll}
 use Rattle.insert.proofs.Inserting.{every-all, rising-all}
 use Rattle.insert.proofs.Merging.{room, no-room, valid-sorted}
@@ -26,7 +24,7 @@ returns c =
     let l = insertAll (listOf ps) (listOf (c .before .before .before .args .new)) in
     let f : every finitePoint l ≡ true = every-all finitePoint (listOf ps) (listOf (c .before .before .before .args .new)) (valid-finite ps (c .before .before .before .pre .0)) (c .before .before .before .pre .1) in
     let r : rising l ≡ true = rising-all (listOf ps) (listOf (c .before .before .before .args .new)) (valid-rising ps (c .before .before .before .pre .0)) in
-    ap {B = EditedPoints} (λ (x : Points). record { answer = Accepted; points = x }) (c .before .before .insert-all .ensures .made (c .before .if1 .taken)) ∙ room ps l f r (sym (c .before .before .insert-all .ensures .fits) ∙ c .before .if1 .taken)
+    ap accepted (c .before .before .insert-all .ensures .made (c .before .if1 .taken)) ∙ room ps l f r (sym (c .before .before .insert-all .ensures .fits) ∙ c .before .if1 .taken)
 
 returns-2 : tie.Need-returns-2
 returns-2 c =

@@ -5,9 +5,9 @@ use mathlib.Core.Logic.{⊎-elim}
 use Rattle.points.specs.Points.{listOf}
 use Rattle.points.specs.Laws.{and-both}
 use Rattle.settle.specs.Settle.{editPoints}
-use Rattle.pointwise.specs.Each.{changed, clampedEdit}
+use Rattle.pointwise.specs.Each.{changed}
 use Rattle.pointwise.specs.declared.Change.the-variants.{Clamp}
-use Rattle.pointwise.proofs.Clamped.{in-order, not-finite, invalid}
+use Rattle.pointwise.proofs.Clamped.{in-order, not-finite, invalid, crossed}
 use borrow.Author.Needs.{needs}
 use Rattle.pointwise.proofs.clamp_values.Statement.{statement}
 use Rattle.pointwise.proofs.clamp_values.Tie as tie
@@ -25,8 +25,11 @@ refuse-requires : tie.Need-refuse-requires
 refuse-requires c κs = search needs
 
 returns : tie.Need-returns
-unfolding clampedEdit
-returns c = rw (sym (c .before .before .is-valid .ensures) ∙ c .before .if3 .taken, and-both (sym (c .before .before .before .before .before .before .is-finitef .ensures)) (sym (c .before .before .before .before .before .is-finitef2 .ensures)) ∙ c .before .before .before .if2 .taken, c .before .before .before .before .if1 .taken) (c .refuse .ensures)
+returns c =
+    let args = c .before .before .before .before .before .before .before .args in
+    let ok = and-both (c .before .before .before .before .before .before .is-finitef .ensures) (c .before .before .before .before .before .is-finitef2 .ensures) in
+    c .refuse .ensures
+    ∙ crossed (args .points) (args .min) (args .max) (sym (c .before .before .is-valid .ensures) ∙ c .before .if3 .taken) (sym ok ∙ c .before .before .before .if2 .taken) (c .before .before .before .before .if1 .taken)
 
 edit-each-requires : tie.Need-edit-each-requires
 edit-each-requires c κs = search needs

@@ -1,8 +1,12 @@
+-- `edit_from` meets its contract: each way out is the first of the edit's causes that fails. Assumes nothing.
 use mathlib.Core.Path.{ap, _∙_}
+use lib.ListN.{length}
 use Rattle.points.specs.declared.Points.{Points}
+use Rattle.points.proofs.Good.{places}
 use Rattle.settle.specs.Finish.{finished}
 use Rattle.pointwise.specs.Places.{mappedIn}
 use Rattle.pointwise.specs.Each.{changed}
+use Rattle.pointwise.proofs.Mapped.{map-long}
 use Rattle.settle.proofs.Tested.{out-valid, out-ok, out-finite, out-rise, out-accepted}
 use borrow.Author.Needs.{needs}
 use Rattle.pointwise.proofs.edit_from.Statement.{statement}
@@ -28,29 +32,43 @@ refuse-requires-4 c κs = search needs
 
 returns : tie.Need-returns
 returns c =
-    let m = c .before .before .before .map-tested in
-    out-accepted (c .before .before .before .before .before .before .before .args .points) (m .result .points) (c .before .before .before .before .before .before .before .args .ok) (c .before .before .before .before .before .before .is-valid .ensures) (c .before .before .before .before .before .if1 .taken) (c .before .before .before .before .if2 .taken) (m .ensures .1) (c .before .before .if3 .taken) (m .ensures .2) (c .before .if4 .taken)
-    ∙ ap (λ (x : Points). finished (c .before .before .before .before .before .before .before .args .points) (c .before .before .before .before .before .before .before .args .ok) x) (m .ensures .0)
+    let start = c .before .before .before .before .before .before .before in
+    let args = start .args in
+    let made = c .before .before .before .map-tested in
+    let base = args .base in
+    let len = ap (λ (x : Points). length (x .places)) (made .ensures .0) ∙ map-long (changed (args .change)) (base .count) (base .places) ∙ places base _ (start .good .1 .1 .0) in
+    out-accepted (args .points) (made .result .points) (args .ok) (c .before .before .before .before .before .before .is-valid .ensures)
+    (c .before .before .before .before .before .if1 .taken) (c .before .before .before .before .if2 .taken) (made .ensures .1) (c .before .before .if3 .taken) (made .ensures .2) (c .before .if4 .taken) len
+    ∙ ap (finished (args .points) (args .ok)) (made .ensures .0)
 
 returns-2 : tie.Need-returns-2
 returns-2 c =
-    let m = c .before .before .before .map-tested in
+    let args = c .before .before .before .before .before .before .before .args in
+    let made = c .before .before .before .map-tested in
     c .refuse .ensures
-    ∙ out-rise (c .before .before .before .before .before .before .before .args .points) (m .result .points) (c .before .before .before .before .before .before .before .args .ok) (c .before .before .before .before .before .before .is-valid .ensures) (c .before .before .before .before .before .if1 .taken) (c .before .before .before .before .if2 .taken) (m .ensures .1) (c .before .before .if3 .taken) (m .ensures .2) (c .before .if4 .left)
-    ∙ ap (λ (x : Points). finished (c .before .before .before .before .before .before .before .args .points) (c .before .before .before .before .before .before .before .args .ok) x) (m .ensures .0)
+    ∙ out-rise (args .points) (made .result .points) (args .ok) (c .before .before .before .before .before .before .is-valid .ensures)
+    (c .before .before .before .before .before .if1 .taken) (c .before .before .before .before .if2 .taken) (made .ensures .1) (c .before .before .if3 .taken) (made .ensures .2) (c .before .if4 .left)
+    ∙ ap (finished (args .points) (args .ok)) (made .ensures .0)
 
 returns-3 : tie.Need-returns-3
 returns-3 c =
-    let m = c .before .before .map-tested in
+    let args = c .before .before .before .before .before .before .args in
+    let made = c .before .before .map-tested in
     c .refuse2 .ensures
-    ∙ out-finite (c .before .before .before .before .before .before .args .points) (m .result .points) (c .before .before .before .before .before .before .args .ok) (c .before .before .before .before .before .is-valid .ensures) (c .before .before .before .before .if1 .taken) (c .before .before .before .if2 .taken) (m .ensures .1) (c .before .if3 .left)
-    ∙ ap (λ (x : Points). finished (c .before .before .before .before .before .before .args .points) (c .before .before .before .before .before .before .args .ok) x) (m .ensures .0)
+    ∙ out-finite (args .points) (made .result .points) (args .ok) (c .before .before .before .before .before .is-valid .ensures)
+    (c .before .before .before .before .if1 .taken) (c .before .before .before .if2 .taken) (made .ensures .1) (c .before .if3 .left)
+    ∙ ap (finished (args .points) (args .ok)) (made .ensures .0)
 
 returns-4 : tie.Need-returns-4
-returns-4 c = c .refuse3 .ensures ∙ out-ok (c .before .before .before .before .args .points) (mappedIn (changed (c .before .before .before .before .args .change)) (c .before .before .before .before .args .base)) (c .before .before .before .before .args .ok) (c .before .before .before .is-valid .ensures) (c .before .before .if1 .taken) (c .before .if2 .left)
+returns-4 c =
+    let args = c .before .before .before .before .args in
+    c .refuse3 .ensures
+    ∙ out-ok (args .points) (mappedIn (changed (args .change)) (args .base)) (args .ok) (c .before .before .before .is-valid .ensures) (c .before .before .if1 .taken) (c .before .if2 .left)
 
 returns-5 : tie.Need-returns-5
-returns-5 c = c .refuse4 .ensures ∙ out-valid (c .before .before .before .args .points) (mappedIn (changed (c .before .before .before .args .change)) (c .before .before .before .args .base)) (c .before .before .before .args .ok) (c .before .before .is-valid .ensures) (c .before .if1 .left)
+returns-5 c =
+    let args = c .before .before .before .args in
+    c .refuse4 .ensures ∙ out-valid (args .points) (mappedIn (changed (args .change)) (args .base)) (args .ok) (c .before .before .is-valid .ensures) (c .before .if1 .left)
 
 pub edit-from-spec : {M : Type 1} → statement M
 edit-from-spec =

@@ -1,3 +1,4 @@
+-- `finish` meets its contract: its loop tests the new points, and each way out is the first of the edit's causes that fails. Assumes nothing.
 use Prim.Native.Nat.{ℕ, _≤_, _<_, _-_}
 use mathlib.Core.Path.{_≡_, refl, ap, _∙_}
 use native.Mathlib.Omega.{arith}
@@ -72,45 +73,59 @@ refuse-requires-4 c κs = tt
 
 returns : tie.Need-returns Inv-loop μ-loop
 returns c =
-    let new = c .before .before .before .before .before .before .before .before .args .t3 in
+    let args = c .before .before .before .before .before .before .before .before .args in
+    let new = args .t3 in
     let len = places new _ (c .before .before .before .before .before .before .before .before .good .1 .1 .0) in
     let h = c .before .before .before .loop in
-    let at : h .i ≡ c .before .before .before .before .used .result = omega arith in
-    let whole : take (h .i) (new .places) ≡ listOf new = ap (λ (k : ℕ). take k (new .places)) (at ∙ c .before .before .before .before .used .ensures) ∙ take-min (new .count) (new .places) 256 len in
-    as-edit (c .before .before .before .before .before .before .before .before .args .points) new (c .before .before .before .before .before .before .before .before .args .ok) len
-    (out-accepted (c .before .before .before .before .before .before .before .before .args .points) new (c .before .before .before .before .before .before .before .before .args .ok) (c .before .before .before .before .before .before .before .is-valid .ensures) (c .before .before .before .before .before .before .if1 .taken) (c .before .before .before .before .before .if2 .taken) (h .inv .1 ∙ ap (every finitePoint) whole) (c .before .if3 .taken) (h .inv .2 ∙ ap rising whole) (c .if4 .taken))
+    let used = c .before .before .before .before .used in
+    let at : h .i ≡ used .result = omega arith in
+    let whole : take (h .i) (new .places) ≡ listOf new = ap (λ (k : ℕ). take k (new .places)) (at ∙ used .ensures) ∙ take-min (new .count) (new .places) 256 len in
+    as-edit (args .points) new (args .ok)
+    (out-accepted (args .points) new (args .ok) (c .before .before .before .before .before .before .before .is-valid .ensures)
+    (c .before .before .before .before .before .before .if1 .taken) (c .before .before .before .before .before .if2 .taken)
+    (h .inv .1 ∙ ap (every finitePoint) whole) (c .before .if3 .taken) (h .inv .2 ∙ ap rising whole) (c .if4 .taken) len)
 
 returns-2 : tie.Need-returns-2 Inv-loop μ-loop
 returns-2 c =
-    let new = c .before .before .before .before .before .before .before .before .before .args .t3 in
+    let args = c .before .before .before .before .before .before .before .before .before .args in
+    let new = args .t3 in
     let len = places new _ (c .before .before .before .before .before .before .before .before .before .good .1 .1 .0) in
     let h = c .before .before .before .before .loop in
-    let at : h .i ≡ c .before .before .before .before .before .used .result = omega arith in
-    let whole : take (h .i) (new .places) ≡ listOf new = ap (λ (k : ℕ). take k (new .places)) (at ∙ c .before .before .before .before .before .used .ensures) ∙ take-min (new .count) (new .places) 256 len in
-    as-edit (c .before .before .before .before .before .before .before .before .before .args .points) new (c .before .before .before .before .before .before .before .before .before .args .ok) len
+    let used = c .before .before .before .before .before .used in
+    let at : h .i ≡ used .result = omega arith in
+    let whole : take (h .i) (new .places) ≡ listOf new = ap (λ (k : ℕ). take k (new .places)) (at ∙ used .ensures) ∙ take-min (new .count) (new .places) 256 len in
+    as-edit (args .points) new (args .ok)
     (c .refuse .ensures
-    ∙ out-rise (c .before .before .before .before .before .before .before .before .before .args .points) new (c .before .before .before .before .before .before .before .before .before .args .ok) (c .before .before .before .before .before .before .before .before .is-valid .ensures) (c .before .before .before .before .before .before .before .if1 .taken) (c .before .before .before .before .before .before .if2 .taken) (h .inv .1 ∙ ap (every finitePoint) whole) (c .before .before .if3 .taken) (h .inv .2 ∙ ap rising whole) (c .before .if4 .left))
+    ∙ out-rise (args .points) new (args .ok) (c .before .before .before .before .before .before .before .before .is-valid .ensures)
+    (c .before .before .before .before .before .before .before .if1 .taken) (c .before .before .before .before .before .before .if2 .taken)
+    (h .inv .1 ∙ ap (every finitePoint) whole) (c .before .before .if3 .taken) (h .inv .2 ∙ ap rising whole) (c .before .if4 .left))
 
 returns-3 : tie.Need-returns-3 Inv-loop μ-loop
 returns-3 c =
-    let new = c .before .before .before .before .before .before .before .before .args .t3 in
+    let args = c .before .before .before .before .before .before .before .before .args in
+    let new = args .t3 in
     let len = places new _ (c .before .before .before .before .before .before .before .before .good .1 .1 .0) in
     let h = c .before .before .before .loop in
-    let at : h .i ≡ c .before .before .before .before .used .result = omega arith in
-    let whole : take (h .i) (new .places) ≡ listOf new = ap (λ (k : ℕ). take k (new .places)) (at ∙ c .before .before .before .before .used .ensures) ∙ take-min (new .count) (new .places) 256 len in
-    as-edit (c .before .before .before .before .before .before .before .before .args .points) new (c .before .before .before .before .before .before .before .before .args .ok) len
+    let used = c .before .before .before .before .used in
+    let at : h .i ≡ used .result = omega arith in
+    let whole : take (h .i) (new .places) ≡ listOf new = ap (λ (k : ℕ). take k (new .places)) (at ∙ used .ensures) ∙ take-min (new .count) (new .places) 256 len in
+    as-edit (args .points) new (args .ok)
     (c .refuse2 .ensures
-    ∙ out-finite (c .before .before .before .before .before .before .before .before .args .points) new (c .before .before .before .before .before .before .before .before .args .ok) (c .before .before .before .before .before .before .before .is-valid .ensures) (c .before .before .before .before .before .before .if1 .taken) (c .before .before .before .before .before .if2 .taken) (h .inv .1 ∙ ap (every finitePoint) whole) (c .before .if3 .left))
+    ∙ out-finite (args .points) new (args .ok) (c .before .before .before .before .before .before .before .is-valid .ensures)
+    (c .before .before .before .before .before .before .if1 .taken) (c .before .before .before .before .before .if2 .taken)
+    (h .inv .1 ∙ ap (every finitePoint) whole) (c .before .if3 .left))
 
 returns-4 : tie.Need-returns-4 Inv-loop μ-loop
 returns-4 c =
-    as-edit (c .before .before .before .before .args .points) (c .before .before .before .before .args .t3) (c .before .before .before .before .args .ok) (places (c .before .before .before .before .args .t3) _ (c .before .before .before .before .good .1 .1 .0))
-    (c .refuse3 .ensures ∙ out-ok (c .before .before .before .before .args .points) (c .before .before .before .before .args .t3) (c .before .before .before .before .args .ok) (c .before .before .before .is-valid .ensures) (c .before .before .if1 .taken) (c .before .if2 .left))
+    let args = c .before .before .before .before .args in
+    as-edit (args .points) (args .t3) (args .ok)
+    (c .refuse3 .ensures ∙ out-ok (args .points) (args .t3) (args .ok) (c .before .before .before .is-valid .ensures) (c .before .before .if1 .taken) (c .before .if2 .left))
 
 returns-5 : tie.Need-returns-5 Inv-loop μ-loop
 returns-5 c =
-    as-edit (c .before .before .before .args .points) (c .before .before .before .args .t3) (c .before .before .before .args .ok) (places (c .before .before .before .args .t3) _ (c .before .before .before .good .1 .1 .0))
-    (c .refuse4 .ensures ∙ out-valid (c .before .before .before .args .points) (c .before .before .before .args .t3) (c .before .before .before .args .ok) (c .before .before .is-valid .ensures) (c .before .if1 .left))
+    let args = c .before .before .before .args in
+    as-edit (args .points) (args .t3) (args .ok)
+    (c .refuse4 .ensures ∙ out-valid (args .points) (args .t3) (args .ok) (c .before .before .is-valid .ensures) (c .before .if1 .left))
 
 pub finish-spec : {M : Type 1} → statement M
 finish-spec =

@@ -1,9 +1,6 @@
-use native.Mathlib.Omega.{arith}
 use Rattle.points.specs.Points.{listOf}
-use Rattle.points.proofs.Good.{places}
-use Rattle.settle.proofs.Ends.{ends, listOf-few}
+use Rattle.settle.proofs.Ends.{ends}
 use Rattle.shape.specs.Shape.{removeFirst, near}
-use Rattle.shape.proofs.Kept.{remove-few}
 use borrow.Author.Needs.{needs}
 use Rattle.shape.proofs.remove_point_at.Statement.{statement}
 use Rattle.shape.proofs.remove_point_at.Tie as tie
@@ -21,8 +18,7 @@ returns : tie.Need-returns
 returns c =
     let ps = c .before .before .before .args .points in
     let q = near (c .before .before .before .args .time) in
-    ends ps (c .before .without-first-near .result) (removeFirst q (listOf ps)) (c .finish .ensures .0) (c .before .before .is-finite .ensures)
-    (omega (arith, remove-few q (listOf ps), listOf-few ps (places ps _ (c .before .before .before .good .0)))) (c .before .without-first-near .ensures)
+    ends ps (c .before .without-first-near .result) (removeFirst q (listOf ps)) (c .finish .ensures .0) (c .before .before .is-finite .ensures) (c .before .without-first-near .ensures)
 
 pub remove-point-at-spec : {M : Type 1} → statement M
 remove-point-at-spec =

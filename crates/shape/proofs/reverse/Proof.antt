@@ -1,19 +1,16 @@
 use mathlib.Core.Path.{_≡_, refl, ap, _∙_}
-use mathlib.Core.List.{List, map}
+use mathlib.Core.List.{List}
 use mathlib.Core.List as lists
-use native.Mathlib.Omega.{arith}
 use lib.Ieee.{Float}
-use lib.ListN.{length-map}
 use Rattle.points.specs.declared.AutomationPoint.{AutomationPoint}
 use Rattle.points.specs.Points.{listOf, holding}
 use Rattle.points.proofs.Good.{places}
-use Rattle.settle.proofs.Ends.{ends-valid, listOf-few}
+use Rattle.settle.proofs.Ends.{ends-valid}
 use Rattle.pointwise.specs.Places.{mappedIn}
 use Rattle.pointwise.specs.Each.{changed, lastTime}
 use Rattle.pointwise.specs.declared.Change.the-variants.{Reflect}
 use Rattle.pointwise.proofs.Mapped.{mapped-list}
 use Rattle.shape.specs.Shape.{reversed}
-use Rattle.shape.proofs.Kept.{reverse-long}
 use borrow.Author.Needs.{needs}
 use Rattle.shape.proofs.reverse.Statement.{statement}
 use Rattle.shape.proofs.reverse.Tie as tie
@@ -38,7 +35,7 @@ returns c =
     let len = places ps _ (c .before .before .before .before .good .0) in
     let m : c .before .before .map-points .result ≡ mappedIn f ps = c .before .before .map-points .ensures ∙ ap (λ (t : Float). mappedIn (changed (Reflect t)) ps) (c .before .before .before .last-time .ensures) in
     ends-valid ps (c .before .turned .result) (reversed l) (c .finish .ensures .0) refl
-    (λ v. (omega (arith, reverse-long (map f l), length-map l f, listOf-few ps len), c .before .turned .ensures ∙ ap (λ (k : List AutomationPoint). holding (lists.reverse k)) (ap listOf m ∙ mapped-list f ps v len)))
+    (λ v a. c .before .turned .ensures ∙ ap (λ (k : List AutomationPoint). holding (lists.reverse k)) (ap listOf m ∙ mapped-list f ps v len))
 
 pub reverse-spec : {M : Type 1} → statement M
 reverse-spec =

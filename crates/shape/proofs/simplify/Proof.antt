@@ -1,9 +1,6 @@
-use native.Mathlib.Omega.{arith}
 use Rattle.points.specs.Points.{listOf}
-use Rattle.points.proofs.Good.{places}
-use Rattle.settle.proofs.Ends.{ends, listOf-few}
+use Rattle.settle.proofs.Ends.{ends}
 use Rattle.shape.specs.Shape.{simplified}
-use Rattle.shape.proofs.Kept.{simplified-bound}
 use borrow.Author.Needs.{needs}
 use Rattle.shape.proofs.simplify.Statement.{statement}
 use Rattle.shape.proofs.simplify.Tie as tie
@@ -21,8 +18,7 @@ returns : tie.Need-returns
 returns c =
     let ps = c .before .before .before .args .points in
     let t = c .before .before .before .args .tolerance in
-    ends ps (c .before .kept-differing .result) (simplified t (listOf ps)) (c .finish .ensures .0) (c .before .before .is-finitef .ensures)
-    (omega (arith, simplified-bound t (listOf ps), listOf-few ps (places ps _ (c .before .before .before .good .0)))) (c .before .kept-differing .ensures)
+    ends ps (c .before .kept-differing .result) (simplified t (listOf ps)) (c .finish .ensures .0) (c .before .before .is-finitef .ensures) (c .before .kept-differing .ensures)
 
 pub simplify-spec : {M : Type 1} → statement M
 simplify-spec =

@@ -1,10 +1,7 @@
-use native.Mathlib.Omega.{arith}
 use Rattle.points.specs.Points.{listOf}
 use Rattle.points.specs.Laws.{and-both}
-use Rattle.points.proofs.Good.{places}
-use Rattle.settle.proofs.Ends.{ends, listOf-few}
+use Rattle.settle.proofs.Ends.{ends}
 use Rattle.shape.specs.Shape.{keepIf, inside}
-use Rattle.shape.proofs.Kept.{keep-few}
 use borrow.Author.Needs.{needs}
 use Rattle.shape.proofs.trim.Statement.{statement}
 use Rattle.shape.proofs.trim.Tie as tie
@@ -25,8 +22,7 @@ returns : tie.Need-returns
 returns c =
     let ps = c .before .before .before .before .args .points in
     let q = inside (c .before .before .before .before .args .start-time) (c .before .before .before .before .args .end-time) in
-    ends ps (c .before .kept-inside .result) (keepIf q (listOf ps)) (c .finish .ensures .0) (and-both (c .before .before .before .is-finite .ensures) (c .before .before .is-finite2 .ensures))
-    (omega (arith, keep-few q (listOf ps), listOf-few ps (places ps _ (c .before .before .before .before .good .0)))) (c .before .kept-inside .ensures)
+    ends ps (c .before .kept-inside .result) (keepIf q (listOf ps)) (c .finish .ensures .0) (and-both (c .before .before .before .is-finite .ensures) (c .before .before .is-finite2 .ensures)) (c .before .kept-inside .ensures)
 
 pub trim-spec : {M : Type 1} → statement M
 trim-spec =

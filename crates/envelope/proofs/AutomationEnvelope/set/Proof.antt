@@ -1,7 +1,9 @@
+-- `AutomationEnvelope::set` meets its contract. Assumes nothing.
 use mathlib.Core.Path.{sym, ap, _∙_}
 use Rattle.points.specs.Refusal.{gives}
 use Rattle.envelope.specs.declared.AutomationEnvelope.{AutomationEnvelope}
-use Rattle.envelope.specs.Edit.{EditTold, toldEdit, setting}
+use Rattle.envelope.specs.Edit.{EditTold, toldEdit}
+use Rattle.envelope.proofs.Settings.{set-made, set-lost, set-invalid}
 use borrow.Author.Needs.{needs}
 use Rattle.envelope.proofs.AutomationEnvelope.set.Statement.{statement}
 use Rattle.envelope.proofs.AutomationEnvelope.set.Tie as tie
@@ -19,16 +21,20 @@ refuse-requires-2 : tie.Need-refuse-requires-2
 refuse-requires-2 c κs = search needs
 
 returns : tie.Need-returns
-unfolding setting
-returns c = rw (sym (c .before .before .before .is-valid .ensures) ∙ c .before .before .if1 .taken, c .before .if2 .taken) (ap {B = EditTold} (λ (e : AutomationEnvelope). record { said = gives tt; envelope = e }) (c .with-settings .ensures))
+returns c =
+    let args = c .before .before .before .before .args in
+    ap {B = EditTold} (λ (e : AutomationEnvelope). record { said = gives tt; envelope = e }) (c .with-settings .ensures)
+    ∙ set-made (args .self) _ (args .ok) (sym (c .before .before .before .is-valid .ensures) ∙ c .before .before .if1 .taken) (c .before .if2 .taken)
 
 returns-2 : tie.Need-returns-2
-unfolding setting
-returns-2 c = rw (sym (c .before .before .before .is-valid .ensures) ∙ c .before .before .if1 .taken, c .before .if2 .left) (ap toldEdit (c .refuse .ensures))
+returns-2 c =
+    let args = c .before .before .before .before .args in
+    ap toldEdit (c .refuse .ensures) ∙ set-lost (args .self) _ (args .ok) (sym (c .before .before .before .is-valid .ensures) ∙ c .before .before .if1 .taken) (c .before .if2 .left)
 
 returns-3 : tie.Need-returns-3
-unfolding setting
-returns-3 c = rw (sym (c .before .before .is-valid .ensures) ∙ c .before .if1 .left) (ap toldEdit (c .refuse2 .ensures))
+returns-3 c =
+    let args = c .before .before .before .args in
+    ap toldEdit (c .refuse2 .ensures) ∙ set-invalid (args .self) _ (args .ok) (sym (c .before .before .is-valid .ensures) ∙ c .before .if1 .left)
 
 pub set-spec : {M : Type 1} → statement M
 set-spec =
