@@ -120,7 +120,18 @@ impl Session {
         envelope.is_valid() & self.in_order()
     }
 
-    // ---- the two ends of a call
+    // ---- what every call asks, and its two ends
+
+    // What is asked of the lent memory, by every call.
+    fn admit(self, memory: &[u64]) -> Answer
+        ensures { λ r. ⌜ refusalOf r ≡ firstFailing (admission (admissionOf self (now (memory .entry)))) ⌝ }
+    {
+        if memory.len() == self.length {
+            Answer::Accepted
+        } else {
+            Answer::Refused(Refusal::MemoryLength)
+        }
+    }
 
     fn refuse(self, refusal: Refusal) -> SessionAnswer
         ensures { λ a. ⌜ a ≡ refusedBy self refusal ⌝ }
@@ -129,6 +140,14 @@ impl Session {
             answer: Answer::Refused(refusal),
             session: self,
         }
+    }
+
+    // A refusal that comes after 1; `valid` says whether the call's envelopes are valid, so that they give no 1.
+    fn refuse_after(self, valid: bool, refusal: Refusal) -> SessionAnswer
+        ensures { λ a. ⌜ a ≡ refusedBy self (cond valid refusal NotValid) ⌝ }
+    {
+        let first = if valid { refusal } else { Refusal::NotValid };
+        self.refuse(first)
     }
 
     fn moved(
@@ -153,28 +172,6 @@ impl Session {
     }
 
     // ---- edits
-
-    // What is asked of the lent memory, by every call.
-    fn admit(self, memory: &[u64]) -> Answer
-        ensures { λ r. ⌜ refusalOf r ≡ firstFailing (admission (admissionOf self (now (memory .entry)))) ⌝ }
-    {
-        if memory.len() == self.length {
-            Answer::Accepted
-        } else {
-            Answer::Refused(Refusal::MemoryLength)
-        }
-    }
-
-    // A refusal that comes after 1; `valid` says whether the call's envelopes are valid, so that they give no 1.
-    fn refuse_after(self, valid: bool, refusal: Refusal) -> SessionAnswer
-        ensures { λ a. ⌜ a ≡ refusedBy self (cond valid refusal NotValid) ⌝ }
-    {
-        if valid {
-            self.refuse(refusal)
-        } else {
-            self.refuse(Refusal::NotValid)
-        }
-    }
 
     // An edit that counts: the envelope before it goes into its slot, if there is one.
     fn count(mut self, made: AutomationEnvelope, memory: &mut [u64]) -> SessionAnswer
