@@ -50,16 +50,16 @@ pub record Admission : Type 0 where
 pub record Tests : Type 0 where
   -- 1, "envelope or session not valid": the session, and any other envelope that the call is given
   pub valid : Bool
-  -- 11
+  -- 11, of the memory
   pub admission : Admission
   -- 10, "no step that way"
   pub step : Bool
 
--- 11
+-- its checks: 11
 abbrev pub admission : Admission → List Check
 admission a = orElse (a .length) MemoryLength ∷ []
 
--- 10
+-- what comes after the memory's: 10
 abbrev pub afterwards : Tests → List Check
 afterwards t = orElse (t .step) NoStep ∷ []
 

@@ -36,7 +36,7 @@ module _ (m : List ℕ) (p : ℕ) (w : List ℕ) (words : length w ≡ stateWord
   unfolding stored stateAt
   stored-same =
       ap (take stateWords) (drop-at (take (p * stateWords) m) (w ++ drop (p * stateWords + stateWords) m) (p * stateWords) front)
-      ∙ take-at (w) (drop (p * stateWords + stateWords) m) stateWords words
+      ∙ take-at w (drop (p * stateWords + stateWords) m) stateWords words
 
   within : (A B : List ℕ) (q : ℕ) → q * stateWords + stateWords ≤ length A → take stateWords (drop (q * stateWords) (A ++ B)) ≡ take stateWords (drop (q * stateWords) A)
   within A B q h =
@@ -54,7 +54,7 @@ module _ (m : List ℕ) (p : ℕ) (w : List ℕ) (words : length w ≡ stateWord
   past : (i : ℕ) → drop (p * stateWords + stateWords + i) (stored p w m) ≡ drop (p * stateWords + stateWords + i) m
   unfolding stored
   past i =
-      ap (drop (p * stateWords + stateWords + i)) (sym (append-assoc (take (p * stateWords) m) (w) (drop (p * stateWords + stateWords) m)))
+      ap (drop (p * stateWords + stateWords + i)) (sym (append-assoc (take (p * stateWords) m) w (drop (p * stateWords + stateWords) m)))
       ∙ ap (λ (k : ℕ). drop (k + i) ((take (p * stateWords) m ++ w) ++ drop (p * stateWords + stateWords) m)) (sym front₂)
       ∙ drop-append-add (take (p * stateWords) m ++ w) (drop (p * stateWords + stateWords) m) i
       ∙ drop-drop i (p * stateWords + stateWords) m

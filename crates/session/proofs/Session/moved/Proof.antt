@@ -1,0 +1,12 @@
+-- The session with the new envelope and numbers, field by field.
+use mathlib.Core.Path.{refl}
+use Rattle.session.proofs.Session.moved.Statement.{statement}
+use Rattle.session.proofs.Session.moved.Tie as tie
+use Rattle.session.proofs.Session.moved.Reads as reads
+use Rattle.session.proofs.Session.moved.Lts as lts
+
+returns : tie.Need-returns
+returns c = refl
+
+pub moved-spec : {M : Type 1} → statement M
+moved-spec = tie.close (tie.spec returns)
