@@ -2,31 +2,18 @@
 use Prim.Native.Nat.{ℕ}
 use mathlib.Core.Path.{_≡_, refl, sym}
 use mathlib.Core.Bool.{Bool, true, false, cond, _&&_, false≢true}
-use mathlib.Core.List.{List, map}
 use native.Mathlib.Omega.{arith}
-use lib.Ieee.{Float}
-use Rattle.numbers.specs.Bounds.{finite}
 use Rattle.points.specs.Refusal.{Said, gives, refuses, number}
-use Rattle.points.specs.Points.{listOf, holding, validPoints}
+use Rattle.points.specs.Points.{listOf, validPoints}
+use Rattle.points.specs.Laws.{and-left}
 pub use Rattle.points.specs.Laws.{and-both as both}
-use Rattle.points.specs.declared.AutomationPoint.{AutomationPoint}
-use Rattle.points.specs.declared.Points.{Points}
 use Rattle.points.specs.declared.refusal.Refusal.{Refusal}
-use Rattle.points.specs.declared.refusal.Answer.the-variants.{Accepted}
-use Rattle.settle.specs.Settle.{plain, refused, editPoints}
-use Rattle.settle.proofs.Judging.{causes-either, judged-either}
-use Rattle.settle.specs.declared.EditedPoints.{EditedPoints}
-use Rattle.pointwise.specs.Each.{changed, clamping, clampedEdit}
-use Rattle.pointwise.specs.declared.Change.the-variants.{Clamp}
-use Rattle.insert.specs.Insert.{merged, mergedPoints}
+use Rattle.settle.specs.Settle.{Proposal}
+use Rattle.settle.proofs.Judging.{Passes, one, causes-either}
 use Rattle.lookup.specs.Limits.{finiteLimit, finiteLimits}
-use Rattle.envelope.specs.Envelope.{new, limitsOf, validEnvelope}
-use Rattle.envelope.specs.Edit.{EditTold, declined, pointsEdited, replacedPoints, withPoints, edited, replaced, setting, editOf, mergeOf}
+use Rattle.envelope.specs.Envelope.{limitsOf, validEnvelope}
+use Rattle.envelope.specs.Edit.{EditTold, declined, outcome, proposal, successor, editOf}
 use Rattle.envelope.specs.declared.AutomationEnvelope.{AutomationEnvelope}
-use Rattle.envelope.specs.declared.edit.PointsEdit.{PointsEdit}
-use Rattle.envelope.specs.declared.edit.PointsEdit.the-variants.{AddPoint, RemovePointAt, ShiftPoints, ScaleTime, Trim, Reverse, InvertValues, QuantizeTime, Simplify, Normalize, Scale, Offset, ClampValues, ApplyFadeIn, ApplyFadeOut, ApplyFades, ApplyGate, ApplyCompression}
-use Rattle.envelope.specs.declared.edit.Replacement.{Replacement}
-use Rattle.envelope.specs.declared.edit.Replacement.the-variants.{FadeIn, FadeOut, Pulse, Ramp}
 use Rattle.envelope.specs.declared.edit.Edit.{Edit}
 use Rattle.envelope.specs.declared.edit.Edit.the-variants.{OfPoints, Replace, SetEnabled, SetMin, SetMax, SetStep}
 
@@ -43,62 +30,22 @@ parts true true false d h = absurd (false≢true h)
 parts true false c d h = absurd (false≢true h)
 parts false b c d h = absurd (false≢true h)
 
--- ---- an edit of points either refuses and keeps them, or holds a list that gives valid ones
+-- ---- what comes of an edit
 
--- what an accepted edit that makes the list l gives
-abbrev pub accepted : List AutomationPoint → EditedPoints
-accepted l = record { answer = Accepted; points = holding l }
+-- what is accepted, and leaves the envelope f
+abbrev pub accepted : AutomationEnvelope → EditTold
+accepted f = record { said = gives tt; envelope = f }
 
--- so what holds of both holds of what the edit gives
-module _ (P : EditedPoints → Type 0) (ps : Points) (refusing : (n : Refusal) → P (refused ps n)) where
-  pub edit-either : (ok : Bool) (l : List AutomationPoint) → (validPoints (holding l) ≡ true → P (accepted l)) → P (editPoints ps ok l)
-  unfolding editPoints
-  edit-either ok l holds = judged-either P ps (validPoints ps) (plain ok l) refusing (λ p. holds (p .makes))
+module _ (e : AutomationEnvelope) (valid : Bool) (p : Proposal) (f : AutomationEnvelope) where
+  -- what holds of every refusal, and of f where the edit passes, holds of it
+  pub outcome-either : (P : EditTold → Type 0) → ((r : Refusal) → P (declined e (number r))) → (Passes valid p → P (accepted f)) → P (outcome e valid p f)
+  unfolding outcome
+  outcome-either P refusing holds = causes-either P (λ r. declined e (number r)) (accepted f) valid p refusing holds
 
-  pub clamp-either : (min max : Float)
-      → (validPoints (holding (map (changed (Clamp min max)) (listOf ps))) ≡ true → P (accepted (map (changed (Clamp min max)) (listOf ps)))) → P (clampedEdit ps min max)
-  unfolding clampedEdit
-  clamp-either min max holds = judged-either P ps (validPoints ps) (clamping min max (listOf ps)) refusing (λ p. holds (p .makes))
-
-  pub merge-either : (other : Points) (offset : Float)
-      → (validPoints (holding (merged (listOf ps) (listOf other) offset)) ≡ true → P (accepted (merged (listOf ps) (listOf other) offset))) → P (mergedPoints ps other offset)
-  unfolding mergedPoints
-  merge-either other offset holds =
-      judged-either P ps (validPoints ps && validPoints other) (plain (finite offset) (merged (listOf ps) (listOf other) offset)) refusing (λ p. holds (p .makes))
-
-  module _ (holds : (l : List AutomationPoint) → validPoints (holding l) ≡ true → P (accepted l)) where
-    made : (ok : Bool) (l : List AutomationPoint) → P (editPoints ps ok l)
-    made ok l = edit-either ok l (holds l)
-
-    points-either : (d : PointsEdit) → P (pointsEdited d ps)
-    unfolding pointsEdited
-    points-either (AddPoint p) = made _ _
-    points-either (RemovePointAt time) = made _ _
-    points-either (ShiftPoints offset) = made _ _
-    points-either (ScaleTime factor) = made _ _
-    points-either (Trim start end) = made _ _
-    points-either Reverse = made _ _
-    points-either (InvertValues min max) = made _ _
-    points-either (QuantizeTime grid) = made _ _
-    points-either (Simplify tolerance) = made _ _
-    points-either (Normalize min max) = made _ _
-    points-either (Scale factor) = made _ _
-    points-either (Offset amount) = made _ _
-    points-either (ClampValues min max) = clamp-either min max (holds (map (changed (Clamp min max)) (listOf ps)))
-    points-either (ApplyFadeIn duration c) = made _ _
-    points-either (ApplyFadeOut duration c) = made _ _
-    points-either (ApplyFades fadeIn fadeOut c) = made _ _
-    points-either (ApplyGate threshold) = made _ _
-    points-either (ApplyCompression threshold ratio) = made _ _
-
-    replaced-either : (d : Replacement) → P (replacedPoints d ps)
-    unfolding replacedPoints
-    replaced-either (FadeIn duration c) = made _ _
-    replaced-either (FadeOut duration c) = made _ _
-    replaced-either (Pulse fadeIn sustain fadeOut c) = made _ _
-    replaced-either (Ramp duration start end c) = made _ _
-
--- ---- what an edit of the envelope e says and gives
+  -- 1 where all that it is given isn't valid
+  pub outcome-one : valid ≡ false → outcome e valid p f ≡ declined e 1
+  unfolding outcome
+  outcome-one v = sym (one (λ r. declined e (number r)) (accepted f) p v)
 
 -- the envelope that comes back is valid where the edit is accepted, and e where it is refused; it has e's target
 pub record Fair (e : AutomationEnvelope) (t : EditTold) : Type 0 where
@@ -109,59 +56,48 @@ pub record Fair (e : AutomationEnvelope) (t : EditTold) : Type 0 where
 never : {A : Type 0} (n : ℕ) → _≡_ {A = Said (Unit {0})} (refuses n) (gives tt) → A
 never n h = let z : _≡_ {A = ℕ} 0 1 = cc in absurd (omega arith)
 
-pub declines : (e : AutomationEnvelope) (n : ℕ) → Fair e (declined e n)
+declines : (e : AutomationEnvelope) (n : ℕ) → Fair e (declined e n)
 declines e n = record { valid = λ h. never n h; kept = λ k h. refl; target = refl }
 
-pub accepts : (e f : AutomationEnvelope) → validEnvelope f ≡ true → f .target ≡ e .target → Fair e (record { said = gives tt; envelope = f })
+accepts : (e f : AutomationEnvelope) → validEnvelope f ≡ true → f .target ≡ e .target → Fair e (accepted f)
 accepts e f v t = record { valid = λ h. v; kept = λ n h. never n (sym h); target = t }
 
-pub edited-refused : (e : AutomationEnvelope) (n : Refusal) → Fair e (edited e (refused (e .points) n))
-unfolding edited
-edited-refused e n = either (Fair e) (finiteLimits (limitsOf e)) (λ f. declines e (number n)) (declines e 1)
+pub outcome-fair : (e : AutomationEnvelope) (valid : Bool) (p : Proposal) (f : AutomationEnvelope) → (Passes valid p → validEnvelope f ≡ true) → f .target ≡ e .target
+    → Fair e (outcome e valid p f)
+outcome-fair e valid p f v t = outcome-either e valid p f (Fair e) (λ r. declines e (number r)) (λ q. accepts e f (v q) t)
 
-pub edited-accepted : (e : AutomationEnvelope) (l : List AutomationPoint) → validPoints (holding l) ≡ true → Fair e (edited e (accepted l))
-unfolding edited
-edited-accepted e l v = either (Fair e) (finiteLimits (limitsOf e)) (λ f. accepts e (withPoints e (holding l)) (both f v) refl) (declines e 1)
-
-replaced-refused : (e : AutomationEnvelope) (n : Refusal) → Fair e (replaced e (refused (e .points) n))
-unfolding replaced
-replaced-refused e n = either (Fair e) (finiteLimits (limitsOf e)) (λ f. declines e (number n)) (declines e 1)
-
--- an envelope of `new` with a valid list of points
-pub renews : (e : AutomationEnvelope) (l : List AutomationPoint) → validPoints (holding l) ≡ true → Fair e (record { said = gives tt; envelope = withPoints (new (e .target)) (holding l) })
-unfolding new
-renews e l v = accepts e (withPoints (new (e .target)) (holding l)) v refl
-
-replaced-accepted : (e : AutomationEnvelope) (l : List AutomationPoint) → validPoints (holding l) ≡ true → Fair e (replaced e (accepted l))
-unfolding replaced
-replaced-accepted e l v = either (Fair e) (finiteLimits (limitsOf e)) (λ f. renews e l v) (declines e 1)
-
-setting-fair : (e : AutomationEnvelope) (ok : Bool) (f : AutomationEnvelope) → (validEnvelope e ≡ true → ok ≡ true → validEnvelope f ≡ true) → f .target ≡ e .target
-    → Fair e (setting e ok f)
-unfolding setting
-setting-fair e ok f v t =
-    causes-either (Fair e) (λ r. declined e (number r)) _ (validEnvelope e) (plain ok (listOf (e .points))) (λ r. declines e (number r)) (λ p. accepts e f (v (p .given) (p .arguments)) t)
+-- ---- what an edit that passes makes
 
 -- the settings and the points of a valid envelope
 valid-parts : (e : AutomationEnvelope) → validEnvelope e ≡ true
     → (finiteLimit (e .«min_value») ≡ true) × (finiteLimit (e .«max_value») ≡ true) × (finiteLimit (e .«step_size») ≡ true) × (validPoints (e .points) ≡ true)
 valid-parts e v = parts (finiteLimit (e .«min_value»)) (finiteLimit (e .«max_value»)) (finiteLimit (e .«step_size»)) (validPoints (e .points)) v
 
+-- the settings of a valid envelope, and any valid points
+pub kept-settings : (e : AutomationEnvelope) {points : Bool} → validEnvelope e ≡ true → points ≡ true → (finiteLimits (limitsOf e) && points) ≡ true
+kept-settings e v p = both (and-left (finiteLimits (limitsOf e)) (validPoints (e .points)) v) p
+
+successor-valid : (d : Edit) (e : AutomationEnvelope) → Passes (validEnvelope e) (proposal d (listOf (e .points))) → validEnvelope (successor d e (proposal d (listOf (e .points)) .list)) ≡ true
+unfolding proposal successor
+successor-valid (OfPoints d) e q = kept-settings e (q .given) (q .makes)
+successor-valid (Replace d) e q = q .makes
+successor-valid (SetEnabled on) e q = q .given
+successor-valid (SetMin l) e q = let h = valid-parts e (q .given) in both (both (both (q .arguments) (h .1)) (h .2)) (h .3)
+successor-valid (SetMax l) e q = let h = valid-parts e (q .given) in both (both (both (h .0) (q .arguments)) (h .2)) (h .3)
+successor-valid (SetStep l) e q = let h = valid-parts e (q .given) in both (both (both (h .0) (h .1)) (q .arguments)) (h .3)
+
+successor-target : (d : Edit) (e : AutomationEnvelope) → successor d e (proposal d (listOf (e .points)) .list) .target ≡ e .target
+unfolding successor
+successor-target (OfPoints d) e = refl
+successor-target (Replace d) e = refl
+successor-target (SetEnabled on) e = refl
+successor-target (SetMin l) e = refl
+successor-target (SetMax l) e = refl
+successor-target (SetStep l) e = refl
+
 edit-fair : (d : Edit) (e : AutomationEnvelope) → Fair e (editOf d e)
 unfolding editOf
-edit-fair (OfPoints d) e = points-either (λ r. Fair e (edited e r)) (e .points) (edited-refused e) (edited-accepted e) d
-edit-fair (Replace d) e = replaced-either (λ r. Fair e (replaced e r)) (e .points) (replaced-refused e) (replaced-accepted e) d
-edit-fair (SetEnabled on) e = setting-fair e true _ (λ v k. v) refl
-edit-fair (SetMin l) e = setting-fair e (finiteLimit l) _ (λ v k. let h = valid-parts e v in both (both (both k (h .1)) (h .2)) (h .3)) refl
-edit-fair (SetMax l) e = setting-fair e (finiteLimit l) _ (λ v k. let h = valid-parts e v in both (both (both (h .0) k) (h .2)) (h .3)) refl
-edit-fair (SetStep l) e = setting-fair e (finiteLimit l) _ (λ v k. let h = valid-parts e v in both (both (both (h .0) (h .1)) k) (h .3)) refl
-
-pub merge-fair : (e other : AutomationEnvelope) (offset : Float) → Fair e (mergeOf e other offset)
-unfolding mergeOf
-merge-fair e other offset =
-    either (Fair e) (finiteLimits (limitsOf other))
-    (λ f. merge-either (λ r. Fair e (edited e r)) (e .points) (edited-refused e) (other .points) offset (edited-accepted e (merged (listOf (e .points)) (listOf (other .points)) offset)))
-    (declines e 1)
+edit-fair d e = outcome-fair e (validEnvelope e) (proposal d (listOf (e .points))) _ (successor-valid d e) (successor-target d e)
 
 -- ---- 01's list of edits
 

@@ -1,6 +1,6 @@
 -- The edits that take a second envelope: accepted they leave a valid envelope, refused they change nothing, the target stays, and the numbers stay in range of their types. Assumes nothing.
 use Prim.Native.Nat.{ℕ}
-use mathlib.Core.Path.{_≡_}
+use mathlib.Core.Path.{_≡_, refl}
 use mathlib.Core.Bool.{true, _&&_}
 use mathlib.Core.Option.{Option, none, some, Option·getD}
 use lib.Dec.{T}
@@ -10,46 +10,43 @@ use lib.Ieee.Fits.{add-fits, sub-fits, mul-fits}
 use Rattle.numbers.specs.Tests.{yes as passes}
 use Rattle.curve.specs.F32.{f0}
 use Rattle.curve.specs.declared.CurveType.the-variants.{Linear}
-use Rattle.points.specs.Refusal.{gives, refuses, number}
-use Rattle.points.specs.Points.{every, listOf, holding, validPoints}
-use Rattle.points.specs.ValidLaws.{valid-count}
-use Rattle.points.specs.declared.refusal.Refusal.{Refusal}
-use Rattle.settle.specs.Settle.{plain, refused}
-use Rattle.settle.specs.declared.EditedPoints.{EditedPoints}
-use Rattle.settle.proofs.Judging.{judged-either}
+use Rattle.points.specs.Refusal.{gives, refuses}
+use Rattle.points.specs.Points.{every, listOf, holding}
+use Rattle.points.specs.Laws.{and-left}
+use Rattle.settle.proofs.Judging.{Passes}
+use Rattle.insert.specs.Insert.{merged}
 use Rattle.lookup.specs.Lookup.{valueAt}
-use Rattle.combine.specs.Combine.{finiteOperation, applied, mergeTimes, timeOf, timesOf, validSide, sideAt, combinedPoint, combinedList, combinedPoints}
+use Rattle.combine.specs.Combine.{applied, mergeTimes, timeOf, timesOf, sideAt, combinedPoint, combinedList}
 use Rattle.combine.specs.Times.{merged-every}
 use Rattle.combine.specs.declared.Operation.{Operation}
 use Rattle.combine.specs.declared.Operation.the-variants.{Blend, Add, Multiply, Min, Max, Subtract}
-use Rattle.combine.specs.declared.Side.{Side}
 use Rattle.envelope.specs.Envelope.{validEnvelope}
-use Rattle.envelope.specs.Edit.{renewed, sideOf, combineOf, joinOf}
-use Rattle.envelope.specs.Typed.{typedPoint, typedPoints, typed}
-use Rattle.envelope.specs.EditLaws.{accepted, Fair, declines, renews, merge-fair}
-use Rattle.envelope.specs.TypedLists.{TypedList, every-map, point-parts, linear-typed, pointWith-typed, listOf-typed, holding-typed}
+use Rattle.envelope.specs.Edit.{sideOf, joinProposal, joinSuccessor, joinOf}
+use Rattle.envelope.specs.Typed.{typedPoint, typed}
+use Rattle.envelope.specs.EditLaws.{Fair, outcome-fair, kept-settings}
+use Rattle.envelope.specs.TypedLists.{TypedList, every-map, point-parts, linear-typed, pointWith-typed, listOf-typed, merged-typed}
 use Rattle.envelope.specs.TypedLookup.{FitsIf, maxNum-fits, minNum-fits, valueAt-fits}
-use Rattle.envelope.specs.TypedLaws.{parted, renewed-typed, merge-typed}
+use Rattle.envelope.specs.TypedLaws.{parted, withPoints-typed, anew-typed, holds-typed, outcome-typed}
 use Rattle.envelope.specs.declared.AutomationEnvelope.{AutomationEnvelope}
 use Rattle.envelope.specs.declared.edit.Join.{Join}
 use Rattle.envelope.specs.declared.edit.Join.the-variants.{Merge, Combine}
 
--- ---- a combination either refuses and keeps the first one's points, or holds a list that gives valid ones
-combine-either : (P : EditedPoints → Type 0) (op : Operation) (a b : Side) → ((n : Refusal) → P (refused (a .points) n))
-    → (validPoints (holding (combinedList op a b)) ≡ true → P (accepted (combinedList op a b))) → P (combinedPoints op a b)
-unfolding combinedPoints
-combine-either P op a b refusing holds =
-    judged-either P (a .points) (validSide a && validSide b) (plain (finiteOperation op) (combinedList op a b)) refusing (λ p. holds (p .makes))
+-- ---- what an edit that passes makes
 
-combine-fair : (op : Operation) (e other : AutomationEnvelope) → Fair e (combineOf op e other)
-unfolding combineOf
-combine-fair op e other =
-    combine-either (λ (r : EditedPoints). Fair e (renewed e r)) op (sideOf e) (sideOf other) (λ n. declines e (number n)) (λ v. renews e (combinedList op (sideOf e) (sideOf other)) v)
+successor-valid : (j : Join) (e other : AutomationEnvelope) → Passes (validEnvelope e && validEnvelope other) (joinProposal j e other)
+    → validEnvelope (joinSuccessor j e (joinProposal j e other .list)) ≡ true
+unfolding joinSuccessor
+successor-valid (Merge offset) e other q = kept-settings e (and-left (validEnvelope e) (validEnvelope other) (q .given)) (q .makes)
+successor-valid (Combine op) e other q = q .makes
+
+successor-target : (j : Join) (e other : AutomationEnvelope) → joinSuccessor j e (joinProposal j e other .list) .target ≡ e .target
+unfolding joinSuccessor
+successor-target (Merge offset) e other = refl
+successor-target (Combine op) e other = refl
 
 join-fair : (j : Join) (e other : AutomationEnvelope) → Fair e (joinOf j e other)
 unfolding joinOf
-join-fair (Merge offset) e other = merge-fair e other offset
-join-fair (Combine op) e other = combine-fair op e other
+join-fair j e other = outcome-fair e (validEnvelope e && validEnvelope other) (joinProposal j e other) _ (successor-valid j e other) (successor-target j e other)
 
 -- an accepted edit leaves a valid envelope
 pub join-valid : (j : Join) (e other : AutomationEnvelope) → joinOf j e other .said ≡ gives tt → validEnvelope (joinOf j e other .envelope) ≡ true
@@ -96,13 +93,17 @@ combinedList-typed op e other t u =
     (mergeTimes (timesOf (sideOf e)) (timesOf (sideOf other)))
     (merged-every (fits binary64) (timesOf (sideOf e)) (timesOf (sideOf other)) (times-fit e t) (times-fit other u))
 
-combinedPoints-typed : (op : Operation) (e other : AutomationEnvelope) → typed e ≡ true → typed other ≡ true → typedPoints (combinedPoints op (sideOf e) (sideOf other) .points) ≡ true
-combinedPoints-typed op e other t u =
-    let l = combinedList op (sideOf e) (sideOf other) in
-    combine-either (λ (r : EditedPoints). typedPoints (r .points) ≡ true) op (sideOf e) (sideOf other) (λ n. parted e t .points)
-    (λ v. holding-typed l (valid-count (holding l) v) (combinedList-typed op e other t u))
+successor-typed : (j : Join) (e other : AutomationEnvelope) → typed e ≡ true → typed other ≡ true → Passes (validEnvelope e && validEnvelope other) (joinProposal j e other)
+    → typed (joinSuccessor j e (joinProposal j e other .list)) ≡ true
+unfolding joinProposal joinSuccessor
+successor-typed (Merge offset) e other t u q =
+    let l = listOf (e .points) in
+    let m = listOf (other .points) in
+    withPoints-typed e (holding (merged l m offset)) t
+    (holds-typed (joinProposal (Merge offset) e other) q (merged-typed l (listOf-typed (e .points) (parted e t .points)) m offset (listOf-typed (other .points) (parted other u .points))))
+successor-typed (Combine op) e other t u q =
+    anew-typed e (combinedList op (sideOf e) (sideOf other)) t (holds-typed (joinProposal (Combine op) e other) q (combinedList-typed op e other t u))
 
 pub join-typed : (j : Join) (e other : AutomationEnvelope) → typed e ≡ true → typed other ≡ true → typed (joinOf j e other .envelope) ≡ true
-unfolding joinOf combineOf
-join-typed (Merge offset) e other t u = merge-typed e other offset t u
-join-typed (Combine op) e other t u = renewed-typed e (combinedPoints op (sideOf e) (sideOf other)) t (combinedPoints-typed op e other t u)
+unfolding joinOf
+join-typed j e other t u = outcome-typed e (validEnvelope e && validEnvelope other) (joinProposal j e other) _ t (successor-typed j e other t u)

@@ -2,7 +2,8 @@
 ghost use mathlib.Core.Path.{_≡_};
 ghost use Rattle.envelope.specs.Envelope.{new};
 ghost use Rattle.envelope.specs.declared.edit.Edit.the-variants.{OfPoints, Replace, SetEnabled, SetMin, SetMax, SetStep};
-ghost use Rattle.envelope.specs.Edit.{toldEdit, pointsEdited, replacedPoints, edited, renewed, setting, editOf, sideOf, mergeOf, combineOf, joinOf, withPoints, withSettings, refusedEdit};
+ghost use Rattle.envelope.specs.Edit.{toldEdit, pointsEdited, replacedPoints, edited, renewed, setting, editOf, sideOf, joinOf, withPoints, withSettings, refusedEdit};
+ghost use Rattle.envelope.specs.declared.edit.Join.the-variants.{Merge, Combine};
 use crate::AutomationEnvelope;
 use crate::Edited;
 use combine::Operation;
@@ -332,7 +333,7 @@ impl AutomationEnvelope {
 
     // The other's points, each at its time plus the offset.
     fn merge_with(self, other: AutomationEnvelope, offset: f64) -> Edited
-        ensures { λ r. ⌜ toldEdit r ≡ mergeOf self other offset ⌝ }
+        ensures { λ r. ⌜ toldEdit r ≡ joinOf (Merge offset) self other ⌝ }
     {
         let limits = other.limits();
         if limits.is_finite() {
@@ -346,7 +347,7 @@ impl AutomationEnvelope {
 
     // The operation on both values, at every time of either.
     fn combine_with(self, other: AutomationEnvelope, operation: Operation) -> Edited
-        ensures { λ r. ⌜ toldEdit r ≡ combineOf operation self other ⌝ }
+        ensures { λ r. ⌜ toldEdit r ≡ joinOf (Combine operation) self other ⌝ }
     {
         self.renew(combine::combine(operation, self.side(), other.side()))
     }

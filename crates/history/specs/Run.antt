@@ -1,31 +1,22 @@
 -- Every list of calls has its run, so the history theorem speaks of all of them. Assumes nothing.
 use Prim.Native.Nat.{ℕ}
 use mathlib.Core.Path.{_≡_, refl, ap}
-use mathlib.Core.Bool.{Bool}
+use mathlib.Core.Bool.{_&&_}
 use mathlib.Core.List.{List, [], _∷_}
 use mathlib.Core.Option.{Option, none, some}
 use Rattle.points.specs.Checks.{firstFailing}
 use Rattle.points.proofs.CheckLaws.{gate-either}
 use Rattle.points.specs.Refusal.{Said, refuses, gives, said, number}
 use Rattle.points.specs.Points.{listOf}
-use Rattle.points.specs.declared.refusal.Refusal.the-variants.{NotValid, StoredState}
+use Rattle.points.specs.declared.refusal.Refusal.the-variants.{StoredState}
 use Rattle.points.specs.declared.refusal.Answer.{Answer}
 use Rattle.points.specs.declared.refusal.Answer.the-variants.{Accepted, Refused}
-use Rattle.lookup.specs.Limits.{finiteLimits}
-use Rattle.envelope.specs.Envelope.{limitsOf, validEnvelope}
-use Rattle.envelope.specs.EditLaws.{either}
-use Rattle.envelope.specs.Edit.{EditTold, declined as declinedEdit, editOf, edited, replaced, setting, mergeOf, sideOf, combineOf, joinOf}
+use Rattle.envelope.specs.Envelope.{validEnvelope}
+use Rattle.envelope.specs.EditLaws.{outcome-either}
+use Rattle.envelope.specs.Edit.{EditTold, proposal, editOf, joinProposal, joinOf}
 use Rattle.envelope.specs.declared.AutomationEnvelope.{AutomationEnvelope}
 use Rattle.envelope.specs.declared.edit.Join.{Join}
-use Rattle.envelope.specs.declared.edit.Join.the-variants.{Merge, Combine}
 use Rattle.envelope.specs.declared.edit.Edit.{Edit}
-use Rattle.envelope.specs.declared.edit.Edit.the-variants.{OfPoints, Replace, SetEnabled, SetMin, SetMax, SetStep}
-use lib.Ieee.{Float}
-use Rattle.settle.specs.Settle.{plain}
-use Rattle.settle.specs.declared.EditedPoints.{EditedPoints}
-use Rattle.settle.proofs.Judging.{causes-either}
-use Rattle.insert.specs.Insert.{mergedPoints}
-use Rattle.combine.specs.Combine.{combinedPoints}
 use Rattle.state.specs.State.{unpacked}
 use Rattle.session.specs.Session.{stateAt, Called, declined, settled, exchanged}
 use Rattle.session.specs.Calls.{Entry, alone, joined, madeBy, Call, edit, back, forward, inTurn, testsOf, ownOf, callOf, Obeys, Ran, done, call}
@@ -48,36 +39,13 @@ EditAnswered t = Answered (t .said)
 abbrev CallAnswered : Called → Type 0
 CallAnswered x = Answered (x .said)
 
-edited-answered : (e : AutomationEnvelope) (r : EditedPoints) → Answered (edited e r .said)
-unfolding edited
-edited-answered e r = either EditAnswered (finiteLimits (limitsOf e)) (λ f. by (r .answer)) (by (Refused NotValid))
-
-replaced-answered : (e : AutomationEnvelope) (r : EditedPoints) → Answered (replaced e r .said)
-unfolding replaced
-replaced-answered e r = either EditAnswered (finiteLimits (limitsOf e)) (λ f. by (r .answer)) (by (Refused NotValid))
-
-setting-answered : (e : AutomationEnvelope) (ok : Bool) (new : AutomationEnvelope) → Answered (setting e ok new .said)
-unfolding setting
-setting-answered e ok new =
-    causes-either EditAnswered (λ r. declinedEdit e (number r)) (record { said = gives tt; envelope = new }) (validEnvelope e) (plain ok (listOf (e .points))) (λ r. by (Refused r)) (λ p. by Accepted)
-
 edit-answered : (d : Edit) (e : AutomationEnvelope) → Answered (editOf d e .said)
 unfolding editOf
-edit-answered (OfPoints d) e = edited-answered e _
-edit-answered (Replace d) e = replaced-answered e _
-edit-answered (SetEnabled on) e = setting-answered e _ _
-edit-answered (SetMin l) e = setting-answered e _ _
-edit-answered (SetMax l) e = setting-answered e _ _
-edit-answered (SetStep l) e = setting-answered e _ _
-
-merge-answered : (e o : AutomationEnvelope) (offset : Float) → Answered (mergeOf e o offset .said)
-unfolding mergeOf
-merge-answered e o offset = either EditAnswered (finiteLimits (limitsOf o)) (λ f. edited-answered e (mergedPoints (e .points) (o .points) offset)) (by (Refused NotValid))
+edit-answered d e = outcome-either e (validEnvelope e) (proposal d (listOf (e .points))) _ EditAnswered (λ r. by (Refused r)) (λ p. by Accepted)
 
 join-answered : (j : Join) (e o : AutomationEnvelope) → Answered (joinOf j e o .said)
-unfolding joinOf combineOf
-join-answered (Merge offset) e o = merge-answered e o offset
-join-answered (Combine op) e o = by (combinedPoints op (sideOf e) (sideOf o) .answer)
+unfolding joinOf
+join-answered j e o = outcome-either e (validEnvelope e && validEnvelope o) (joinProposal j e o) _ EditAnswered (λ r. by (Refused r)) (λ p. by Accepted)
 
 made-answered : (x : Entry) (e : AutomationEnvelope) → Answered (madeBy x e .said)
 made-answered (alone d) e = edit-answered d e

@@ -1,8 +1,11 @@
--- `envelope::AutomationEnvelope::combine_with` meets its contract. Assumes nothing.
+-- `AutomationEnvelope::combine_with` meets its contract. Assumes nothing.
 use mathlib.Core.Path.{ap, _∙_}
-use Rattle.settle.specs.declared.EditedPoints.{EditedPoints}
+use mathlib.Core.Bool.{_&&_}
 use Rattle.combine.specs.Combine.{combinedPoints}
-use Rattle.envelope.specs.Edit.{renewed, combineOf}
+use Rattle.envelope.specs.Envelope.{validEnvelope}
+use Rattle.envelope.specs.Edit.{renewed, joinProposal, joinOf}
+use Rattle.envelope.specs.declared.edit.Join.the-variants.{Combine}
+use Rattle.envelope.proofs.Outcomes.{renewed-is}
 use borrow.Author.Needs.{needs}
 use Rattle.envelope.proofs.AutomationEnvelope.combine_with.Statement.{statement}
 use Rattle.envelope.proofs.AutomationEnvelope.combine_with.Tie as tie
@@ -20,8 +23,13 @@ renew-requires : tie.Need-renew-requires
 renew-requires c κs = search needs
 
 returns : tie.Need-returns
-unfolding combineOf
-returns c = c .renew .ensures ∙ ap (λ (r : EditedPoints). renewed (c .before .before .before .before .args .self) r) (c .before .combine .ensures ∙ (λ i. combinedPoints (c .before .before .before .before .args .operation) (c .before .before .before .side .ensures i) (c .before .before .side2 .ensures i)))
+unfolding combinedPoints joinOf
+returns c =
+    let args = c .before .before .before .before .args in
+    let e = args .self in
+    let o = args .other in
+    let sides = c .before .combine .ensures ∙ (λ i. combinedPoints (args .operation) (c .before .before .before .side .ensures i) (c .before .before .side2 .ensures i)) in
+    c .renew .ensures ∙ ap (renewed e) sides ∙ renewed-is e (joinProposal (Combine (args .operation)) e o) (validEnvelope e && validEnvelope o)
 
 pub combine-with-spec : {M : Type 1} → statement M
 combine-with-spec =

@@ -1,8 +1,9 @@
+-- `AutomationEnvelope::edit_points` meets its contract. Assumes nothing.
 use mathlib.Core.Path.{sym, ap, _∙_}
+use Rattle.points.specs.Points.{listOf, validPoints}
 use Rattle.lookup.specs.Limits.{finiteLimits}
-use Rattle.lookup.specs.declared.Limits.{Limits}
-use Rattle.settle.specs.declared.EditedPoints.{EditedPoints}
-use Rattle.envelope.specs.Edit.{toldEdit, edited, editOf}
+use Rattle.envelope.specs.Edit.{toldEdit, proposed, pointsEdited, edited, editOf}
+use Rattle.envelope.proofs.Outcomes.{edited-is, limits-lost}
 use borrow.Author.Needs.{needs}
 use Rattle.envelope.proofs.AutomationEnvelope.edit_points.Statement.{statement}
 use Rattle.envelope.proofs.AutomationEnvelope.edit_points.Tie as tie
@@ -23,12 +24,18 @@ refuse-requires : tie.Need-refuse-requires
 refuse-requires c κs = search needs
 
 returns : tie.Need-returns
-unfolding editOf
-returns c = c .settle .ensures ∙ ap (λ (r : EditedPoints). edited (c .before .before .before .before .before .before .args .self) r) (c .before .apply .ensures)
+unfolding pointsEdited editOf
+returns c =
+    let args = c .before .before .before .before .before .before .args in
+    let ps = args .self .points in
+    c .settle .ensures ∙ ap (edited (args .self)) (c .before .apply .ensures) ∙ edited-is (args .self) (proposed (args .edit) (listOf ps)) (validPoints ps)
 
 returns-2 : tie.Need-returns-2
-unfolding editOf edited
-returns-2 c = rw (sym (c .before .before .is-finite .ensures ∙ ap (λ (l : Limits). finiteLimits l) (c .before .before .before .limits .ensures)) ∙ c .before .if1 .left) (ap toldEdit (c .refuse .ensures))
+unfolding editOf
+returns-2 c =
+    let args = c .before .before .before .before .args in
+    let l = sym (c .before .before .is-finite .ensures ∙ ap finiteLimits (c .before .before .before .limits .ensures)) ∙ c .before .if1 .left in
+    ap toldEdit (c .refuse .ensures) ∙ limits-lost (args .self) (proposed (args .edit) (listOf (args .self .points))) _ l
 
 pub edit-points-spec : {M : Type 1} → statement M
 edit-points-spec =

@@ -1,9 +1,12 @@
--- `envelope::AutomationEnvelope::merge_with` meets its contract. Assumes nothing.
+-- `AutomationEnvelope::merge_with` meets its contract. Assumes nothing.
 use mathlib.Core.Path.{sym, ap, _∙_}
+use mathlib.Core.Bool.{_&&_}
+use Rattle.points.specs.Points.{validPoints}
+use Rattle.insert.specs.Insert.{mergedPoints}
 use Rattle.lookup.specs.Limits.{finiteLimits}
-use Rattle.lookup.specs.declared.Limits.{Limits}
-use Rattle.settle.specs.declared.EditedPoints.{EditedPoints}
-use Rattle.envelope.specs.Edit.{toldEdit, edited, mergeOf}
+use Rattle.envelope.specs.Edit.{toldEdit, edited, joinProposal, joinOf}
+use Rattle.envelope.specs.declared.edit.Join.the-variants.{Merge}
+use Rattle.envelope.proofs.Outcomes.{edited-is, other-lost, other-pass}
 use borrow.Author.Needs.{needs}
 use Rattle.envelope.proofs.AutomationEnvelope.merge_with.Statement.{statement}
 use Rattle.envelope.proofs.AutomationEnvelope.merge_with.Tie as tie
@@ -24,16 +27,22 @@ refuse-requires : tie.Need-refuse-requires
 refuse-requires c κs = search needs
 
 returns : tie.Need-returns
-unfolding mergeOf
+unfolding mergedPoints joinOf
 returns c =
-    let f = sym (c .before .before .before .before .before .is-finite .ensures ∙ ap (λ (l : Limits). finiteLimits l) (c .before .before .before .before .before .before .limits .ensures)) ∙ c .before .before .before .before .if1 .taken in
-    rw f (c .settle .ensures ∙ ap (λ (r : EditedPoints). edited (c .before .before .before .before .before .before .before .args .self) r) (c .before .merge .ensures))
+    let args = c .before .before .before .before .before .before .before .args in
+    let e = args .self in
+    let o = args .other in
+    let p = joinProposal (Merge (args .offset)) e o in
+    let tested = c .before .before .before .before in
+    let l = sym (tested .before .is-finite .ensures ∙ ap finiteLimits (tested .before .before .limits .ensures)) ∙ tested .if1 .taken in
+    c .settle .ensures ∙ ap (edited e) (c .before .merge .ensures) ∙ edited-is e p (validPoints (e .points) && validPoints (o .points)) ∙ other-pass e p _ o l
 
 returns-2 : tie.Need-returns-2
-unfolding mergeOf
+unfolding joinOf
 returns-2 c =
-    let f = sym (c .before .before .is-finite .ensures ∙ ap (λ (l : Limits). finiteLimits l) (c .before .before .before .limits .ensures)) ∙ c .before .if1 .left in
-    rw f (ap toldEdit (c .refuse .ensures))
+    let args = c .before .before .before .before .args in
+    let l = sym (c .before .before .is-finite .ensures ∙ ap finiteLimits (c .before .before .before .limits .ensures)) ∙ c .before .if1 .left in
+    ap toldEdit (c .refuse .ensures) ∙ other-lost (args .self) (joinProposal (Merge (args .offset)) (args .self) (args .other)) _ (args .other) l
 
 pub merge-with-spec : {M : Type 1} → statement M
 merge-with-spec =

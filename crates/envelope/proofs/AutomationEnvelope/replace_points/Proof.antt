@@ -1,8 +1,9 @@
+-- `AutomationEnvelope::replace_points` meets its contract. Assumes nothing.
 use mathlib.Core.Path.{sym, ap, _∙_}
+use Rattle.points.specs.Points.{validPoints}
 use Rattle.lookup.specs.Limits.{finiteLimits}
-use Rattle.lookup.specs.declared.Limits.{Limits}
-use Rattle.settle.specs.declared.EditedPoints.{EditedPoints}
-use Rattle.envelope.specs.Edit.{toldEdit, renewed, replaced, editOf}
+use Rattle.envelope.specs.Edit.{toldEdit, constructed, replacedPoints, renewed, editOf}
+use Rattle.envelope.proofs.Outcomes.{renewed-is, limits-lost, limits-pass}
 use borrow.Author.Needs.{needs}
 use Rattle.envelope.proofs.AutomationEnvelope.replace_points.Statement.{statement}
 use Rattle.envelope.proofs.AutomationEnvelope.replace_points.Tie as tie
@@ -23,12 +24,20 @@ refuse-requires : tie.Need-refuse-requires
 refuse-requires c κs = search needs
 
 returns : tie.Need-returns
-unfolding editOf replaced
-returns c = rw (sym (c .before .before .before .before .is-finite .ensures ∙ ap (λ (l : Limits). finiteLimits l) (c .before .before .before .before .before .limits .ensures)) ∙ c .before .before .before .if1 .taken) (c .renew .ensures ∙ ap (λ (r : EditedPoints). renewed (c .before .before .before .before .before .before .args .self) r) (c .before .apply .ensures))
+unfolding replacedPoints editOf
+returns c =
+    let args = c .before .before .before .before .before .before .args in
+    let p = constructed (args .replacement) in
+    let tested = c .before .before .before in
+    let l = sym (tested .before .is-finite .ensures ∙ ap finiteLimits (tested .before .before .limits .ensures)) ∙ tested .if1 .taken in
+    c .renew .ensures ∙ ap (renewed (args .self)) (c .before .apply .ensures) ∙ renewed-is (args .self) p (validPoints (args .self .points)) ∙ limits-pass (args .self) p _ l
 
 returns-2 : tie.Need-returns-2
-unfolding editOf replaced
-returns-2 c = rw (sym (c .before .before .is-finite .ensures ∙ ap (λ (l : Limits). finiteLimits l) (c .before .before .before .limits .ensures)) ∙ c .before .if1 .left) (ap toldEdit (c .refuse .ensures))
+unfolding editOf
+returns-2 c =
+    let args = c .before .before .before .before .args in
+    let l = sym (c .before .before .is-finite .ensures ∙ ap finiteLimits (c .before .before .before .limits .ensures)) ∙ c .before .if1 .left in
+    ap toldEdit (c .refuse .ensures) ∙ limits-lost (args .self) (constructed (args .replacement)) _ l
 
 pub replace-points-spec : {M : Type 1} → statement M
 replace-points-spec =

@@ -3,7 +3,7 @@ use mathlib.Core.Path.{sym, ap, _∙_}
 use Rattle.points.specs.Refusal.{gives}
 use Rattle.envelope.specs.declared.AutomationEnvelope.{AutomationEnvelope}
 use Rattle.envelope.specs.Edit.{EditTold, toldEdit}
-use Rattle.envelope.proofs.Settings.{set-made, set-lost, set-invalid}
+use Rattle.envelope.proofs.Outcomes.{set-made, set-lost, set-invalid}
 use borrow.Author.Needs.{needs}
 use Rattle.envelope.proofs.AutomationEnvelope.set.Statement.{statement}
 use Rattle.envelope.proofs.AutomationEnvelope.set.Tie as tie

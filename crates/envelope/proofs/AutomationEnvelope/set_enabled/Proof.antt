@@ -1,3 +1,4 @@
+-- `AutomationEnvelope::set_enabled` meets its contract. Assumes nothing.
 use mathlib.Core.Path.{ap, _∙_}
 use mathlib.Core.Bool.{true}
 use Rattle.lookup.specs.declared.Limits.{Limits}
@@ -14,7 +15,9 @@ set-requires c κs = search needs
 
 returns : tie.Need-returns
 unfolding editOf
-returns c = c .set .ensures ∙ ap (λ (l : Limits). setting (c .before .before .args .self) true (withSettings (c .before .before .args .self) (c .before .before .args .enabled) l)) (c .before .limits .ensures)
+returns c =
+    let args = c .before .before .args in
+    c .set .ensures ∙ ap (λ (l : Limits). setting (args .self) true (withSettings (args .self) (args .enabled) l)) (c .before .limits .ensures)
 
 pub set-enabled-spec : {M : Type 1} → statement M
 set-enabled-spec = tie.close (tie.spec limits-requires set-requires returns)

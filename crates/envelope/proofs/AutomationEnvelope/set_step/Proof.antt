@@ -1,6 +1,9 @@
+-- `AutomationEnvelope::set_step` meets its contract. Assumes nothing.
 use mathlib.Core.Path.{_∙_}
-use Rattle.envelope.specs.Edit.{editOf}
-use Rattle.envelope.proofs.Settings.{tested}
+use Rattle.points.specs.Points.{listOf}
+use Rattle.envelope.specs.Edit.{successor, editOf}
+use Rattle.envelope.specs.declared.edit.Edit.the-variants.{SetStep}
+use Rattle.envelope.proofs.Outcomes.{tested}
 use borrow.Author.Needs.{needs}
 use Rattle.envelope.proofs.AutomationEnvelope.set_step.Statement.{statement}
 use Rattle.envelope.proofs.AutomationEnvelope.set_step.Tie as tie
@@ -13,7 +16,9 @@ set-requires c κs = search needs
 
 returns : tie.Need-returns
 unfolding editOf
-returns c = c .set .ensures ∙ tested _ _ (c .before .is-finite .ensures)
+returns c =
+    let args = c .before .before .args in
+    c .set .ensures ∙ tested (args .self) (successor (SetStep (args .step)) (args .self) (listOf (args .self .points))) (c .before .is-finite .ensures)
 
 pub set-step-spec : {M : Type 1} → statement M
 set-step-spec = tie.close (tie.spec is-finite-requires set-requires returns)

@@ -1,3 +1,5 @@
+use Rattle.settle.specs.Settle.{editPoints}
+use Rattle.pointwise.specs.Each.{clampedEdit}
 use Rattle.envelope.specs.Edit.{pointsEdited}
 use borrow.Author.Needs.{needs}
 use Rattle.envelope.proofs.edit.PointsEdit.apply.Statement.{statement}
@@ -132,75 +134,75 @@ apply-compression-requires : tie.Need-apply-compression-requires
 apply-compression-requires c κs = search needs
 
 returns : tie.Need-returns
-unfolding pointsEdited
+unfolding pointsEdited editPoints
 returns c = rw (c .before .before .self .given .1) (c .add-point .ensures)
 
 returns-2 : tie.Need-returns-2
-unfolding pointsEdited
+unfolding pointsEdited editPoints
 returns-2 c = rw (c .before .before .self2 .given .1) (c .remove-point-at .ensures)
 
 returns-3 : tie.Need-returns-3
-unfolding pointsEdited
+unfolding pointsEdited editPoints
 returns-3 c = rw (c .before .before .self3 .given .1) (c .shift-points .ensures)
 
 returns-4 : tie.Need-returns-4
-unfolding pointsEdited
+unfolding pointsEdited editPoints
 returns-4 c = rw (c .before .before .self4 .given .1) (c .scale-time .ensures)
 
 returns-5 : tie.Need-returns-5
-unfolding pointsEdited
+unfolding pointsEdited editPoints
 returns-5 c = rw (c .before .before .self5 .given .1) (c .trim .ensures)
 
 returns-6 : tie.Need-returns-6
-unfolding pointsEdited
+unfolding pointsEdited editPoints
 returns-6 c = rw (c .before .enum-told .given .1) (c .reverse .ensures)
 
 returns-7 : tie.Need-returns-7
-unfolding pointsEdited
+unfolding pointsEdited editPoints
 returns-7 c = rw (c .before .before .self6 .given .1) (c .invert-values .ensures)
 
 returns-8 : tie.Need-returns-8
-unfolding pointsEdited
+unfolding pointsEdited editPoints
 returns-8 c = rw (c .before .before .self7 .given .1) (c .quantize-time .ensures)
 
 returns-9 : tie.Need-returns-9
-unfolding pointsEdited
+unfolding pointsEdited editPoints
 returns-9 c = rw (c .before .before .self8 .given .1) (c .simplify .ensures)
 
 returns-10 : tie.Need-returns-10
-unfolding pointsEdited
+unfolding pointsEdited editPoints
 returns-10 c = rw (c .before .before .self9 .given .1) (c .normalize .ensures)
 
 returns-11 : tie.Need-returns-11
-unfolding pointsEdited
+unfolding pointsEdited editPoints
 returns-11 c = rw (c .before .before .self10 .given .1) (c .scale .ensures)
 
 returns-12 : tie.Need-returns-12
-unfolding pointsEdited
+unfolding pointsEdited editPoints
 returns-12 c = rw (c .before .before .self11 .given .1) (c .offset .ensures)
 
 returns-13 : tie.Need-returns-13
-unfolding pointsEdited
+unfolding pointsEdited clampedEdit
 returns-13 c = rw (c .before .before .self12 .given .1) (c .clamp-values .ensures)
 
 returns-14 : tie.Need-returns-14
-unfolding pointsEdited
+unfolding pointsEdited editPoints
 returns-14 c = rw (c .before .before .self13 .given .1) (c .apply-fade-in .ensures)
 
 returns-15 : tie.Need-returns-15
-unfolding pointsEdited
+unfolding pointsEdited editPoints
 returns-15 c = rw (c .before .before .self14 .given .1) (c .apply-fade-out .ensures)
 
 returns-16 : tie.Need-returns-16
-unfolding pointsEdited
+unfolding pointsEdited editPoints
 returns-16 c = rw (c .before .before .self15 .given .1) (c .apply-fades .ensures)
 
 returns-17 : tie.Need-returns-17
-unfolding pointsEdited
+unfolding pointsEdited editPoints
 returns-17 c = rw (c .before .before .self16 .given .1) (c .apply-gate .ensures)
 
 returns-18 : tie.Need-returns-18
-unfolding pointsEdited
+unfolding pointsEdited editPoints
 returns-18 c = rw (c .before .before .self17 .given .1) (c .apply-compression .ensures)
 
 pub apply-spec : {M : Type 1} → statement M

@@ -1,3 +1,4 @@
+use Rattle.settle.specs.Settle.{editPoints}
 use Rattle.envelope.specs.Edit.{replacedPoints}
 use borrow.Author.Needs.{needs}
 use Rattle.envelope.proofs.edit.Replacement.apply.Statement.{statement}
@@ -34,19 +35,19 @@ ramp-requires : tie.Need-ramp-requires
 ramp-requires c κs = search needs
 
 returns : tie.Need-returns
-unfolding replacedPoints
+unfolding replacedPoints editPoints
 returns c = rw (c .before .before .self .given .1) (c .fade-in .ensures)
 
 returns-2 : tie.Need-returns-2
-unfolding replacedPoints
+unfolding replacedPoints editPoints
 returns-2 c = rw (c .before .before .self2 .given .1) (c .fade-out .ensures)
 
 returns-3 : tie.Need-returns-3
-unfolding replacedPoints
+unfolding replacedPoints editPoints
 returns-3 c = rw (c .before .before .self3 .given .1) (c .pulse .ensures)
 
 returns-4 : tie.Need-returns-4
-unfolding replacedPoints
+unfolding replacedPoints editPoints
 returns-4 c = rw (c .before .before .self4 .given .1) (c .ramp .ensures)
 
 pub apply-spec : {M : Type 1} → statement M
