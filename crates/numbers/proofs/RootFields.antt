@@ -16,7 +16,8 @@ use lib.Ieee.Digits.{size-lt}
 use borrow.Author.Tests.{leb-false, ne-eqb}
 use Rattle.numbers.specs.Order.{negative}
 use Rattle.numbers.specs.Root.{root, rootUnits, sqrt}
-use Rattle.numbers.specs.Tests.{yes, compared}
+use Rattle.numbers.specs.Tests.{yes, no}
+use Rattle.numbers.proofs.Compare.{lt-right}
 use Rattle.numbers.proofs.Halves.{zero-over}
 use Rattle.numbers.proofs.Signs.{negative-bits}
 use Rattle.numbers.proofs.Rounded.{pow-lt-back, toBits-inf, units-no-nan}
@@ -28,7 +29,7 @@ nought = fin false 0 (pos 0)
 
 -- ---- above zero: no NaN, and no sign
 pub over-number : (x : Float) → T (lt nought x) → T (not (isNan x))
-over-number x h = compared nought x (is-true (lt nought x) h) .1
+over-number x h = no (lt-right nought x (is-true (lt nought x) h))
 
 over-sign : (x : Float) → T (lt nought x) → negative x ≡ false
 unfolding lt

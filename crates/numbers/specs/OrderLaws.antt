@@ -2,7 +2,7 @@
 -- A pattern without its sign is `code` of the size in units, which grows with the size: an infinity's size is `overflow`, above every finite one.
 use mathlib.Core.Path.{_≡_, refl, sym, ap, _∙_, subst}
 use mathlib.Core.Logic.{⊎-elim}
-use mathlib.Core.Bool.{Bool, true, false, not, _&&_, cond, false≢true}
+use mathlib.Core.Bool.{Bool, true, false, not, _&&_, cond}
 use Prim.Native.Nat.{ℕ, _+_, _-_, _*_, _/_, _^_, _≤_, _<_}
 use native.Mathlib.Nat.{le-of-eq, le-of-lt, le-trans, lt-of-lt-of-le, lt-of-not-le, not-le-of-lt, eq-or-lt-of-le, add-assoc, one-mul, mul-assoc, mul-div-cancel, mul-le-mul-right, mul-lt-mul-of-pos-right, le-of-mul-le-mul-right, suc-mul, div-lt-iff-lt-mul, le-div-iff-mul-le}
 use native.Mathlib.Numerals.{add-one}
@@ -18,6 +18,7 @@ use lib.Ieee.Order.{transfer}
 use lib.Ieee.Scale.{overflow}
 use borrow.Author.Tests.{ltb-true, ltb-false, lt-ltb, le-ltb}
 use Rattle.numbers.specs.Order.{negative, before, orderKey}
+use Rattle.numbers.specs.Tests.{no}
 use Rattle.numbers.specs.Units.{says, unitsOf, units-whole, units-under}
 
 -- ---- two tests that agree
@@ -208,8 +209,8 @@ unfolding orderKey toBits
 key-nan = refl
 
 -- every number's key is below it
-early : (x : Float) → T (fits binary64 x) → T (not (isNan x)) → orderKey x < orderKey nan
-early x F n = go (negative x) (bare x) (orderKey x) (orderKey nan) (key-is x F n) (bare-le x F) key-nan
+pub number-key : (x : Float) → T (fits binary64 x) → isNan x ≡ false → orderKey x < orderKey nan
+number-key x F p = go (negative x) (bare x) (orderKey x) (orderKey nan) (key-is x F (no p)) (bare-le x F) key-nan
   where
     go : (s : Bool) (c k l : ℕ) → k ≡ keyOf s c → c ≤ 0x7FF0_0000_0000_0000 → l ≡ 0xFFF8_0000_0000_0000 → k < l
     go false c k l e h g = omega arith
@@ -236,33 +237,19 @@ by-key x y F G p q =
 last : (y : Float) → T (fits binary64 y) → orderKey y ≤ orderKey nan
 unfolding isNan
 last nan G = le-of-eq refl
-last (inf s) G = le-of-lt (early (inf s) G tt)
-last (fin s m e) G = le-of-lt (early (fin s m e) G tt)
+last (inf s) G = le-of-lt (number-key (inf s) G refl)
+last (fin s m e) G = le-of-lt (number-key (fin s m e) G refl)
 
 -- x is before y exactly where its key is smaller
 pub before-key : (x y : Float) → T (fits binary64 x) → T (fits binary64 y) → before x y ≡ ltb (orderKey x) (orderKey y)
 unfolding before isNan
 before-key nan y F G = sym (le-ltb (orderKey nan) (orderKey y) (last y G))
-before-key (inf s) nan F G = sym (lt-ltb (orderKey (inf s)) (orderKey nan) (early (inf s) F tt))
-before-key (fin s m e) nan F G = sym (lt-ltb (orderKey (fin s m e)) (orderKey nan) (early (fin s m e) F tt))
+before-key (inf s) nan F G = sym (lt-ltb (orderKey (inf s)) (orderKey nan) (number-key (inf s) F refl))
+before-key (fin s m e) nan F G = sym (lt-ltb (orderKey (fin s m e)) (orderKey nan) (number-key (fin s m e) F refl))
 before-key (inf s) (inf t) F G = by-key (inf s) (inf t) F G tt tt
 before-key (inf s) (fin t n d) F G = by-key (inf s) (fin t n d) F G tt tt
 before-key (fin s m e) (inf t) F G = by-key (fin s m e) (inf t) F G tt tt
 before-key (fin s m e) (fin t n d) F G = by-key (fin s m e) (fin t n d) F G tt tt
-
-lt-before : (x y : Float) → lt x y ≡ true → before x y ≡ true
-unfolding before lt isNan
-lt-before nan y h = absurd (false≢true h)
-lt-before (inf s) nan h = absurd (false≢true h)
-lt-before (fin s m e) nan h = absurd (false≢true h)
-lt-before (inf s) (inf t) h = rw h
-lt-before (inf s) (fin t n d) h = rw h
-lt-before (fin s m e) (inf t) h = rw h
-lt-before (fin s m e) (fin t n d) h = rw h
-
--- so is a smaller number's
-pub lt-key : (x y : Float) → T (fits binary64 x) → T (fits binary64 y) → lt x y ≡ true → orderKey x < orderKey y
-lt-key x y F G h = ltb-true (orderKey x) (orderKey y) (sym (before-key x y F G) ∙ lt-before x y h)
 
 -- no two values have the same key
 pub key-same : (x y : Float) → T (fits binary64 x) → T (fits binary64 y) → orderKey x ≡ orderKey y → x ≡ y
@@ -283,9 +270,4 @@ key-same x y F G h =
 
 -- a key is a `u64`
 pub key-lt : (x : Float) → T (fits binary64 x) → orderKey x < 2 ^ 64
-unfolding orderKey
-key-lt x F = go (toBits binary64 x) (toBits-lt binary64 x F) (ltb (toBits binary64 x) 0x8000_0000_0000_0000) refl
-  where
-    go : (b : ℕ) → b < 2 ^ 64 → (t : Bool) → ltb b 0x8000_0000_0000_0000 ≡ t → cond t (b + 0x8000_0000_0000_0000) (0xFFFF_FFFF_FFFF_FFFF - b) < 2 ^ 64
-    go b h true e = omega (arith, ltb-true b 0x8000_0000_0000_0000 e)
-    go b h false e = omega arith
+key-lt x F = omega (arith, last x F, key-nan)

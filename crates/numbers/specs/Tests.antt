@@ -1,6 +1,6 @@
 -- Laws: a test's answer as a fact. Assumes nothing.
 use mathlib.Core.Path.{_≡_, refl, sym, _∙_, subst}
-use mathlib.Core.Bool.{Bool, true, false, not, _&&_, false≢true}
+use mathlib.Core.Bool.{Bool, true, false, not, _&&_}
 use Prim.Native.Nat.{_*_}
 use lib.Dec.{T, eqb, eqb-refl}
 use lib.Ieee.{Float, nan, inf, fin, up, down, lt, eq, ne, isNan}
@@ -24,17 +24,6 @@ nan-test (fin false m e) = rw (is-true (eqb (m * up e * down e) (m * up e * down
 
 pub equals-itself : (x : Float) → ne x x ≡ false → T (not (isNan x))
 equals-itself x h = no (nan-test x ∙ h)
-
--- what is smaller or larger than something is no NaN
-pub compared : (x y : Float) → lt x y ≡ true → T (not (isNan x)) × T (not (isNan y))
-unfolding lt isNan
-compared nan y h = absurd (false≢true h)
-compared (inf s) nan h = absurd (false≢true h)
-compared (fin s m e) nan h = absurd (false≢true h)
-compared (inf s) (inf t) h = (tt, tt)
-compared (inf s) (fin t n d) h = (tt, tt)
-compared (fin s m e) (inf t) h = (tt, tt)
-compared (fin s m e) (fin t n d) h = (tt, tt)
 
 -- what is finite lies between the infinities
 pub finite-test : (x : Float) → (lt x (inf false) && lt (inf true) x) ≡ finite x

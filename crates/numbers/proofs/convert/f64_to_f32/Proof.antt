@@ -5,14 +5,15 @@ use mathlib.Core.Bool.{Bool, true, false, not, cond}
 use Prim.Native.Nat.{ℕ, _+_, _-_, _*_, _/_, _%_, _^_, _≤_, _<_}
 use native.Mathlib.Omega.{arith}
 use lib.Dec.{T, ltb}
-use lib.Ieee.{Float, nan, binary32, binary64, lt, fits, isNan, nanBits, div, ofBits, toBits}
+use lib.Ieee.{Float, nan, binary32, binary64, lt, fits, isNan, nanBits, ofBits, toBits}
 use lib.Ieee.Bits.{ofBits-toBits, ofBits-fits}
 use lib.Ieee.Compare.{differs-from-itself}
 use borrow.Author.Tests.{ltb-false}
 use Rattle.numbers.specs.Narrow.{narrow}
 use Rattle.numbers.specs.Order.{orderKey}
-use Rattle.numbers.specs.OrderLaws.{lt-key}
-use Rattle.numbers.specs.Tests.{yes, equals-itself, compared}
+use Rattle.numbers.specs.Tests.{yes, no, equals-itself}
+use Rattle.numbers.proofs.BitLaws.{zero-by-zero}
+use Rattle.numbers.proofs.Compare.{lt-left, lt-key}
 use Rattle.numbers.proofs.Narrowing.{narrow-fits, narrow-number, plain}
 use Rattle.numbers.proofs.Rounded.{bits-lt, bits-back, bits-no-nan}
 use Rattle.numbers.proofs.convert.f64_to_f32.Statement.{statement}
@@ -55,10 +56,10 @@ between x F p q = go (orderKey x) (toBits binary64 x) (ltb (toBits binary64 x) 0
     go k b true e h l r = (omega arith, omega arith)
     go k b false e h l r = absurd (omega (arith, ltb-false b 0x8000_0000_0000_0000 e))
 
--- ---- 0.0 / 0.0 as MIR has it
-zero-by-zero : div binary32 (ofBits binary32 0) (ofBits binary32 0) ≡ narrow nan
-unfolding div ofBits narrow
-zero-by-zero = refl
+-- ---- a NaN stays
+narrow-nan : nan ≡ narrow nan
+unfolding narrow
+narrow-nan = refl
 
 back : (x : Float) → T (fits binary64 x) → ofBits binary64 (toBits binary64 x) ≡ x
 back x F = ofBits-toBits binary64 x F
@@ -77,7 +78,7 @@ module _ (c : tie.Then2) where
   inside = between x held (c .before .if1 .taken) (c .if2 .taken)
 
   number : T (not (isNan x))
-  number = compared x hi (c .if2 .taken) .0
+  number = no (lt-left x hi (c .if2 .taken))
 
   rounded : (b + 268435455 + b / 536870912 % 2) / 536870912 - 7516192768 ≡ toBits binary32 (narrow x)
   rounded = plain b (inside .0) (inside .1) ∙ ap (λ (v : Float). toBits binary32 (narrow v)) (back x held)
@@ -104,7 +105,7 @@ returns : tie.Need-returns
 returns c = narrow-back (x c) _ (number c) (rounded c)
 
 returns-2 : tie.Need-returns-2
-returns-2 c = zero-by-zero ∙ ap narrow (sym (differs-from-itself (c .before .before .args .x) (yes (c .if3 .taken))))
+returns-2 c = zero-by-zero binary32 ∙ narrow-nan ∙ ap narrow (sym (differs-from-itself (c .before .before .args .x) (yes (c .if3 .taken))))
 
 -- ---- the general way
 module _ (c : tie.Else3) where

@@ -5,7 +5,8 @@ use native.Mathlib.Omega.{arith}
 use lib.Dec.{le→leb}
 use lib.Ieee.{inFloat}
 use borrow.Author.Needs.{needs}
-use Rattle.numbers.specs.Tests.{compared}
+use Rattle.numbers.specs.Tests.{no}
+use Rattle.numbers.proofs.Compare.{lt-right}
 use Rattle.numbers.proofs.root.guess.Statement.{statement}
 use Rattle.numbers.proofs.root.guess.Tie as tie
 
@@ -14,7 +15,7 @@ unfolding inFloat
 int-to-float-y c = le→leb (c .before .args .m) (2 ^ 53) (omega arith)
 
 float-to-bits-result : tie.Need-float-to-bits-result
-float-to-bits-result c = compared _ _ (c .if1 .taken) .1
+float-to-bits-result c = no (lt-right _ _ (c .if1 .taken))
 
 returns : tie.Need-returns
 returns c = search needs

@@ -15,9 +15,9 @@ square r h = mul-le-mul {n₁ = r} {m₁ = r} {n₂ = 2 ^ 25} {m₂ = 2 ^ 25} (o
 small : (r n : ℕ) → r * r + r < n → n < 2 ^ 48 → r < 2 ^ 24
 small r n h k = below r (2 ^ 24) n (2 ^ 48) (omega arith) k refl
 
-positive : (r n : ℕ) → 0 < n → n + r ≤ r * r → 1 ≤ r
-positive zero n p h = absurd (omega (arith, zero-mul 0))
-positive (suc r) n p h = omega arith
+positive : (r n k : ℕ) → 0 < n → n + k ≤ r * r → 1 ≤ r
+positive zero n k p h = absurd (omega (arith, zero-mul 0))
+positive (suc r) n k p h = omega arith
 
 -- one down
 down : (q r n : ℕ) → r ≡ q + 1 → n + r ≤ r * r → n ≤ q * q + q
@@ -72,7 +72,7 @@ mul-loop2 : tie.Need-mul-loop2 Inv-loop μ-loop Inv-loop2 μ-loop2
 mul-loop2 c = omega (arith, square (c .loop2 .r) (c .loop2 .inv .0))
 
 sub-r : tie.Need-sub-r Inv-loop μ-loop Inv-loop2 μ-loop2
-sub-r c = positive (c .before .loop2 .r) _ (omega arith) (c .loop2-test .taken)
+sub-r c = positive (c .before .loop2 .r) _ _ (omega arith) (c .loop2-test .taken)
 
 loop2-less : tie.Need-loop2-less Inv-loop μ-loop Inv-loop2 μ-loop2
 loop2-less c = omega (arith, sub-r c)

@@ -1,21 +1,17 @@
 -- `numbers::root::sqrtf` meets its contract: above zero the root is read back from its pattern, a zero is its own root, and all else is a NaN.
 -- Assumes nothing.
-use mathlib.Core.Path.{_≡_, refl, sym, ap, _∙_, subst}
+use mathlib.Core.Path.{_≡_, sym, ap, _∙_, subst}
 use native.Mathlib.Nat.{lt-of-lt-of-le}
 use lib.Dec.{T, lit≤}
-use lib.Ieee.{Float, nan, binary32, lt, div, fits, ofBits, toBits}
+use lib.Ieee.{Float, nan, binary32, lt, fits, ofBits, toBits}
 use lib.Ieee.Bits.{ofBits-toBits, toBits-lt}
 use Rattle.numbers.specs.Root.{sqrt}
 use Rattle.numbers.specs.Tests.{yes, no}
+use Rattle.numbers.proofs.BitLaws.{zero-by-zero}
 use Rattle.numbers.proofs.Rounded.{bits-lt, bits-back, bits-no-nan}
 use Rattle.numbers.proofs.RootFields.{nought, over-number, sqrt-over, zero-root, no-root}
 use Rattle.numbers.proofs.root.sqrtf.Statement.{statement}
 use Rattle.numbers.proofs.root.sqrtf.Tie as tie
-
--- 0.0 / 0.0 as MIR has it
-zero-by-zero : div binary32 (ofBits binary32 0) (ofBits binary32 0) ≡ nan
-unfolding div ofBits
-zero-by-zero = refl
 
 module _ (c : tie.Then1) where
   abbrev x : Float
@@ -61,7 +57,7 @@ unfolding ofBits
 none c = no-root binary32 (c .before .before .args .x) (no (c .before .if1 .left)) (no (c .if2 .left))
 
 returns-3 : tie.Need-returns-3
-returns-3 c = zero-by-zero ∙ none c
+returns-3 c = zero-by-zero binary32 ∙ none c
 
 pub sqrtf-spec : {M : Type 1} → statement M
 sqrtf-spec =
