@@ -14,6 +14,7 @@ use Rattle.numbers.specs.Whole.{roundAway}
 use Rattle.numbers.specs.Bounds.{finite}
 use Rattle.numbers.specs.Order.{before, orderKey}
 use Rattle.numbers.specs.OrderLaws.{before-key}
+use Rattle.numbers.proofs.Compare.{finite-number}
 use Rattle.grid.specs.Grid.{quantizedTime, KeepsOrder}
 use Rattle.grid.proofs.Rounds.{Rounds, keeps-order, gives-number}
 
@@ -120,12 +121,6 @@ zero-most : (d : ℤ) → le (fin false 0 d) (fin false 0 (pos 0)) ≡ true
 unfolding le lt eq
 zero-most d = rw (zero-mul (up d), zero-mul (down d))
 
-number-of : (x : Float) → finite x ≡ true → isNan x ≡ false
-unfolding finite isNan
-number-of nan h = absurd (false≢true h)
-number-of (inf s) h = refl
-number-of (fin s m e) h = refl
-
 pub quantized-keeps-order : KeepsOrder
 unfolding finite
 quantized-keeps-order nan a b g l F G p q h = absurd (false≢true g)
@@ -136,4 +131,4 @@ quantized-keeps-order (fin false (suc n) d) a b g l F G p q h =
     let grid = fin false (suc n) d in
     ltb-false (orderKey (quantizedTime grid b)) (orderKey (quantizedTime grid a))
     (sym (before-key (quantizedTime grid b) (quantizedTime grid a) (mul-fits binary64 _ _) (mul-fits binary64 _ _))
-    ∙ quantized-order n d a b (number-of a p) (number-of b q) (before-key b a G F ∙ le-ltb (orderKey b) (orderKey a) h))
+    ∙ quantized-order n d a b (finite-number a p) (finite-number b q) (before-key b a G F ∙ le-ltb (orderKey b) (orderKey a) h))

@@ -1,4 +1,3 @@
 pub mod Fits
-pub mod TimeOrder
 pub mod Segments
 pub mod Writing

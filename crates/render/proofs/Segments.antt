@@ -32,7 +32,8 @@ use Rattle.render.specs.Writer.{segmentOf, segmentAround, segmentAt, ins
 use Rattle.lookup.specs.declared.Limits.{Limits}
 use Rattle.render.specs.declared.Segment.{Segment}
 use Rattle.render.specs.declared.Ends.{Ends}
-use Rattle.render.proofs.TimeOrder.{lt-left, lt-right, finite-number, le-not, lt-key, number-key, lt-around}
+use Rattle.numbers.specs.OrderLaws.{number-key}
+use Rattle.numbers.proofs.Compare.{lt-left, lt-right, finite-number, le-not, lt-key, lt-around}
 
 every-at : {A : Type 0} (q : A → Bool) (l : List A) (j : ℕ) (d : A) → every q l ≡ true → j < length l → q (getD l j d) ≡ true
 unfolding every
