@@ -1,6 +1,6 @@
 // The envelopes that are measured, made of lent lists, and what is shown of one.
 ghost use mathlib.Core.Path.{_≡_};
-ghost use Prim.Native.Nat.{_≤_, min};
+ghost use Prim.Native.Nat.{min};
 use curve::CurveType;
 use envelope::AutomationEnvelope;
 use lookup::Limit;
@@ -32,14 +32,6 @@ pub(crate) fn point(time: f64, value: f32, curve: CurveType) -> AutomationPoint 
         value,
         curve,
     }
-}
-
-// The value's pattern; a NaN has one.
-pub(crate) fn pattern(v: f32) -> u32 {
-    if v != v {
-        return 2143289344;
-    }
-    f32::to_bits(v)
 }
 
 // A point for each time, with its value and the curve of that code.

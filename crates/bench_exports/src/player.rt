@@ -1,8 +1,7 @@
 // The Player's calls, each so many times on one envelope.
-ghost use mathlib.Core.Path.{_≡_};
 use crate::made::made;
-use crate::made::pattern;
 use lookup::Lookup;
+use numbers::bits::to_bitsf;
 use points::refusal::Answer;
 
 fn wide(x: u32) -> u64 {
@@ -13,7 +12,7 @@ fn wide(x: u32) -> u64 {
 pub(crate) fn bits(answer: Lookup) -> u64 {
     match answer {
         Lookup::Silent => 0,
-        Lookup::Value(v) => wide(pattern(v)),
+        Lookup::Value(v) => wide(to_bitsf(v)),
         Lookup::Refused(_) => 1,
     }
 }

@@ -1,10 +1,9 @@
 // The analyses, each so many times on one envelope.
-ghost use mathlib.Core.Path.{_≡_};
 use crate::made::made;
-use crate::made::pattern;
 use crate::player::bits;
 use analysis::Found;
 use analysis::Range;
+use numbers::bits::to_bitsf;
 
 fn joined(high: u32, low: u32) -> u64 {
     high as u64 * 4294967296 + low as u64
@@ -14,7 +13,7 @@ fn joined(high: u32, low: u32) -> u64 {
 fn range_bits(answer: Range) -> u64 {
     match answer {
         Range::None => 0,
-        Range::Pair(low, high) => joined(pattern(low), pattern(high)),
+        Range::Pair(low, high) => joined(to_bitsf(low), to_bitsf(high)),
         Range::Refused(_) => 1,
     }
 }

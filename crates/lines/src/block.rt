@@ -51,10 +51,10 @@ fn block_form(t: &[u8; 256], s: &[u8], at: usize) -> BlockForm
 fn block_of(r: RawBlock) -> BlockSaid
     ensures { λ o. ⌜ toldBlock o ≡ blockMeaning r ⌝ }
 {
-    if !crate::point::finite64(r.rate) {
+    if !numbers::bits::finite_bits(r.rate) {
         return BlockSaid::Refused(Refusal::NotFinite);
     }
-    if !crate::point::finite64(r.duration) {
+    if !numbers::bits::finite_bits(r.duration) {
         return BlockSaid::Refused(Refusal::NotFinite);
     }
     BlockSaid::Is(Block {

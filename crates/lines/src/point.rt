@@ -2,8 +2,6 @@
 ghost use mathlib.Core.Path.{_≡_};
 ghost use Prim.Native.Nat.{_<_};
 ghost use lib.ListN.{drop};
-ghost use lib.Ieee.{binary32, binary64, ofBits};
-ghost use Rattle.numbers.specs.Bounds.{finite};
 ghost use Rattle.fields.specs.Told.{DigitTable};
 ghost use Rattle.lines.specs.Lines.{controlsForm, pointForm, positionOf, pointMeaning, pointLine};
 ghost use Rattle.lines.specs.Told.{toldControls, toldPointForm, toldPoint, toldPointLine};
@@ -99,19 +97,6 @@ fn point_form(t: &[u8; 256], s: &[u8], at: usize) -> PointForm
     )
 }
 
-// Whether the bits are a finite number's: the exponent is not the largest.
-pub(crate) fn finite32(b: u32) -> bool
-    ensures { λ r. ⌜ r ≡ finite (ofBits binary32 b) ⌝ }
-{
-    b % 0x8000_0000 / 0x0080_0000 != 255
-}
-
-pub(crate) fn finite64(b: u64) -> bool
-    ensures { λ r. ⌜ r ≡ finite (ofBits binary64 b) ⌝ }
-{
-    b % 0x8000_0000_0000_0000 / 0x0010_0000_0000_0000 != 2047
-}
-
 fn position_of(p: Optional) -> SamplePosition
     ensures { λ r. ⌜ r ≡ positionOf p ⌝ }
 {
@@ -126,10 +111,10 @@ fn point_of(r: RawPoint) -> PointSaid
     ensures { λ o. ⌜ toldPoint o ≡ pointMeaning r ⌝ }
 {
     let position = r.position;
-    if !finite64(r.time) {
+    if !numbers::bits::finite_bits(r.time) {
         return PointSaid::Refused(Refusal::NotFinite);
     }
-    if !finite32(r.value) {
+    if !numbers::bits::finite_bitsf(r.value) {
         return PointSaid::Refused(Refusal::NotFinite);
     }
     if r.curve == 6 {
@@ -138,10 +123,10 @@ fn point_of(r: RawPoint) -> PointSaid
     if 22 <= r.curve {
         return PointSaid::Refused(Refusal::SheetCurve);
     }
-    if !finite32(r.cp1) {
+    if !numbers::bits::finite_bitsf(r.cp1) {
         return PointSaid::Refused(Refusal::NotFinite);
     }
-    if !finite32(r.cp2) {
+    if !numbers::bits::finite_bitsf(r.cp2) {
         return PointSaid::Refused(Refusal::NotFinite);
     }
     let cp1 = f32::from_bits(r.cp1);

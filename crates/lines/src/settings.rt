@@ -83,7 +83,7 @@ fn finite_bits(p: Optional) -> bool
 {
     match p {
         Optional::None => true,
-        Optional::Bits(b) => crate::point::finite32(b as u32),
+        Optional::Bits(b) => numbers::bits::finite_bitsf(b as u32),
     }
 }
 

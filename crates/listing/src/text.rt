@@ -4,7 +4,6 @@ ghost use mathlib.Core.Path.{_≡_};
 ghost use mathlib.Core.Bool.{true};
 ghost use Prim.Native.Nat.{_≤_, _^_, min};
 ghost use lib.ListN.{length};
-ghost use lib.Ieee.{binary32, binary64, ofBits};
 ghost use Rattle.listing.specs.Fields.{Within, Below};
 
 // The place after what was looked for.
@@ -205,25 +204,6 @@ pub fn decimal_at(s: &[u8], at: usize) -> Word
     decimal_after(s, at, b" ")
 }
 
-// The number of a pattern; every NaN's pattern gives the one NaN.
-pub fn single_of(b: u32) -> f32
-    ensures { λ r. ⌜ r ≡ ofBits binary32 b ⌝ }
-{
-    if 0x7F80_0000 < b % 0x8000_0000 {
-        return 0.0 / 0.0;
-    }
-    f32::from_bits(b)
-}
-
-fn double_of(b: u64) -> f64
-    ensures { λ r. ⌜ r ≡ ofBits binary64 b ⌝ }
-{
-    if 0x7FF0_0000_0000_0000 < b % 0x8000_0000_0000_0000 {
-        return 0.0 / 0.0;
-    }
-    f64::from_bits(b)
-}
-
 // A field of a u64.
 pub fn word_at(s: &[u8], at: usize) -> Word {
     hexadecimal(s, at, 16)
@@ -232,7 +212,7 @@ pub fn word_at(s: &[u8], at: usize) -> Word {
 // A field of an f32.
 pub fn single_at(s: &[u8], at: usize) -> Single {
     match hexadecimal(s, at, 8) {
-        Word::Is(b, next) => Single::Is(single_of(b as u32), next),
+        Word::Is(b, next) => Single::Is(numbers::bits::from_bitsf(b as u32), next),
         Word::Bad => Single::Bad,
     }
 }
@@ -240,7 +220,7 @@ pub fn single_at(s: &[u8], at: usize) -> Single {
 // A field of an f64.
 pub fn double_at(s: &[u8], at: usize) -> Double {
     match hexadecimal(s, at, 16) {
-        Word::Is(b, next) => Double::Is(double_of(b), next),
+        Word::Is(b, next) => Double::Is(numbers::bits::from_bits(b), next),
         Word::Bad => Double::Bad,
     }
 }
@@ -269,25 +249,13 @@ pub fn two_singles_at(s: &[u8], at: usize) -> Singles {
 pub fn same_single(x: f32, y: f32) -> bool
     ensures { λ r. ⌜ (r ≡ true → x ≡ y) × (x ≡ y → r ≡ true) ⌝ }
 {
-    if x != x {
-        return y != y;
-    }
-    if y != y {
-        return false;
-    }
-    f32::to_bits(x) == f32::to_bits(y)
+    numbers::bits::to_bitsf(x) == numbers::bits::to_bitsf(y)
 }
 
 pub fn same_double(x: f64, y: f64) -> bool
     ensures { λ r. ⌜ (r ≡ true → x ≡ y) × (x ≡ y → r ≡ true) ⌝ }
 {
-    if x != x {
-        return y != y;
-    }
-    if y != y {
-        return false;
-    }
-    f64::to_bits(x) == f64::to_bits(y)
+    numbers::bits::to_bits(x) == numbers::bits::to_bits(y)
 }
 
 // The place after a field that says y. A zero marked `~` says either zero.

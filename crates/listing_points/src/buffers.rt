@@ -10,13 +10,12 @@ use listing::text::decimal_after;
 use listing::text::ended;
 use listing::text::same_single;
 use listing::text::says_single;
-use listing::text::single_of;
 use points::refusal::Answer;
 
 // What place i holds before the call.
 fn mark(i: usize) -> f32 {
     if i < 1024 {
-        return single_of(0x4B00_0000 + i as u32);
+        return numbers::bits::from_bitsf(0x4B00_0000 + i as u32);
     }
     0.0
 }

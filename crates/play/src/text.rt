@@ -1,8 +1,6 @@
 // The lines that are printed. Each function that puts something returns the place after it.
-ghost use mathlib.Core.Path.{_≡_};
 ghost use Prim.Native.Nat.{_+_, _*_, _≤_};
 ghost use lib.ListN.{length, take};
-ghost use lib.Ieee.{binary32, toBits};
 ghost use Rattle.points.specs.Refusal.{number};
 ghost use Rattle.fields.specs.Told.{Put};
 ghost use Rattle.play.specs.Play.{sampleLine, sampleLines, refusalText};
@@ -18,22 +16,13 @@ pub(crate) fn put_refusal(out: &mut [u8], why: Refusal, line: u32) -> usize
     fields::write::fit_decimal(&mut *out, b, line, b'\n')
 }
 
-// A sample's bits. A NaN's are not determined: it is printed as the quiet one without a sign.
-fn bits_of(x: f32) -> u32
-    ensures { λ r. ⌜ r ≡ toBits binary32 x ⌝ }
-{
-    if x != x {
-        return 0x7FC0_0000;
-    }
-    f32::to_bits(x)
-}
-
+// A sample's number and its bits. A NaN is printed as the quiet one without a sign.
 fn put_line(out: &mut [u8], at: usize, number: u32, x: f32) -> usize
     requires { ⌜ at + 20 ≤ length (now out) ⌝ }
     ensures { λ r. ⌜ Put (now (out .entry)) at (sampleLine number x) (now (out .exit)) r ⌝ }
 {
     let a = fields::write::fit_decimal(&mut *out, at, number, b' ');
-    fields::write::fit_bits(&mut *out, a, bits_of(x), b'\n')
+    fields::write::fit_bits(&mut *out, a, numbers::bits::to_bitsf(x), b'\n')
 }
 
 // The lines of the first n samples, numbered from `first` on.

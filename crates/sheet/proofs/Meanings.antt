@@ -9,6 +9,7 @@ use lib.Ieee.Bits.{ofBits-toBits, toBits-ofBits, nanBits-is, toBits-lt}
 use borrow.Author.Tests.{ltb-true, eqb-true, eqb-false}
 use Rattle.numbers.specs.Bounds.{finite}
 use Rattle.numbers.specs.Tests.{yes}
+use Rattle.numbers.proofs.BitLaws.{finite-no-nan}
 use Rattle.curve.specs.Curve.{code, controls, curveOf, known, finiteControls}
 use Rattle.curve.specs.Laws.{code-lt, code-known, curveOf-code, code-curveOf, plain-controls}
 use Rattle.curve.specs.declared.Controls.{Controls}
@@ -35,7 +36,6 @@ use Rattle.fields.specs.declared.Optional.the-variants as optional
 use Rattle.lines.specs.declared.settings.RawSettings.{RawSettings}
 use Rattle.lines.specs.declared.settings.Settings.{Settings}
 use Rattle.lines.specs.declared.point.RawPoint.{RawPoint}
-use Rattle.lines.proofs.Floats.{finite-no-nan}
 use Rattle.sheet.proofs.LineForms.{FineSettings, FinePoint}
 use Rattle.sheet.proofs.Valid.{finite-time, finite-value, finite-cp1, finite-cp2, finite-min, finite-max, finite-step}
 

@@ -1,4 +1,3 @@
 pub mod Good
-pub mod Floats
 pub mod Words
 pub mod Calls

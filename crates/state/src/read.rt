@@ -1,10 +1,8 @@
 // Reading an envelope from lent words.
 ghost use mathlib.Core.Path.{_≡_};
-ghost use mathlib.Core.Bool.{_&&_};
 ghost use Prim.Native.Nat.{_+_, _<_, _≤_};
 ghost use lib.Dec.{eqb};
 ghost use lib.ListN.{length, take, drop};
-ghost use lib.Ieee.{binary32, binary64, ofBits};
 ghost use Rattle.points.specs.Points.{everyPair};
 ghost use Rattle.points.specs.declared.refusal.Refusal.the-variants.{StoredState};
 ghost use Rattle.envelope.specs.Envelope.{new};
@@ -20,57 +18,32 @@ use points::SamplePosition;
 use points::refusal::Answer;
 use points::refusal::Refusal;
 
-// The float of a pattern, whatever NaN it is.
-fn float64(b: u64) -> f64
-    ensures { λ r. ⌜ r ≡ ofBits binary64 b ⌝ }
-{
-    if 0x7FF0_0000_0000_0000 < b % 0x8000_0000_0000_0000 {
-        0.0 / 0.0
-    } else {
-        f64::from_bits(b)
-    }
-}
-
 // The halves of a word.
-fn high(w: u64) -> u64
+fn high(w: u64) -> u32
     ensures { λ r. ⌜ r ≡ high w ⌝ }
-    ensures { λ r. ⌜ r < 0x1_0000_0000 ⌝ }
 {
-    w / 0x1_0000_0000
+    (w / 0x1_0000_0000) as u32
 }
 
-fn low(w: u64) -> u64
+fn low(w: u64) -> u32
     ensures { λ r. ⌜ r ≡ low w ⌝ }
-    ensures { λ r. ⌜ r < 0x1_0000_0000 ⌝ }
 {
-    w % 0x1_0000_0000
+    (w % 0x1_0000_0000) as u32
 }
 
 // The bit of worth d.
-fn bit(d: u64, n: u64) -> bool
+fn bit(d: u32, n: u32) -> bool
     requires { ⌜ 0 < d ⌝ }
     ensures { λ r. ⌜ r ≡ bit d n ⌝ }
 {
     n / d % 2 == 1
 }
 
-fn float32(b: u64) -> f32
-    requires { ⌜ b < 0x1_0000_0000 ⌝ }
-    ensures { λ r. ⌜ r ≡ ofBits binary32 b ⌝ }
-{
-    if 0x7F80_0000 < b % 0x8000_0000 {
-        0.0 / 0.0
-    } else {
-        f32::from_bits(b as u32)
-    }
-}
-
-fn limit_of(has: bool, bits: u64) -> Limit
-    requires { ⌜ bits < 0x1_0000_0000 ⌝ }
+fn limit_of(has: bool, bits: u32) -> Limit
     ensures { λ r. ⌜ r ≡ limitOf has bits ⌝ }
 {
     if has {
-        Limit::Number(float32(bits))
+        Limit::Number(numbers::bits::from_bitsf(bits))
     } else {
         Limit::None
     }
@@ -94,13 +67,13 @@ fn read_point(words: &[u64], at: usize) -> AutomationPoint
     let controls = words[at + 2];
     let value = words[at + 3];
     let tag = high(value);
-    let cp1 = float32(low(controls));
-    let cp2 = float32(high(controls));
+    let cp1 = numbers::bits::from_bitsf(low(controls));
+    let cp2 = numbers::bits::from_bitsf(high(controls));
     AutomationPoint {
-        time: float64(words[at]),
+        time: numbers::bits::from_bits(words[at]),
         sample_position: position_of(bit(1, tag), words[at + 1]),
-        value: float32(low(value)),
-        curve: CurveType::from_code((tag / 2) as u32, cp1, cp2),
+        value: numbers::bits::from_bitsf(low(value)),
+        curve: CurveType::from_code(tag / 2, cp1, cp2),
     }
 }
 
@@ -111,7 +84,7 @@ fn same_point(p: AutomationPoint, words: &[u64], at: usize) -> bool
 {
     let position = p.sample_position;
     let curve = p.curve;
-    (crate::write::bits64(p.time) == words[at])
+    (numbers::bits::to_bits(p.time) == words[at])
         & ((crate::write::position_word(position) == words[at + 1])
             & ((crate::write::controls_word(curve) == words[at + 2])
                 & (crate::write::value_word(p) == words[at + 3])))
@@ -163,7 +136,7 @@ fn with_places(words: &[u64], places: [AutomationPoint; 256]) -> AutomationEnvel
         places,
     };
     AutomationEnvelope {
-        target: low(first) as u32,
+        target: low(first),
         points,
         enabled: bit(1, flags),
         min_value: limit_of(bit(2, flags), low(bounds)),
@@ -183,7 +156,7 @@ fn same_settings(envelope: AutomationEnvelope, words: &[u64]) -> bool
     (crate::write::flags_word(envelope.target, envelope.enabled, limits) == words[0])
         & ((points.count as u64 == words[1])
             & ((crate::write::bounds_word(limits) == words[2])
-                & (crate::write::limit_bits(step) == words[3])))
+                & (crate::write::limit_bits(step) as u64 == words[3])))
 }
 
 fn no_state() -> Edited

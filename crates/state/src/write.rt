@@ -4,7 +4,6 @@ ghost use mathlib.Core.List.{_++_};
 ghost use Prim.Native.Nat.{_+_, _<_, _≤_};
 ghost use lib.ListN.{length, drop};
 ghost use lib.Seq.{sets};
-ghost use lib.Ieee.{binary32, binary64, toBits};
 ghost use Rattle.points.specs.Refusal.{said};
 ghost use Rattle.state.specs.State.{halves, flag, hasLimit, limitBits, hasPosition, positionWord, flags, boundsWord, controlsWord, valueWord, packSettings, packPoint, pack, writeState};
 use curve::CurveType;
@@ -16,36 +15,14 @@ use points::SamplePosition;
 use points::refusal::Answer;
 use points::refusal::Refusal;
 
-// A float's pattern. A NaN's is not determined, so it gets the positive quiet one.
-pub(crate) fn bits64(x: f64) -> u64
-    ensures { λ r. ⌜ r ≡ toBits binary64 x ⌝ }
-{
-    if x != x {
-        0x7FF8_0000_0000_0000
-    } else {
-        f64::to_bits(x)
-    }
-}
-
-pub(crate) fn bits32(x: f32) -> u64
-    ensures { λ r. ⌜ r ≡ toBits binary32 x ⌝ }
-    ensures { λ r. ⌜ r < 0x1_0000_0000 ⌝ }
-{
-    if x != x {
-        0x7FC0_0000
-    } else {
-        f32::to_bits(x) as u64
-    }
-}
-
-fn flag(b: bool) -> u64
+fn flag(b: bool) -> u32
     ensures { λ r. ⌜ r ≡ flag b ⌝ }
     ensures { λ r. ⌜ r < 2 ⌝ }
 {
     if b { 1 } else { 0 }
 }
 
-fn limit_flag(l: Limit) -> u64
+fn limit_flag(l: Limit) -> u32
     ensures { λ r. ⌜ r ≡ flag (hasLimit l) ⌝ }
     ensures { λ r. ⌜ r < 2 ⌝ }
 {
@@ -55,17 +32,16 @@ fn limit_flag(l: Limit) -> u64
     }
 }
 
-pub(crate) fn limit_bits(l: Limit) -> u64
+pub(crate) fn limit_bits(l: Limit) -> u32
     ensures { λ r. ⌜ r ≡ limitBits l ⌝ }
-    ensures { λ r. ⌜ r < 0x1_0000_0000 ⌝ }
 {
     match l {
         Limit::None => 0,
-        Limit::Number(x) => bits32(x),
+        Limit::Number(x) => numbers::bits::to_bitsf(x),
     }
 }
 
-fn position_flag(p: SamplePosition) -> u64
+fn position_flag(p: SamplePosition) -> u32
     ensures { λ r. ⌜ r ≡ flag (hasPosition p) ⌝ }
     ensures { λ r. ⌜ r < 2 ⌝ }
 {
@@ -86,6 +62,13 @@ pub(crate) fn position_word(p: SamplePosition) -> u64
 
 // ---- the words
 
+// The word of its halves.
+fn halves(high: u32, low: u32) -> u64
+    ensures { λ r. ⌜ r ≡ halves high low ⌝ }
+{
+    high as u64 * 0x1_0000_0000 + low as u64
+}
+
 // The flags, and the target.
 pub(crate) fn flags_word(target: u32, enabled: bool, limits: Limits) -> u64
     ensures { λ r. ⌜ r ≡ halves (flags enabled limits) target ⌝ }
@@ -93,9 +76,10 @@ pub(crate) fn flags_word(target: u32, enabled: bool, limits: Limits) -> u64
     let min = limits.min_value;
     let max = limits.max_value;
     let step = limits.step_size;
-    (flag(enabled) + 2 * limit_flag(min) + 4 * limit_flag(max) + 8 * limit_flag(step))
-        * 0x1_0000_0000
-        + target as u64
+    halves(
+        flag(enabled) + 2 * limit_flag(min) + 4 * limit_flag(max) + 8 * limit_flag(step),
+        target,
+    )
 }
 
 // The maximum and the minimum.
@@ -104,7 +88,7 @@ pub(crate) fn bounds_word(limits: Limits) -> u64
 {
     let min = limits.min_value;
     let max = limits.max_value;
-    limit_bits(max) * 0x1_0000_0000 + limit_bits(min)
+    halves(limit_bits(max), limit_bits(min))
 }
 
 // The control numbers of a Bezier curve.
@@ -112,7 +96,7 @@ pub(crate) fn controls_word(curve: CurveType) -> u64
     ensures { λ r. ⌜ r ≡ controlsWord curve ⌝ }
 {
     if let CurveType::Bezier(cp1, cp2) = curve {
-        bits32(cp2) * 0x1_0000_0000 + bits32(cp1)
+        halves(numbers::bits::to_bitsf(cp2), numbers::bits::to_bitsf(cp1))
     } else {
         0
     }
@@ -124,7 +108,10 @@ pub(crate) fn value_word(p: AutomationPoint) -> u64
 {
     let curve = p.curve;
     let position = p.sample_position;
-    ((curve.code() as u64) * 2 + position_flag(position)) * 0x1_0000_0000 + bits32(p.value)
+    halves(
+        curve.code() * 2 + position_flag(position),
+        numbers::bits::to_bitsf(p.value),
+    )
 }
 
 // ---- the stores
@@ -139,7 +126,7 @@ fn put_settings(envelope: AutomationEnvelope, words: &mut [u64])
     words[0] = flags_word(envelope.target, envelope.enabled, limits);
     words[1] = points.count as u64;
     words[2] = bounds_word(limits);
-    words[3] = limit_bits(step);
+    words[3] = limit_bits(step) as u64;
 }
 
 // A point, from the place `at`.
@@ -149,7 +136,7 @@ fn put_point(p: AutomationPoint, words: &mut [u64], at: usize)
 {
     let position = p.sample_position;
     let curve = p.curve;
-    words[at] = bits64(p.time);
+    words[at] = numbers::bits::to_bits(p.time);
     words[at + 1] = position_word(position);
     words[at + 2] = controls_word(curve);
     words[at + 3] = value_word(p);

@@ -3,45 +3,42 @@ use borrow.Author.Tests.{not-true, not-false}
 use lib.Ieee.{binary64}
 use Rattle.lines.specs.Lines.{blockMeaning}
 use Rattle.lines.specs.Told.{toldBlock}
-use Rattle.lines.proofs.Floats.{finite-no-nan}
+use Rattle.numbers.proofs.BitLaws.{finite-no-nan}
 use borrow.Author.Needs.{needs}
 use Rattle.lines.proofs.block.block_of.Statement.{statement}
 use Rattle.lines.proofs.block.block_of.Tie as tie
-use Rattle.lines.proofs.block.block_of.Reads as reads
-use Rattle.lines.proofs.block.block_of.Lts as lts
-use Rattle.lines.proofs.point.finite64.Reads as finite64-reads
 
-finite64-requires : tie.Need-finite64-requires
-finite64-requires c κs = search needs
+finite-bits-requires : tie.Need-finite-bits-requires
+finite-bits-requires c κs = search needs
 
 returns : tie.Need-returns
 unfolding blockMeaning toldBlock
-returns c = rw (sym (c .before .finite64 .ensures) ∙ not-true _ (c .if1 .taken))
+returns c = rw (sym (c .before .finite-bits .ensures) ∙ not-true _ (c .if1 .taken))
 
-finite64-requires-2 : tie.Need-finite64-requires-2
-finite64-requires-2 c κs = search needs
+finite-bits-requires-2 : tie.Need-finite-bits-requires-2
+finite-bits-requires-2 c κs = search needs
 
 returns-2 : tie.Need-returns-2
 unfolding blockMeaning toldBlock
-returns-2 c = rw (sym (c .before .before .before .finite64 .ensures) ∙ not-false _ (c .before .before .if1 .left), sym (c .before .finite642 .ensures) ∙ not-true _ (c .if2 .taken))
+returns-2 c = rw (sym (c .before .before .before .finite-bits .ensures) ∙ not-false _ (c .before .before .if1 .left), sym (c .before .finite-bits2 .ensures) ∙ not-true _ (c .if2 .taken))
 
 float-from-bits-t6 : tie.Need-float-from-bits-t6
-float-from-bits-t6 c = finite-no-nan binary64 _ (sym (c .before .before .before .before .finite64 .ensures) ∙ not-false _ (c .before .before .before .if1 .left))
+float-from-bits-t6 c = finite-no-nan binary64 _ (sym (c .before .before .before .before .finite-bits .ensures) ∙ not-false _ (c .before .before .before .if1 .left))
 
 float-from-bits-t7 : tie.Need-float-from-bits-t7
-float-from-bits-t7 c = finite-no-nan binary64 _ (sym (c .before .before .before .finite642 .ensures) ∙ not-false _ (c .before .before .if2 .left))
+float-from-bits-t7 c = finite-no-nan binary64 _ (sym (c .before .before .before .finite-bits2 .ensures) ∙ not-false _ (c .before .before .if2 .left))
 
 returns-3 : tie.Need-returns-3
 unfolding blockMeaning toldBlock
-returns-3 c = rw (sym (c .before .before .before .before .before .finite64 .ensures) ∙ not-false _ (c .before .before .before .before .if1 .left), sym (c .before .before .before .finite642 .ensures) ∙ not-false _ (c .before .before .if2 .left))
+returns-3 c = rw (sym (c .before .before .before .before .before .finite-bits .ensures) ∙ not-false _ (c .before .before .before .before .if1 .left), sym (c .before .before .before .finite-bits2 .ensures) ∙ not-false _ (c .before .before .if2 .left))
 
 pub block-of-spec : {M : Type 1} → statement M
 block-of-spec =
     tie.close
     (tie.spec
-    finite64-requires
+    finite-bits-requires
     returns
-    finite64-requires-2
+    finite-bits-requires-2
     returns-2
     float-from-bits-t6
     float-from-bits-t7

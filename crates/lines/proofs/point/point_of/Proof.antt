@@ -3,58 +3,52 @@ use borrow.Author.Tests.{eq-eqb, ne-eqb, lt-ltb, le-ltb, not-true, not-false}
 use lib.Ieee.{binary32, binary64}
 use Rattle.lines.specs.Lines.{pointMeaning}
 use Rattle.lines.specs.Told.{toldPoint}
-use Rattle.lines.proofs.Floats.{finite-no-nan}
+use Rattle.numbers.proofs.BitLaws.{finite-no-nan}
 use borrow.Author.Needs.{needs}
 use Rattle.lines.proofs.point.point_of.Statement.{statement}
 use Rattle.lines.proofs.point.point_of.Tie as tie
-use Rattle.lines.proofs.point.point_of.Reads as reads
-use Rattle.lines.proofs.point.point_of.Lts as lts
-use Rattle.curve.proofs.CurveType.from_code.Reads as from-code-reads
-use Rattle.lines.proofs.point.finite32.Reads as finite32-reads
-use Rattle.lines.proofs.point.finite64.Reads as finite64-reads
-use Rattle.lines.proofs.point.position_of.Reads as position-of-reads
 
-finite64-requires : tie.Need-finite64-requires
-finite64-requires c κs = search needs
+finite-bits-requires : tie.Need-finite-bits-requires
+finite-bits-requires c κs = search needs
 
 returns : tie.Need-returns
 unfolding pointMeaning toldPoint
-returns c = rw (sym (c .before .finite64 .ensures) ∙ not-true _ (c .if1 .taken))
+returns c = rw (sym (c .before .finite-bits .ensures) ∙ not-true _ (c .if1 .taken))
 
-finite32-requires : tie.Need-finite32-requires
-finite32-requires c κs = search needs
+finite-bitsf-requires : tie.Need-finite-bitsf-requires
+finite-bitsf-requires c κs = search needs
 
 returns-2 : tie.Need-returns-2
 unfolding pointMeaning toldPoint
-returns-2 c = rw (sym (c .before .before .before .finite64 .ensures) ∙ not-false _ (c .before .before .if1 .left), sym (c .before .finite32 .ensures) ∙ not-true _ (c .if2 .taken))
+returns-2 c = rw (sym (c .before .before .before .finite-bits .ensures) ∙ not-false _ (c .before .before .if1 .left), sym (c .before .finite-bitsf .ensures) ∙ not-true _ (c .if2 .taken))
 
 returns-3 : tie.Need-returns-3
 unfolding pointMeaning toldPoint
-returns-3 c = rw (sym (c .before .before .before .before .before .finite64 .ensures) ∙ not-false _ (c .before .before .before .before .if1 .left), sym (c .before .before .before .finite32 .ensures) ∙ not-false _ (c .before .before .if2 .left), eq-eqb _ _ (c .if3 .taken))
+returns-3 c = rw (sym (c .before .before .before .before .before .finite-bits .ensures) ∙ not-false _ (c .before .before .before .before .if1 .left), sym (c .before .before .before .finite-bitsf .ensures) ∙ not-false _ (c .before .before .if2 .left), eq-eqb _ _ (c .if3 .taken))
 
 returns-4 : tie.Need-returns-4
 unfolding pointMeaning toldPoint
-returns-4 c = rw (sym (c .before .before .before .before .before .before .before .finite64 .ensures) ∙ not-false _ (c .before .before .before .before .before .before .if1 .left), sym (c .before .before .before .before .before .finite32 .ensures) ∙ not-false _ (c .before .before .before .before .if2 .left), ne-eqb _ _ (c .before .before .if3 .left), le-ltb _ _ (c .if4 .taken))
+returns-4 c = rw (sym (c .before .before .before .before .before .before .before .finite-bits .ensures) ∙ not-false _ (c .before .before .before .before .before .before .if1 .left), sym (c .before .before .before .before .before .finite-bitsf .ensures) ∙ not-false _ (c .before .before .before .before .if2 .left), ne-eqb _ _ (c .before .before .if3 .left), le-ltb _ _ (c .if4 .taken))
 
-finite32-requires-2 : tie.Need-finite32-requires-2
-finite32-requires-2 c κs = search needs
+finite-bitsf-requires-2 : tie.Need-finite-bitsf-requires-2
+finite-bitsf-requires-2 c κs = search needs
 
 returns-5 : tie.Need-returns-5
 unfolding pointMeaning toldPoint
-returns-5 c = rw (sym (c .before .before .before .before .before .before .before .before .before .finite64 .ensures) ∙ not-false _ (c .before .before .before .before .before .before .before .before .if1 .left), sym (c .before .before .before .before .before .before .before .finite32 .ensures) ∙ not-false _ (c .before .before .before .before .before .before .if2 .left), ne-eqb _ _ (c .before .before .before .before .if3 .left), lt-ltb _ _ (c .before .before .if4 .left), sym (c .before .finite322 .ensures) ∙ not-true _ (c .if5 .taken))
+returns-5 c = rw (sym (c .before .before .before .before .before .before .before .before .before .finite-bits .ensures) ∙ not-false _ (c .before .before .before .before .before .before .before .before .if1 .left), sym (c .before .before .before .before .before .before .before .finite-bitsf .ensures) ∙ not-false _ (c .before .before .before .before .before .before .if2 .left), ne-eqb _ _ (c .before .before .before .before .if3 .left), lt-ltb _ _ (c .before .before .if4 .left), sym (c .before .finite-bitsf2 .ensures) ∙ not-true _ (c .if5 .taken))
 
-finite32-requires-3 : tie.Need-finite32-requires-3
-finite32-requires-3 c κs = search needs
+finite-bitsf-requires-3 : tie.Need-finite-bitsf-requires-3
+finite-bitsf-requires-3 c κs = search needs
 
 returns-6 : tie.Need-returns-6
 unfolding pointMeaning toldPoint
-returns-6 c = rw (sym (c .before .before .before .before .before .before .before .before .before .before .before .finite64 .ensures) ∙ not-false _ (c .before .before .before .before .before .before .before .before .before .before .if1 .left), sym (c .before .before .before .before .before .before .before .before .before .finite32 .ensures) ∙ not-false _ (c .before .before .before .before .before .before .before .before .if2 .left), ne-eqb _ _ (c .before .before .before .before .before .before .if3 .left), lt-ltb _ _ (c .before .before .before .before .if4 .left), sym (c .before .before .before .finite322 .ensures) ∙ not-false _ (c .before .before .if5 .left), sym (c .before .finite323 .ensures) ∙ not-true _ (c .if6 .taken))
+returns-6 c = rw (sym (c .before .before .before .before .before .before .before .before .before .before .before .finite-bits .ensures) ∙ not-false _ (c .before .before .before .before .before .before .before .before .before .before .if1 .left), sym (c .before .before .before .before .before .before .before .before .before .finite-bitsf .ensures) ∙ not-false _ (c .before .before .before .before .before .before .before .before .if2 .left), ne-eqb _ _ (c .before .before .before .before .before .before .if3 .left), lt-ltb _ _ (c .before .before .before .before .if4 .left), sym (c .before .before .before .finite-bitsf2 .ensures) ∙ not-false _ (c .before .before .if5 .left), sym (c .before .finite-bitsf3 .ensures) ∙ not-true _ (c .if6 .taken))
 
 float-from-bits-cp1 : tie.Need-float-from-bits-cp1
-float-from-bits-cp1 c = finite-no-nan binary32 _ (sym (c .before .before .before .before .finite322 .ensures) ∙ not-false _ (c .before .before .before .if5 .left))
+float-from-bits-cp1 c = finite-no-nan binary32 _ (sym (c .before .before .before .before .finite-bitsf2 .ensures) ∙ not-false _ (c .before .before .before .if5 .left))
 
 float-from-bits-cp2 : tie.Need-float-from-bits-cp2
-float-from-bits-cp2 c = finite-no-nan binary32 _ (sym (c .before .before .before .finite323 .ensures) ∙ not-false _ (c .before .before .if6 .left))
+float-from-bits-cp2 c = finite-no-nan binary32 _ (sym (c .before .before .before .finite-bitsf3 .ensures) ∙ not-false _ (c .before .before .if6 .left))
 
 from-code-requires : tie.Need-from-code-requires
 from-code-requires c κs = search needs
@@ -63,28 +57,28 @@ position-of-requires : tie.Need-position-of-requires
 position-of-requires c κs = search needs
 
 float-from-bits-t15 : tie.Need-float-from-bits-t15
-float-from-bits-t15 c = finite-no-nan binary64 _ (sym (c .before .before .before .before .before .before .before .before .before .before .before .before .before .before .before .before .finite64 .ensures) ∙ not-false _ (c .before .before .before .before .before .before .before .before .before .before .before .before .before .before .before .if1 .left))
+float-from-bits-t15 c = finite-no-nan binary64 _ (sym (c .before .before .before .before .before .before .before .before .before .before .before .before .before .before .before .before .finite-bits .ensures) ∙ not-false _ (c .before .before .before .before .before .before .before .before .before .before .before .before .before .before .before .if1 .left))
 
 float-from-bits-t16 : tie.Need-float-from-bits-t16
-float-from-bits-t16 c = finite-no-nan binary32 _ (sym (c .before .before .before .before .before .before .before .before .before .before .before .before .before .before .before .finite32 .ensures) ∙ not-false _ (c .before .before .before .before .before .before .before .before .before .before .before .before .before .before .if2 .left))
+float-from-bits-t16 c = finite-no-nan binary32 _ (sym (c .before .before .before .before .before .before .before .before .before .before .before .before .before .before .before .finite-bitsf .ensures) ∙ not-false _ (c .before .before .before .before .before .before .before .before .before .before .before .before .before .before .if2 .left))
 
 returns-7 : tie.Need-returns-7
 unfolding pointMeaning toldPoint
-returns-7 c = rw (sym (c .before .before .before .before .before .before .before .before .before .before .before .before .before .before .before .before .before .finite64 .ensures) ∙ not-false _ (c .before .before .before .before .before .before .before .before .before .before .before .before .before .before .before .before .if1 .left), sym (c .before .before .before .before .before .before .before .before .before .before .before .before .before .before .before .finite32 .ensures) ∙ not-false _ (c .before .before .before .before .before .before .before .before .before .before .before .before .before .before .if2 .left), ne-eqb _ _ (c .before .before .before .before .before .before .before .before .before .before .before .before .if3 .left), lt-ltb _ _ (c .before .before .before .before .before .before .before .before .before .before .if4 .left), sym (c .before .before .before .before .before .before .before .before .before .finite322 .ensures) ∙ not-false _ (c .before .before .before .before .before .before .before .before .if5 .left), sym (c .before .before .before .before .before .before .before .finite323 .ensures) ∙ not-false _ (c .before .before .before .before .before .before .if6 .left), c .before .before .before .from-code .ensures, c .before .before .position-of .ensures)
+returns-7 c = rw (sym (c .before .before .before .before .before .before .before .before .before .before .before .before .before .before .before .before .before .finite-bits .ensures) ∙ not-false _ (c .before .before .before .before .before .before .before .before .before .before .before .before .before .before .before .before .if1 .left), sym (c .before .before .before .before .before .before .before .before .before .before .before .before .before .before .before .finite-bitsf .ensures) ∙ not-false _ (c .before .before .before .before .before .before .before .before .before .before .before .before .before .before .if2 .left), ne-eqb _ _ (c .before .before .before .before .before .before .before .before .before .before .before .before .if3 .left), lt-ltb _ _ (c .before .before .before .before .before .before .before .before .before .before .if4 .left), sym (c .before .before .before .before .before .before .before .before .before .finite-bitsf2 .ensures) ∙ not-false _ (c .before .before .before .before .before .before .before .before .if5 .left), sym (c .before .before .before .before .before .before .before .finite-bitsf3 .ensures) ∙ not-false _ (c .before .before .before .before .before .before .if6 .left), c .before .before .before .from-code .ensures, c .before .before .position-of .ensures)
 
 pub point-of-spec : {M : Type 1} → statement M
 point-of-spec =
     tie.close
     (tie.spec
-    finite64-requires
+    finite-bits-requires
     returns
-    finite32-requires
+    finite-bitsf-requires
     returns-2
     returns-3
     returns-4
-    finite32-requires-2
+    finite-bitsf-requires-2
     returns-5
-    finite32-requires-3
+    finite-bitsf-requires-3
     returns-6
     float-from-bits-cp1
     float-from-bits-cp2

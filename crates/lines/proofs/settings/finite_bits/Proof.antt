@@ -3,9 +3,6 @@ use Rattle.lines.specs.Lines.{finiteBits}
 use borrow.Author.Needs.{needs}
 use Rattle.lines.proofs.settings.finite_bits.Statement.{statement}
 use Rattle.lines.proofs.settings.finite_bits.Tie as tie
-use Rattle.lines.proofs.settings.finite_bits.Reads as reads
-use Rattle.lines.proofs.settings.finite_bits.Lts as lts
-use Rattle.lines.proofs.point.finite32.Reads as finite32-reads
 
 enum-told : tie.Need-enum-told
 enum-told c = search needs
@@ -13,11 +10,11 @@ enum-told c = search needs
 enum-known-p : tie.Need-enum-known-p
 enum-known-p c = search needs
 
-cast-finite32 : tie.Need-cast-finite32
-cast-finite32 c = omega (arith, rw (c .before .p .given .1) at (c .before .before .before .pre))
+cast-finite-bitsf : tie.Need-cast-finite-bitsf
+cast-finite-bitsf c = omega (arith, rw (c .before .p .given .1) at (c .before .before .before .pre))
 
-finite32-requires : tie.Need-finite32-requires
-finite32-requires c κs = search needs
+finite-bitsf-requires : tie.Need-finite-bitsf-requires
+finite-bitsf-requires c κs = search needs
 
 returns : tie.Need-returns
 unfolding finiteBits
@@ -25,8 +22,8 @@ returns c = rw (c .enum-told .given .1)
 
 returns-2 : tie.Need-returns-2
 unfolding finiteBits
-returns-2 c = rw (c .before .before .p .given .1) (c .finite32 .ensures)
+returns-2 c = rw (c .before .before .p .given .1) (c .finite-bitsf .ensures)
 
 pub finite-bits-spec : {M : Type 1} → statement M
 finite-bits-spec =
-    tie.close (tie.spec enum-told enum-known-p cast-finite32 finite32-requires returns returns-2)
+    tie.close (tie.spec enum-told enum-known-p cast-finite-bitsf finite-bitsf-requires returns returns-2)

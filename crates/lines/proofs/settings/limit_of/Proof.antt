@@ -1,12 +1,10 @@
 use native.Mathlib.Omega.{arith}
 use lib.Ieee.{binary32}
 use Rattle.lines.specs.Lines.{finiteBits, limitOf}
-use Rattle.lines.proofs.Floats.{finite-no-nan}
+use Rattle.numbers.proofs.BitLaws.{finite-no-nan}
 use borrow.Author.Needs.{needs}
 use Rattle.lines.proofs.settings.limit_of.Statement.{statement}
 use Rattle.lines.proofs.settings.limit_of.Tie as tie
-use Rattle.lines.proofs.settings.limit_of.Reads as reads
-use Rattle.lines.proofs.settings.limit_of.Lts as lts
 
 enum-told : tie.Need-enum-told
 enum-told c = search needs

@@ -1,25 +1,23 @@
--- `listing::text::same_double` meets its contract.
+-- `listing::text::same_double` meets its contract: a pattern tells two values apart.
 -- Assumes nothing.
 use lib.Ieee.{binary64}
-use Rattle.listing.proofs.Patterns.{yes, number, both-nan, one-nan, by-pattern}
+use borrow.Author.Needs.{needs}
+use Rattle.numbers.specs.Tests.{yes}
+use Rattle.numbers.proofs.BitLaws.{same-bits}
 use Rattle.listing.proofs.text.same_double.Statement.{statement}
 use Rattle.listing.proofs.text.same_double.Tie as tie
 
+to-bits-requires : tie.Need-to-bits-requires
+to-bits-requires c κs = search needs
+
+to-bits-requires-2 : tie.Need-to-bits-requires-2
+to-bits-requires-2 c κs = search needs
+
 returns : tie.Need-returns
-returns c = both-nan (c .before .args .x) (c .before .args .y) (c .if1 .taken)
-
-returns-2 : tie.Need-returns-2
-returns-2 c = one-nan (c .before .before .args .x) (c .before .before .args .y) (c .before .if1 .left) (c .if2 .taken)
-
-float-to-bits-result : tie.Need-float-to-bits-result
-float-to-bits-result c = number (c .before .before .args .x) (c .before .if1 .left)
-
-float-to-bits-result-2 : tie.Need-float-to-bits-result-2
-float-to-bits-result-2 c = number (c .before .before .args .y) (c .if2 .left)
-
-returns-3 : tie.Need-returns-3
-returns-3 c = by-pattern binary64 (c .before .before .args .x) (c .before .before .args .y) (yes (c .before .before .good .0 .1)) (yes (c .before .before .good .1 .0 .1))
+returns c =
+    let start = c .before .before in
+    rw (c .before .to-bits .ensures, c .to-bits2 .ensures)
+    (same-bits binary64 (start .args .x) (start .args .y) (yes (start .good .0 .1)) (yes (start .good .1 .0 .1)))
 
 pub same-double-spec : {M : Type 1} → statement M
-same-double-spec =
-    tie.close (tie.spec returns returns-2 float-to-bits-result float-to-bits-result-2 returns-3)
+same-double-spec = tie.close (tie.spec to-bits-requires to-bits-requires-2 returns)

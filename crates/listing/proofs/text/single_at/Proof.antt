@@ -11,11 +11,11 @@ hexadecimal-requires c κs = search needs
 enum-known-b : tie.Need-enum-known-b
 enum-known-b c = search needs
 
-cast-single-of : tie.Need-cast-single-of
-cast-single-of c = omega (arith, rw (c .before .b .given .1) at (c .before .before .before .hexadecimal .ensures))
+cast-from-bitsf : tie.Need-cast-from-bitsf
+cast-from-bitsf c = omega (arith, rw (c .before .b .given .1) at (c .before .before .before .hexadecimal .ensures))
 
-single-of-requires : tie.Need-single-of-requires
-single-of-requires c κs = search needs
+from-bitsf-requires : tie.Need-from-bitsf-requires
+from-bitsf-requires c κs = search needs
 
 enum-told : tie.Need-enum-told
 enum-told c = search needs
@@ -32,8 +32,8 @@ single-at-spec =
     (tie.spec
     hexadecimal-requires
     enum-known-b
-    cast-single-of
-    single-of-requires
+    cast-from-bitsf
+    from-bitsf-requires
     enum-told
     returns
     returns-2)

@@ -2,17 +2,12 @@ use Rattle.play.proofs.Texts.{line-made}
 use borrow.Author.Needs.{needs}
 use Rattle.play.proofs.text.put_line.Statement.{statement}
 use Rattle.play.proofs.text.put_line.Tie as tie
-use Rattle.play.proofs.text.put_line.Reads as reads
-use Rattle.play.proofs.text.put_line.Lts as lts
-use Rattle.play.proofs.text.bits_of.Reads as bits-of-reads
-use Rattle.fields.proofs.write.fit_bits.Reads as fit-bits-reads
-use Rattle.fields.proofs.write.fit_decimal.Reads as fit-decimal-reads
 
 fit-decimal-requires : tie.Need-fit-decimal-requires
 fit-decimal-requires c κs = search needs
 
-bits-of-requires : tie.Need-bits-of-requires
-bits-of-requires c κs = search needs
+to-bitsf-requires : tie.Need-to-bitsf-requires
+to-bitsf-requires c κs = search needs
 
 fit-bits-requires : tie.Need-fit-bits-requires
 fit-bits-requires c κs = search needs
@@ -21,9 +16,9 @@ same-length : tie.Need-same-length
 same-length c = search needs
 
 returns : tie.Need-returns
-returns c = line-made (c .before .before .before .before .before .before .before .before .before .before .args .number) (c .before .before .before .before .before .before .before .before .before .before .args .x) (c .before .before .before .before .before .before .before .before .before .before .pre) (c .before .before .before .before .before .before .before .fit-decimal .ensures) (rw (c .before .before .before .bits-of .ensures) at (c .before .before .fit-bits .ensures))
+returns c = line-made (c .before .before .before .before .before .before .before .before .before .before .args .number) (c .before .before .before .before .before .before .before .before .before .before .args .x) (c .before .before .before .before .before .before .before .before .before .before .pre) (c .before .before .before .before .before .before .before .fit-decimal .ensures) (rw (c .before .before .before .to-bitsf .ensures) at (c .before .before .fit-bits .ensures))
 
 pub put-line-spec : {M : Type 1} → statement M
 put-line-spec =
     tie.close
-    (tie.spec fit-decimal-requires bits-of-requires fit-bits-requires same-length returns)
+    (tie.spec fit-decimal-requires to-bitsf-requires fit-bits-requires same-length returns)

@@ -1,12 +1,11 @@
 use native.Mathlib.Omega.{arith}
 use lib.Ieee.{binary32}
 use lib.Ieee.Bits.{toBits-lt}
-use Rattle.lines.proofs.Floats.{number-no-nan}
+use Rattle.numbers.specs.Tests.{no}
+use Rattle.numbers.proofs.Compare.{finite-number}
 use borrow.Author.Needs.{needs}
 use Rattle.sheet.proofs.write.limit_bits.Statement.{statement}
 use Rattle.sheet.proofs.write.limit_bits.Tie as tie
-use Rattle.sheet.proofs.write.limit_bits.Reads as reads
-use Rattle.sheet.proofs.write.limit_bits.Lts as lts
 
 enum-told : tie.Need-enum-told
 enum-told c = search needs
@@ -15,7 +14,7 @@ enum-known-p : tie.Need-enum-known-p
 enum-known-p c = search needs
 
 float-to-bits-t4 : tie.Need-float-to-bits-t4
-float-to-bits-t4 c = number-no-nan _ (rw (c .before .p .given .1) at (c .before .before .before .pre))
+float-to-bits-t4 c = no (finite-number _ (rw (c .before .p .given .1) at (c .before .before .before .pre)))
 
 cast-t5 : tie.Need-cast-t5
 cast-t5 c = omega (arith, toBits-lt binary32 (c .before .p .given .0 .0) (search needs))

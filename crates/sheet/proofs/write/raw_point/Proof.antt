@@ -1,14 +1,10 @@
 use Rattle.sheet.specs.Text.{rawPoint}
-use Rattle.lines.proofs.Floats.{number-no-nan}
+use Rattle.numbers.specs.Tests.{no}
+use Rattle.numbers.proofs.Compare.{finite-number}
 use Rattle.sheet.proofs.Valid.{finite-time, finite-value, finite-cp1, finite-cp2}
 use borrow.Author.Needs.{needs}
 use Rattle.sheet.proofs.write.raw_point.Statement.{statement}
 use Rattle.sheet.proofs.write.raw_point.Tie as tie
-use Rattle.sheet.proofs.write.raw_point.Reads as reads
-use Rattle.sheet.proofs.write.raw_point.Lts as lts
-use Rattle.curve.proofs.CurveType.code.Reads as code-reads
-use Rattle.curve.proofs.CurveType.controls.Reads as controls-reads
-use Rattle.sheet.proofs.write.position_bits.Reads as position-bits-reads
 
 controls-requires : tie.Need-controls-requires
 controls-requires c κs = search needs
@@ -17,19 +13,19 @@ position-bits-requires : tie.Need-position-bits-requires
 position-bits-requires c κs = search needs
 
 float-to-bits-t6 : tie.Need-float-to-bits-t6
-float-to-bits-t6 c = number-no-nan _ (finite-time (c .before .before .before .args .p) (c .before .before .before .pre))
+float-to-bits-t6 c = no (finite-number _ (finite-time (c .before .before .before .args .p) (c .before .before .before .pre)))
 
 float-to-bits-t7 : tie.Need-float-to-bits-t7
-float-to-bits-t7 c = number-no-nan _ (finite-value (c .before .before .before .before .args .p) (c .before .before .before .before .pre))
+float-to-bits-t7 c = no (finite-number _ (finite-value (c .before .before .before .before .args .p) (c .before .before .before .before .pre)))
 
 code-requires : tie.Need-code-requires
 code-requires c κs = search needs
 
 float-to-bits-t9 : tie.Need-float-to-bits-t9
-float-to-bits-t9 c = rw (c .before .before .before .before .before .controls .ensures) (number-no-nan _ (finite-cp1 (c .before .before .before .before .before .before .args .p) (c .before .before .before .before .before .before .pre)))
+float-to-bits-t9 c = rw (c .before .before .before .before .before .controls .ensures) (no (finite-number _ (finite-cp1 (c .before .before .before .before .before .before .args .p) (c .before .before .before .before .before .before .pre))))
 
 float-to-bits-t10 : tie.Need-float-to-bits-t10
-float-to-bits-t10 c = rw (c .before .before .before .before .before .before .controls .ensures) (number-no-nan _ (finite-cp2 (c .before .before .before .before .before .before .before .args .p) (c .before .before .before .before .before .before .before .pre)))
+float-to-bits-t10 c = rw (c .before .before .before .before .before .before .controls .ensures) (no (finite-number _ (finite-cp2 (c .before .before .before .before .before .before .before .args .p) (c .before .before .before .before .before .before .before .pre))))
 
 returns : tie.Need-returns
 unfolding rawPoint

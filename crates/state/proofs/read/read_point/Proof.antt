@@ -9,15 +9,6 @@ use Rattle.state.proofs.Words.{point-at}
 use borrow.Author.Needs.{needs}
 use Rattle.state.proofs.read.read_point.Statement.{statement}
 use Rattle.state.proofs.read.read_point.Tie as tie
-use Rattle.state.proofs.read.read_point.Reads as reads
-use Rattle.state.proofs.read.read_point.Lts as lts
-use Rattle.curve.proofs.CurveType.from_code.Reads as from-code-reads
-use Rattle.state.proofs.read.bit.Reads as bit-reads
-use Rattle.state.proofs.read.float32.Reads as float32-reads
-use Rattle.state.proofs.read.float64.Reads as float64-reads
-use Rattle.state.proofs.read.high.Reads as high-reads
-use Rattle.state.proofs.read.low.Reads as low-reads
-use Rattle.state.proofs.read.position_of.Reads as position-of-reads
 
 add-controls : tie.Need-add-controls
 add-controls c = search needs
@@ -43,23 +34,23 @@ high-requires c κs = search needs
 low-requires : tie.Need-low-requires
 low-requires c κs = search needs
 
-float32-requires : tie.Need-float32-requires
-float32-requires c κs = search needs
+from-bitsf-requires : tie.Need-from-bitsf-requires
+from-bitsf-requires c κs = search needs
 
 high-requires-2 : tie.Need-high-requires-2
 high-requires-2 c κs = search needs
 
-float32-requires-2 : tie.Need-float32-requires-2
-float32-requires-2 c κs = search needs
+from-bitsf-requires-2 : tie.Need-from-bitsf-requires-2
+from-bitsf-requires-2 c κs = search needs
 
-mul-float64 : tie.Need-mul-float64
-mul-float64 c = search needs
+mul-from-bits : tie.Need-mul-from-bits
+mul-from-bits c = search needs
 
-shared-slice-read-float64 : tie.Need-shared-slice-read-float64
-shared-slice-read-float64 c = search needs
+shared-slice-read-from-bits : tie.Need-shared-slice-read-from-bits
+shared-slice-read-from-bits c = search needs
 
-float64-requires : tie.Need-float64-requires
-float64-requires c κs = search needs
+from-bits-requires : tie.Need-from-bits-requires
+from-bits-requires c κs = search needs
 
 bit-requires : tie.Need-bit-requires
 bit-requires c κs = search needs
@@ -79,11 +70,8 @@ position-of-requires c κs = search needs
 low-requires-2 : tie.Need-low-requires-2
 low-requires-2 c κs = search needs
 
-float32-requires-3 : tie.Need-float32-requires-3
-float32-requires-3 c κs = search needs
-
-cast-from-code : tie.Need-cast-from-code
-cast-from-code c = search needs
+from-bitsf-requires-3 : tie.Need-from-bitsf-requires-3
+from-bitsf-requires-3 c κs = search needs
 
 from-code-requires : tie.Need-from-code-requires
 from-code-requires c κs = search needs
@@ -93,14 +81,14 @@ unfolding pointOf
 returns c =
     let w = c .before .before .before .before .before .before .before .before .before .before .before .before .before .before .before .before .args .words .now in
     let at = c .before .before .before .before .before .before .before .before .before .before .before .before .before .before .before .before .args .at in
-    let tag = c .before .before .before .before .before .before .before .before .before .before .before .before .high .ensures .0 in
+    let tag = c .before .before .before .before .before .before .before .before .before .before .before .before .high .ensures in
     (λ i. record {
-      time = c .before .before .before .before .before .before .float64 .ensures i;
+      time = c .before .before .before .before .before .before .from-bits .ensures i;
       «sample_position» = (c .before .before .before .position-of .ensures ∙ ap (λ (b : Bool). positionOf b (getD w (at + 1) 0)) (c .before .before .before .before .before .bit .ensures ∙ ap (bit 1) tag)) i;
-      value = (c .before .float323 .ensures ∙ ap (ofBits binary32) (c .before .before .low2 .ensures .0)) i;
+      value = (c .before .from-bitsf3 .ensures ∙ ap (ofBits binary32) (c .before .before .low2 .ensures)) i;
       curve = (
           c .from-code .ensures
-          ∙ (λ j. curveOf (tag j / 2) ((c .before .before .before .before .before .before .before .before .before .before .float32 .ensures ∙ ap (ofBits binary32) (c .before .before .before .before .before .before .before .before .before .before .before .low .ensures .0)) j) ((c .before .before .before .before .before .before .before .before .float322 .ensures ∙ ap (ofBits binary32) (c .before .before .before .before .before .before .before .before .before .high2 .ensures .0)) j))) i;
+          ∙ (λ j. curveOf (tag j / 2) ((c .before .before .before .before .before .before .before .before .before .before .from-bitsf .ensures ∙ ap (ofBits binary32) (c .before .before .before .before .before .before .before .before .before .before .before .low .ensures)) j) ((c .before .before .before .before .before .before .before .before .from-bitsf2 .ensures ∙ ap (ofBits binary32) (c .before .before .before .before .before .before .before .before .before .high2 .ensures)) j))) i;
     })
     ∙ point-at w at
 
@@ -116,19 +104,18 @@ read-point-spec =
     shared-slice-read-value
     high-requires
     low-requires
-    float32-requires
+    from-bitsf-requires
     high-requires-2
-    float32-requires-2
-    mul-float64
-    shared-slice-read-float64
-    float64-requires
+    from-bitsf-requires-2
+    mul-from-bits
+    shared-slice-read-from-bits
+    from-bits-requires
     bit-requires
     add-position-of
     mul-position-of
     shared-slice-read-position-of
     position-of-requires
     low-requires-2
-    float32-requires-3
-    cast-from-code
+    from-bitsf-requires-3
     from-code-requires
     returns)

@@ -8,15 +8,9 @@ use Rattle.state.proofs.Words.{same-four}
 use borrow.Author.Needs.{needs}
 use Rattle.state.proofs.read.same_point.Statement.{statement}
 use Rattle.state.proofs.read.same_point.Tie as tie
-use Rattle.state.proofs.read.same_point.Reads as reads
-use Rattle.state.proofs.read.same_point.Lts as lts
-use Rattle.state.proofs.write.bits64.Reads as bits64-reads
-use Rattle.state.proofs.write.controls_word.Reads as controls-word-reads
-use Rattle.state.proofs.write.position_word.Reads as position-word-reads
-use Rattle.state.proofs.write.value_word.Reads as value-word-reads
 
-bits64-requires : tie.Need-bits64-requires
-bits64-requires c κs = search needs
+to-bits-requires : tie.Need-to-bits-requires
+to-bits-requires c κs = search needs
 
 mul-result : tie.Need-mul-result
 mul-result c = search needs
@@ -65,7 +59,7 @@ unfolding packPoint
 returns c =
     let w = c .before .before .before .before .before .before .before .before .before .args .words .now in
     let at = c .before .before .before .before .before .before .before .before .before .args .at in
-    (λ i. eqb (c .before .before .before .before .before .before .before .bits64 .ensures i) (getD w at 0)
+    (λ i. eqb (c .before .before .before .before .before .before .before .to-bits .ensures i) (getD w at 0)
     && (eqb (c .before .before .before .before .before .position-word .ensures i) (getD w (at + 1) 0)
     && (eqb (c .before .before .before .controls-word .ensures i) (getD w (at + 2) 0)
     && eqb (c .before .value-word .ensures i) (getD w (at + 3) 0))))
@@ -75,7 +69,7 @@ pub same-point-spec : {M : Type 1} → statement M
 same-point-spec =
     tie.close
     (tie.spec
-    bits64-requires
+    to-bits-requires
     mul-result
     shared-slice-read-result
     position-word-requires

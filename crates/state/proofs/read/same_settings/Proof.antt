@@ -9,12 +9,6 @@ use Rattle.state.proofs.Words.{same-four}
 use borrow.Author.Needs.{needs}
 use Rattle.state.proofs.read.same_settings.Statement.{statement}
 use Rattle.state.proofs.read.same_settings.Tie as tie
-use Rattle.state.proofs.read.same_settings.Reads as reads
-use Rattle.state.proofs.read.same_settings.Lts as lts
-use Rattle.envelope.proofs.AutomationEnvelope.limits.Reads as limits-reads
-use Rattle.state.proofs.write.bounds_word.Reads as bounds-word-reads
-use Rattle.state.proofs.write.flags_word.Reads as flags-word-reads
-use Rattle.state.proofs.write.limit_bits.Reads as limit-bits-reads
 
 limits-requires : tie.Need-limits-requires
 limits-requires c κs = search needs
@@ -37,6 +31,9 @@ shared-slice-read-result-3 c = search needs
 limit-bits-requires : tie.Need-limit-bits-requires
 limit-bits-requires c κs = search needs
 
+cast-result : tie.Need-cast-result
+cast-result c = search needs
+
 shared-slice-read-result-4 : tie.Need-shared-slice-read-result-4
 shared-slice-read-result-4 c = search needs
 
@@ -48,7 +45,7 @@ returns c =
     (λ i. eqb ((c .before .before .before .before .before .before .flags-word .ensures ∙ ap (λ (l : Limits). halves (flags (e .enabled) l) (e .target)) (c .before .before .before .before .before .before .before .before .limits .ensures)) i) (getD w 0 0)
     && (eqb (e .points .count) (getD w 1 0)
     && (eqb ((c .before .before .before .bounds-word .ensures ∙ ap boundsWord (c .before .before .before .before .before .before .before .before .limits .ensures)) i) (getD w 2 0)
-    && eqb (c .before .limit-bits .ensures .0 i) (getD w 3 0))))
+    && eqb (c .before .limit-bits .ensures i) (getD w 3 0))))
     ∙ same-four w 0 _ _ _ _ (omega (arith, c .before .before .before .before .before .before .before .before .before .before .pre))
 
 pub same-settings-spec : {M : Type 1} → statement M
@@ -62,5 +59,6 @@ same-settings-spec =
     bounds-word-requires
     shared-slice-read-result-3
     limit-bits-requires
+    cast-result
     shared-slice-read-result-4
     returns)

@@ -4,12 +4,6 @@ use Rattle.state.specs.State.{bit, limitOf, stateOf}
 use borrow.Author.Needs.{needs}
 use Rattle.state.proofs.read.with_places.Statement.{statement}
 use Rattle.state.proofs.read.with_places.Tie as tie
-use Rattle.state.proofs.read.with_places.Reads as reads
-use Rattle.state.proofs.read.with_places.Lts as lts
-use Rattle.state.proofs.read.bit.Reads as bit-reads
-use Rattle.state.proofs.read.high.Reads as high-reads
-use Rattle.state.proofs.read.limit_of.Reads as limit-of-reads
-use Rattle.state.proofs.read.low.Reads as low-reads
 
 shared-slice-read-first : tie.Need-shared-slice-read-first
 shared-slice-read-first c = search needs
@@ -25,9 +19,6 @@ shared-slice-read-t8 c = search needs
 
 low-requires : tie.Need-low-requires
 low-requires c κs = search needs
-
-cast-t12 : tie.Need-cast-t12
-cast-t12 c = search needs
 
 bit-requires : tie.Need-bit-requires
 bit-requires c κs = search needs
@@ -65,14 +56,14 @@ limit-of-requires-3 c κs = search needs
 returns : tie.Need-returns
 unfolding stateOf
 returns c =
-    let flags = c .before .before .before .before .before .before .before .before .before .before .before .before .before .before .high .ensures .0 in
+    let flags = c .before .before .before .before .before .before .before .before .before .before .before .before .before .before .high .ensures in
     λ i. record {
-      target = c .before .before .before .before .before .before .before .before .before .before .before .low .ensures .0 i;
+      target = c .before .before .before .before .before .before .before .before .before .before .before .low .ensures i;
       points = record { count = getD (c .before .before .before .before .before .before .before .before .before .before .before .before .before .before .before .before .before .args .words .now) 1 0; places = c .before .before .before .before .before .before .before .before .before .before .before .before .before .before .before .before .before .pre .1 i };
       enabled = (c .before .before .before .before .before .before .before .before .before .before .bit .ensures ∙ ap (bit 1) flags) i;
-      «min_value» = (c .before .before .before .before .before .before .before .limit-of .ensures ∙ (λ j. limitOf ((c .before .before .before .before .before .before .before .before .before .bit2 .ensures ∙ ap (bit 2) flags) j) (c .before .before .before .before .before .before .before .before .low2 .ensures .0 j))) i;
-      «max_value» = (c .before .before .before .before .limit-of2 .ensures ∙ (λ j. limitOf ((c .before .before .before .before .before .before .bit3 .ensures ∙ ap (bit 4) flags) j) (c .before .before .before .before .before .high2 .ensures .0 j))) i;
-      «step_size» = (c .limit-of3 .ensures ∙ (λ j. limitOf ((c .before .before .before .bit4 .ensures ∙ ap (bit 8) flags) j) (c .before .low3 .ensures .0 j))) i;
+      «min_value» = (c .before .before .before .before .before .before .before .limit-of .ensures ∙ (λ j. limitOf ((c .before .before .before .before .before .before .before .before .before .bit2 .ensures ∙ ap (bit 2) flags) j) (c .before .before .before .before .before .before .before .before .low2 .ensures j))) i;
+      «max_value» = (c .before .before .before .before .limit-of2 .ensures ∙ (λ j. limitOf ((c .before .before .before .before .before .before .bit3 .ensures ∙ ap (bit 4) flags) j) (c .before .before .before .before .before .high2 .ensures j))) i;
+      «step_size» = (c .limit-of3 .ensures ∙ (λ j. limitOf ((c .before .before .before .bit4 .ensures ∙ ap (bit 8) flags) j) (c .before .low3 .ensures j))) i;
     }
 
 pub with-places-spec : {M : Type 1} → statement M
@@ -84,7 +75,6 @@ with-places-spec =
     shared-slice-read-bounds
     shared-slice-read-t8
     low-requires
-    cast-t12
     bit-requires
     bit-requires-2
     low-requires-2

@@ -7,28 +7,25 @@ use Rattle.state.specs.State.{halves, controlsWord}
 use borrow.Author.Needs.{needs}
 use Rattle.state.proofs.write.controls_word.Statement.{statement}
 use Rattle.state.proofs.write.controls_word.Tie as tie
-use Rattle.state.proofs.write.controls_word.Reads as reads
-use Rattle.state.proofs.write.controls_word.Lts as lts
-use Rattle.state.proofs.write.bits32.Reads as bits32-reads
 
 enum-known-curve : tie.Need-enum-known-curve
 enum-known-curve c = search needs
 
-bits32-requires : tie.Need-bits32-requires
-bits32-requires c κs = search needs
+to-bitsf-requires : tie.Need-to-bitsf-requires
+to-bitsf-requires c κs = search needs
 
-mul-result : tie.Need-mul-result
-mul-result c = search needs
+to-bitsf-requires-2 : tie.Need-to-bitsf-requires-2
+to-bitsf-requires-2 c κs = search needs
 
-bits32-requires-2 : tie.Need-bits32-requires-2
-bits32-requires-2 c κs = search needs
-
-add-result : tie.Need-add-result
-add-result c = search needs
+halves-requires : tie.Need-halves-requires
+halves-requires c κs = search needs
 
 returns : tie.Need-returns
 unfolding controls
-returns c = (λ i. halves (c .before .bits32 .ensures .0 i) (c .bits322 .ensures .0 i)) ∙ ap controlsWord (sym (c .before .before .before .curve .given .1))
+returns c =
+    c .halves .ensures
+    ∙ (λ i. halves (c .before .before .to-bitsf .ensures i) (c .before .to-bitsf2 .ensures i))
+    ∙ ap controlsWord (sym (c .before .before .before .before .curve .given .1))
 
 returns-2 : tie.Need-returns-2
 unfolding ofBits toBits
@@ -39,9 +36,8 @@ controls-word-spec =
     tie.close
     (tie.spec
     enum-known-curve
-    bits32-requires
-    mul-result
-    bits32-requires-2
-    add-result
+    to-bitsf-requires
+    to-bitsf-requires-2
+    halves-requires
     returns
     returns-2)

@@ -8,15 +8,9 @@ use Rattle.state.proofs.Words.{four-stores}
 use borrow.Author.Needs.{needs}
 use Rattle.state.proofs.write.put_point.Statement.{statement}
 use Rattle.state.proofs.write.put_point.Tie as tie
-use Rattle.state.proofs.write.put_point.Reads as reads
-use Rattle.state.proofs.write.put_point.Lts as lts
-use Rattle.state.proofs.write.bits64.Reads as bits64-reads
-use Rattle.state.proofs.write.controls_word.Reads as controls-word-reads
-use Rattle.state.proofs.write.position_word.Reads as position-word-reads
-use Rattle.state.proofs.write.value_word.Reads as value-word-reads
 
-bits64-requires : tie.Need-bits64-requires
-bits64-requires c κs = search needs
+to-bits-requires : tie.Need-to-bits-requires
+to-bits-requires c κs = search needs
 
 mul-words : tie.Need-mul-words
 mul-words c = search needs
@@ -67,13 +61,13 @@ returns : tie.Need-returns
 unfolding packPoint
 returns c =
     four-stores (c .before .before .before .before .before .args .words .now) (c .before .before .before .before .before .args .at) _ _ _ _
-    ∙ (λ i. sets (c .before .before .before .before .before .args .words .now) (c .before .before .before .before .before .args .at) (c .before .before .before .bits64 .ensures i ∷ c .before .before .position-word .ensures i ∷ c .before .controls-word .ensures i ∷ c .value-word .ensures i ∷ []))
+    ∙ (λ i. sets (c .before .before .before .before .before .args .words .now) (c .before .before .before .before .before .args .at) (c .before .before .before .to-bits .ensures i ∷ c .before .before .position-word .ensures i ∷ c .before .controls-word .ensures i ∷ c .value-word .ensures i ∷ []))
 
 pub put-point-spec : {M : Type 1} → statement M
 put-point-spec =
     tie.close
     (tie.spec
-    bits64-requires
+    to-bits-requires
     mul-words
     slice-write-words
     position-word-requires

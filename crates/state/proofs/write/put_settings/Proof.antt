@@ -8,12 +8,6 @@ use Rattle.state.specs.State.{halves, flags, boundsWord, packSettings}
 use borrow.Author.Needs.{needs}
 use Rattle.state.proofs.write.put_settings.Statement.{statement}
 use Rattle.state.proofs.write.put_settings.Tie as tie
-use Rattle.state.proofs.write.put_settings.Reads as reads
-use Rattle.state.proofs.write.put_settings.Lts as lts
-use Rattle.envelope.proofs.AutomationEnvelope.limits.Reads as limits-reads
-use Rattle.state.proofs.write.bounds_word.Reads as bounds-word-reads
-use Rattle.state.proofs.write.flags_word.Reads as flags-word-reads
-use Rattle.state.proofs.write.limit_bits.Reads as limit-bits-reads
 
 limits-requires : tie.Need-limits-requires
 limits-requires c κs = search needs
@@ -36,6 +30,9 @@ slice-write-words-3 c = simp length-set (omega (arith, c .before .before .before
 limit-bits-requires : tie.Need-limit-bits-requires
 limit-bits-requires c κs = search needs
 
+cast-words : tie.Need-cast-words
+cast-words c = search needs
+
 slice-write-words-4 : tie.Need-slice-write-words-4
 slice-write-words-4 c = search needs
 
@@ -50,7 +47,7 @@ returns c =
     ((c .before .before .flags-word .ensures ∙ ap (λ (l : Limits). halves (flags (e .enabled) l) (e .target)) (c .before .before .before .before .limits .ensures)) i
     ∷ e .points .count
     ∷ (c .before .bounds-word .ensures ∙ ap boundsWord (c .before .before .before .before .limits .ensures)) i
-    ∷ c .limit-bits .ensures .0 i
+    ∷ c .limit-bits .ensures i
     ∷ [])
 
 pub put-settings-spec : {M : Type 1} → statement M
@@ -64,6 +61,7 @@ put-settings-spec =
     bounds-word-requires
     slice-write-words-3
     limit-bits-requires
+    cast-words
     slice-write-words-4
     same-length
     returns)

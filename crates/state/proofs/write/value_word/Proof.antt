@@ -3,35 +3,24 @@ use Rattle.curve.specs.Laws.{code-lt}
 use borrow.Author.Needs.{needs}
 use Rattle.state.proofs.write.value_word.Statement.{statement}
 use Rattle.state.proofs.write.value_word.Tie as tie
-use Rattle.state.proofs.write.value_word.Reads as reads
-use Rattle.state.proofs.write.value_word.Lts as lts
-use Rattle.curve.proofs.CurveType.code.Reads as code-reads
-use Rattle.state.proofs.write.bits32.Reads as bits32-reads
-use Rattle.state.proofs.write.position_flag.Reads as position-flag-reads
 
 code-requires : tie.Need-code-requires
 code-requires c κs = search needs
 
-cast-result : tie.Need-cast-result
-cast-result c = search needs
-
-mul-result : tie.Need-mul-result
-mul-result c = search needs
+mul-halves : tie.Need-mul-halves
+mul-halves c = omega (arith, c .code .ensures, code-lt (c .before .args .p .curve))
 
 position-flag-requires : tie.Need-position-flag-requires
 position-flag-requires c κs = search needs
 
-add-result : tie.Need-add-result
-add-result c = search needs
+add-halves : tie.Need-add-halves
+add-halves c = omega (arith, c .before .code .ensures, code-lt (c .before .before .args .p .curve), c .position-flag .ensures .1)
 
-mul-result-2 : tie.Need-mul-result-2
-mul-result-2 c = omega (arith, c .before .code .ensures, code-lt (c .before .before .args .p .curve), c .position-flag .ensures .1)
+to-bitsf-requires : tie.Need-to-bitsf-requires
+to-bitsf-requires c κs = search needs
 
-bits32-requires : tie.Need-bits32-requires
-bits32-requires c κs = search needs
-
-add-result-2 : tie.Need-add-result-2
-add-result-2 c = omega (arith, c .before .before .code .ensures, code-lt (c .before .before .before .args .p .curve), c .before .position-flag .ensures .1, c .bits32 .ensures .1)
+halves-requires : tie.Need-halves-requires
+halves-requires c κs = search needs
 
 returns : tie.Need-returns
 returns c = search needs
@@ -41,11 +30,9 @@ value-word-spec =
     tie.close
     (tie.spec
     code-requires
-    cast-result
-    mul-result
+    mul-halves
     position-flag-requires
-    add-result
-    mul-result-2
-    bits32-requires
-    add-result-2
+    add-halves
+    to-bitsf-requires
+    halves-requires
     returns)
