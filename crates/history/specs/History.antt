@@ -66,7 +66,8 @@ module _ (start : AutomationEnvelope) (d : ℕ) (h : Hist) (s : Session) (m : Li
   next-said = ap (λ (x : Called). x .said) as-stepped ∙ sym (ap (λ (x : Ruled). x .said) (st .rule))
 
 keeps : (start : AutomationEnvelope) (d : ℕ) (h : Hist) {s : Session} {m : List ℕ} {cs : List Call} {answers : List (Said (Unit {0}))} {s″ : Session} {m″ : List ℕ}
-    → Ran s m cs answers s″ m″ → every typedCall cs ≡ true → Inv start d h s m → Inv start d (histAfter start d h cs) s″ m″ × (answers ≡ answersAfter start d h cs) × (length m″ ≡ length m)
+    → Ran s m cs answers s″ m″ → every typedCall cs ≡ true → Inv start d h s m
+    → Inv start d (histAfter start d h cs) s″ m″ × (answers ≡ answersAfter start d h cs) × (length m″ ≡ length m)
 unfolding histAfter answersAfter every
 keeps start d h done t v = (v, refl, refl)
 keeps start d h (call {s = s} {m = m} {c = c} a {m′ = m′} {cs = cs} ob r) t v =

@@ -114,7 +114,8 @@ module _ (k : ℕ) (x y : Float) where
   unfolding callFrom
   is-scale h = rw h
 
-  pub is-add : (k ≡ 0 → ⊥) → (k ≡ 1 → ⊥) → (k ≡ 2 → ⊥) → (k ≡ 3 → ⊥) → (k ≡ 4 → ⊥) → (k ≡ 5 → ⊥) → (k ≡ 6 → ⊥) → callFrom k x y ≡ edit (alone (OfPoints (AddPoint (pointWith x y Linear))))
+  pub is-add : (k ≡ 0 → ⊥) → (k ≡ 1 → ⊥) → (k ≡ 2 → ⊥) → (k ≡ 3 → ⊥) → (k ≡ 4 → ⊥) → (k ≡ 5 → ⊥) → (k ≡ 6 → ⊥)
+      → callFrom k x y ≡ edit (alone (OfPoints (AddPoint (pointWith x y Linear))))
   unfolding callFrom
   is-add a b c d e f g = rw (ne-eqb k 0 a, ne-eqb k 1 b, ne-eqb k 2 c, ne-eqb k 3 d, ne-eqb k 4 e, ne-eqb k 5 f, ne-eqb k 6 g)
 
@@ -172,7 +173,8 @@ pub begun : (target : ℕ) (m₀ kinds : List ℕ) (xs ys : List Float) (codes :
 unfolding every
 begun target m₀ kinds xs ys codes s e = record { ran = rw e done; in-range = refl; room = refl; rest = refl }
 
-module _ (target : ℕ) (m₀ kinds : List ℕ) (xs ys : List Float) (codes₀ codes : List ℕ) (i : ℕ) (s : Session) (m : List ℕ) (v : Replaying target m₀ kinds xs ys codes₀ codes i s m) where
+module _ (target : ℕ) (m₀ kinds : List ℕ) (xs ys : List Float) (codes₀ codes : List ℕ) (i : ℕ) (s : Session) (m : List ℕ)
+    (v : Replaying target m₀ kinds xs ys codes₀ codes i s m) where
   module _ (a : SessionAnswer) (m′ : List ℕ) (c : ℕ) (hk : i < length kinds) (hx : i < length xs) (hy : i < length ys) (hc : i < length codes)
       (ob : Obeys s m (callFrom (getD kinds i 0) (getD xs i nan) (getD ys i nan)) a m′) (ty : typedCall (callFrom (getD kinds i 0) (getD xs i nan) (getD ys i nan)) ≡ true)
       (says : saidOf c ≡ said (a .answer)) where

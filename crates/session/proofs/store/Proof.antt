@@ -42,9 +42,11 @@ same-length c = search needs
 returns : tie.Need-returns
 unfolding stored
 returns c =
-    let a = c .before .before .before .before .before .args in
+    let entry = c .before .before .before .before .before in
+    let a = entry .args in
     ap (λ (l : List ℕ). take (a .slot * 1028) (now (a .memory)) ++ (l ++ postOf (a .slot * 1028) (a .slot * 1028 + 1028 - a .slot * 1028) (now (a .memory))))
-    (part-written (a .envelope) _ _ (c .before .before .before .before .before .pre .1) (part-words (a .slot * 1028) (now (a .memory)) (c .before .before .before .before .before .pre .0)) (c .before .before .write-state .ensures .1))
+    (part-written (a .envelope) _ _ (entry .pre .1) (part-words (a .slot * 1028) (now (a .memory)) (entry .pre .0))
+    (c .before .before .write-state .ensures .1))
     ∙ ap (λ (l : List ℕ). take (a .slot * 1028) (now (a .memory)) ++ (pack (a .envelope) ++ l)) (post-is (a .slot * 1028) (a .slot * 1028 + 1028) (now (a .memory)) (omega arith))
 
 pub store-spec : {M : Type 1} → statement M

@@ -50,7 +50,11 @@ loop-less : tie.Need-loop-less Inv-loop μ-loop
 loop-less c = omega arith
 
 loop-again : tie.Need-loop-again Inv-loop μ-loop
-loop-again c = (omega arith, c .before .before .before .forward .kept .1 .0 ∙ c .before .before .before .before .before .before .before .before .back .kept .1 .0 ∙ c .before .before .before .before .before .before .before .before .before .before .before .loop .inv .1)
+loop-again c =
+    let forward = c .before .before .before in
+    let back = forward .before .before .before .before .before in
+    let turn = back .before .before .before in
+    (omega arith, forward .forward .kept .1 .0 ∙ back .back .kept .1 .0 ∙ turn .loop .inv .1)
 
 same-length : tie.Need-same-length Inv-loop μ-loop
 same-length c = c .before .loop .inv .1 ∙ c .before .before .before .before .before .edit .kept .1 .1 .0

@@ -1,3 +1,4 @@
+-- By what the slot holds: a state that changes places with the envelope, or 12.
 use denote.Ref.{now}
 use Rattle.session.specs.Ways.{step-done, step-bad}
 use borrow.Author.Needs.{needs}
@@ -33,16 +34,22 @@ same-length c = search needs
 
 returns : tie.Need-returns
 returns c =
-    let a = c .before .before .before .before .before .before .before .before .before .before .before .before .args in
-    step-done (a .self) (now (a .memory)) (a .slot) (a .at) (a .kept) (a .ahead) (c .before .before .before .before .before .before .before .before .before .load .result) _ _ (c .moved .ensures) (c .before .before .before .before .before .before .before .before .before .load .ensures) (c .before .before .before .before .before .before .before .enum-told .given .1) (c .before .before .before .store .ensures)
+    let stored = c .before .before .before in
+    let told = stored .before .before .before .before in
+    let loaded = told .before .before in
+    let a = loaded .before .before .before .args in
+    step-done (a .self) (now (a .memory)) (a .slot) (a .at) (a .kept) (a .ahead) (loaded .load .result) _ _ (c .moved .ensures)
+    (loaded .load .ensures) (told .enum-told .given .1) (stored .store .ensures)
 
 same-length-2 : tie.Need-same-length-2
 same-length-2 c = search needs
 
 returns-2 : tie.Need-returns-2
 returns-2 c =
-    let a = c .before .before .before .before .before .before .args in
-    step-bad (a .self) (now (a .memory)) (a .slot) (a .at) (a .kept) (a .ahead) (c .before .before .before .load .result) _ _ (c .refuse .ensures) (c .before .before .before .load .ensures) (c .before .enum-told2 .given .1)
+    let loaded = c .before .before .before in
+    let a = loaded .before .before .before .args in
+    step-bad (a .self) (now (a .memory)) (a .slot) (a .at) (a .kept) (a .ahead) (loaded .load .result) _ _ (c .refuse .ensures)
+    (loaded .load .ensures) (c .before .enum-told2 .given .1)
 
 pub step-over-spec : {M : Type 1} → statement M
 step-over-spec =
