@@ -23,6 +23,7 @@ use Rattle.points.specs.declared.AutomationPoint.{AutomationPoint}
 use Rattle.points.specs.declared.Points.{Points}
 use Rattle.points.specs.declared.refusal.Refusal.the-variants.{NotValid, NotFinite, TooManyPoints}
 use Rattle.settle.specs.Settle.{plain, refused, accepted, judged, settle, editPoints}
+use Rattle.settle.specs.declared.EditedPoints.{EditedPoints}
 use Rattle.settle.proofs.Judging.{one, argument-three, result-three, five, accepts}
 use Rattle.pointwise.specs.Each.{zero64, changed}
 use Rattle.pointwise.specs.Places.{mappedIn}
@@ -173,36 +174,43 @@ merge-bad offset l other o h = unfine (insertAll l (map (shift offset) other)) (
 
 pub merge-invalid : (ps other : Points) (offset : Float) → validPoints ps ≡ false → refused ps NotValid ≡ mergedPoints ps other offset
 unfolding mergedPoints
-merge-invalid ps other offset v = let l = merged (listOf ps) (listOf other) offset in one (refused ps) (accepted (holding l)) (plain (finite offset) l) (ap (λ (b : Bool). b && validPoints other) v)
+merge-invalid ps other offset v =
+    let l = merged (listOf ps) (listOf other) offset in
+    one (refused ps) (accepted (holding l)) (plain (finite offset) l) (ap (λ (b : Bool). b && validPoints other) v)
 
 pub merge-other : (ps other : Points) (offset : Float) → validPoints other ≡ false → refused ps NotValid ≡ mergedPoints ps other offset
 unfolding mergedPoints
-merge-other ps other offset w = let l = merged (listOf ps) (listOf other) offset in one (refused ps) (accepted (holding l)) (plain (finite offset) l) (and-no (validPoints ps) w)
+merge-other ps other offset w =
+    let l = merged (listOf ps) (listOf other) offset in
+    one (refused ps) (accepted (holding l)) (plain (finite offset) l) (and-no (validPoints ps) w)
 
-pub merge-valid : (ps other : Points) (offset : Float) → validPoints other ≡ true → editPoints ps (finite offset) (merged (listOf ps) (listOf other) offset) ≡ mergedPoints ps other offset
-unfolding editPoints mergedPoints
-merge-valid ps other offset w =
-    ap (λ (b : Bool). judged ps b (plain (finite offset) (merged (listOf ps) (listOf other) offset))) (sym (and-true (validPoints ps)) ∙ ap (λ (b : Bool). validPoints ps && b) (sym w))
+-- an edit that makes l, given the other's points too, these being valid
+pub merge-valid : (ps other : Points) (ok : Bool) (l : List AutomationPoint) → validPoints other ≡ true → editPoints ps ok l ≡ judged ps (validPoints ps && validPoints other) (plain ok l)
+unfolding editPoints
+merge-valid ps other ok l w = ap (λ (b : Bool). judged ps b (plain ok l)) (sym (and-true (validPoints ps)) ∙ ap (λ (b : Bool). validPoints ps && b) (sym w))
 
 -- what the code makes of the other's points, all being valid: `shifted` has each at its time plus the offset
 module _ (ps other shifted : Points) (offset : Float) (v : validPoints ps ≡ true) (w : validPoints other ≡ true) (len : length (other .places) ≡ 256)
     (made : shifted ≡ mappedIn (shift offset) other) (f : finite offset ≡ true) where
   abbrev whole : List AutomationPoint
-  whole = merged (listOf ps) (listOf other) offset
+  whole = insertAll (listOf ps) (map (shift offset) (listOf other))
+
+  abbrev merging : EditedPoints
+  merging = judged ps (validPoints ps && validPoints other) (plain (finite offset) whole)
 
   shifted-list : listOf shifted ≡ map (shift offset) (listOf other)
   shifted-list = ap listOf made ∙ mapped-list (shift offset) other w len
 
-  whole-is : settle ps whole ≡ mergedPoints ps other offset
-  whole-is = settled ps (finite offset) whole v f ∙ merge-valid ps other offset w
+  whole-is : settle ps whole ≡ merging
+  whole-is = settled ps (finite offset) whole v f ∙ merge-valid ps other (finite offset) whole w
 
   -- a time that isn't finite
-  pub merge-lost : every finitePoint (listOf shifted) ≡ false → refused ps NotFinite ≡ mergedPoints ps other offset
+  pub merge-lost : every finitePoint (listOf shifted) ≡ false → refused ps NotFinite ≡ merging
   merge-lost h =
       bad-result ps whole (merge-bad offset (listOf ps) (listOf other) (valid-finite other w) (ap (every finitePoint) (sym shifted-list) ∙ h))
       ∙ whole-is
 
-  pub merge-made : settle ps (insertAll (listOf ps) (listOf shifted)) ≡ mergedPoints ps other offset
+  pub merge-made : settle ps (insertAll (listOf ps) (listOf shifted)) ≡ merging
   merge-made = ap (λ (l : List AutomationPoint). settle ps (insertAll (listOf ps) l)) shifted-list ∙ whole-is
 
 -- ---- a ramp and a pulse

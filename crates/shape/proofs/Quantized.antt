@@ -130,7 +130,8 @@ pub quantized-stays : (grid : Float) (l : List AutomationPoint) → le grid zero
 quantized-stays grid l h = rw h
 
 -- on one above it
-pub ends-quantized : {r : EditedPoints} (ps new : Points) (grid : Float) {ok : Bool} → r ≡ finished ps ok new → ok ≡ finite grid → le grid zero64 ≡ false → every timeFits (listOf ps) ≡ true
+pub ends-quantized : {r : EditedPoints} (ps new : Points) (grid : Float) {ok : Bool} → r ≡ finished ps ok new → ok ≡ finite grid → le grid zero64 ≡ false
+    → every timeFits (listOf ps) ≡ true
     → (validPoints ps ≡ true → new ≡ holding (withoutRepeats (map (changed (Quantize grid)) (listOf ps)))) → r ≡ editPoints ps (finite grid) (firsts (map (changed (Quantize grid)) (listOf ps)))
 ends-quantized ps new grid f o a t made =
     ends-valid ps new (firsts (map (changed (Quantize grid)) (listOf ps))) f o

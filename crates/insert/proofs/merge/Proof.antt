@@ -1,9 +1,11 @@
-use mathlib.Core.Path.{sym, _∙_}
+-- `insert::merge` meets its contract: each way out is the first of the edit's causes that fails. Assumes nothing.
+use mathlib.Core.Path.{_≡_, sym, _∙_}
+use mathlib.Core.Bool.{true}
 use borrow.Author.Tests.{not-true, not-false}
 use Rattle.numbers.specs.Bounds.{finite}
-use Rattle.points.specs.Points.{listOf}
+use Rattle.points.specs.Points.{listOf, validPoints}
 use Rattle.points.proofs.Good.{places}
-use Rattle.insert.specs.Insert.{merged}
+use Rattle.insert.specs.Insert.{merged, mergedPoints}
 use Rattle.insert.proofs.Merging.{not-finite, merge-invalid, merge-other, merge-valid, merge-lost, merge-made}
 use borrow.Author.Needs.{needs}
 use Rattle.insert.proofs.merge.Statement.{statement}
@@ -37,38 +39,57 @@ refuse-requires-4 : tie.Need-refuse-requires-4
 refuse-requires-4 c κs = search needs
 
 insert-points-requires : tie.Need-insert-points-requires
-insert-points-requires c κs = (sym (c .before .before .before .before .before .before .before .before .is-valid .ensures) ∙ not-false _ (c .before .before .before .before .before .before .before .if1 .left), sym (c .before .all-finite .ensures) ∙ not-false _ (c .if4 .left))
+insert-points-requires c κs =
+    let shifted = c .before .before .before in (
+      sym (shifted .before .before .before .before .before .is-valid .ensures) ∙ not-false _ (shifted .before .before .before .before .if1 .left),
+      sym (c .before .all-finite .ensures) ∙ not-false _ (c .if4 .left),
+    )
 
 returns : tie.Need-returns
-returns c = c .refuse .ensures ∙ merge-invalid (c .before .before .before .args .points) (c .before .before .before .args .other) (c .before .before .before .args .offset) (sym (c .before .before .is-valid .ensures) ∙ not-true _ (c .before .if1 .taken))
+returns c =
+    let args = c .before .before .before .args in
+    c .refuse .ensures ∙ merge-invalid (args .points) (args .other) (args .offset) (sym (c .before .before .is-valid .ensures) ∙ not-true _ (c .before .if1 .taken))
 
 returns-2 : tie.Need-returns-2
-returns-2 c = c .refuse2 .ensures ∙ merge-other (c .before .before .before .before .before .args .points) (c .before .before .before .before .before .args .other) (c .before .before .before .before .before .args .offset) (sym (c .before .before .is-valid2 .ensures) ∙ not-true _ (c .before .if2 .taken))
+returns-2 c =
+    let args = c .before .before .before .before .before .args in
+    c .refuse2 .ensures ∙ merge-other (args .points) (args .other) (args .offset) (sym (c .before .before .is-valid2 .ensures) ∙ not-true _ (c .before .if2 .taken))
 
 returns-3 : tie.Need-returns-3
+unfolding mergedPoints
 returns-3 c =
-    let ps = c .before .before .before .before .before .before .before .args .points in
-    let other = c .before .before .before .before .before .before .before .args .other in
-    let d = c .before .before .before .before .before .before .before .args .offset in
-    c .refuse3 .ensures ∙ not-finite ps (finite d) (merged (listOf ps) (listOf other) d) (sym (c .before .before .before .before .before .before .is-valid .ensures) ∙ not-false _ (c .before .before .before .before .before .if1 .left)) (sym (c .before .before .is-finite .ensures) ∙ not-true _ (c .before .if3 .taken))
-    ∙ merge-valid ps other d (sym (c .before .before .before .before .is-valid2 .ensures) ∙ not-false _ (c .before .before .before .if2 .left))
+    let args = c .before .before .before .before .before .before .before .args in
+    let ps = args .points in
+    let l = merged (listOf ps) (listOf (args .other)) (args .offset) in
+    let valid : validPoints ps ≡ true = sym (c .before .before .before .before .before .before .is-valid .ensures) ∙ not-false _ (c .before .before .before .before .before .if1 .left) in
+    let other : validPoints (args .other) ≡ true = sym (c .before .before .before .before .is-valid2 .ensures) ∙ not-false _ (c .before .before .before .if2 .left) in
+    c .refuse3 .ensures ∙ not-finite ps (finite (args .offset)) l valid (sym (c .before .before .is-finite .ensures) ∙ not-true _ (c .before .if3 .taken))
+    ∙ merge-valid ps (args .other) (finite (args .offset)) l other
 
 returns-4 : tie.Need-returns-4
+unfolding mergedPoints
 returns-4 c =
+    let shifted = c .before .before .before in
+    let start = shifted .before .before .before .before .before .before .before in
+    let args = start .args in
+    let valid : validPoints (args .points) ≡ true = sym (shifted .before .before .before .before .before .before .is-valid .ensures) ∙ not-false _ (shifted .before .before .before .before .before .if1 .left) in
+    let other : validPoints (args .other) ≡ true = sym (shifted .before .before .before .before .is-valid2 .ensures) ∙ not-false _ (shifted .before .before .before .if2 .left) in
+    let fine : finite (args .offset) ≡ true = sym (shifted .before .before .is-finite .ensures) ∙ not-false _ (shifted .before .if3 .left) in
     c .refuse4 .ensures
-    ∙ merge-lost (c .before .before .before .before .before .before .before .before .before .before .args .points) (c .before .before .before .before .before .before .before .before .before .before .args .other) (c .before .before .before .map-points .result) (c .before .before .before .before .before .before .before .before .before .before .args .offset)
-    (sym (c .before .before .before .before .before .before .before .before .before .is-valid .ensures) ∙ not-false _ (c .before .before .before .before .before .before .before .before .if1 .left))
-    (sym (c .before .before .before .before .before .before .before .is-valid2 .ensures) ∙ not-false _ (c .before .before .before .before .before .before .if2 .left))
-    (places (c .before .before .before .before .before .before .before .before .before .before .args .other) _ (c .before .before .before .before .before .before .before .before .before .before .good .1 .0)) (c .before .before .before .map-points .ensures) (sym (c .before .before .before .before .before .is-finite .ensures) ∙ not-false _ (c .before .before .before .before .if3 .left))
+    ∙ merge-lost (args .points) (args .other) (shifted .map-points .result) (args .offset) valid other (places (args .other) _ (start .good .1 .0)) (shifted .map-points .ensures) fine
     (sym (c .before .before .all-finite .ensures) ∙ not-true _ (c .before .if4 .taken))
 
 returns-5 : tie.Need-returns-5
+unfolding mergedPoints
 returns-5 c =
+    let shifted = c .before .before .before in
+    let start = shifted .before .before .before .before .before .before .before in
+    let args = start .args in
+    let valid : validPoints (args .points) ≡ true = sym (shifted .before .before .before .before .before .before .is-valid .ensures) ∙ not-false _ (shifted .before .before .before .before .before .if1 .left) in
+    let other : validPoints (args .other) ≡ true = sym (shifted .before .before .before .before .is-valid2 .ensures) ∙ not-false _ (shifted .before .before .before .if2 .left) in
+    let fine : finite (args .offset) ≡ true = sym (shifted .before .before .is-finite .ensures) ∙ not-false _ (shifted .before .if3 .left) in
     c .insert-points .ensures
-    ∙ merge-made (c .before .before .before .before .before .before .before .before .before .before .args .points) (c .before .before .before .before .before .before .before .before .before .before .args .other) (c .before .before .before .map-points .result) (c .before .before .before .before .before .before .before .before .before .before .args .offset)
-    (sym (c .before .before .before .before .before .before .before .before .before .is-valid .ensures) ∙ not-false _ (c .before .before .before .before .before .before .before .before .if1 .left))
-    (sym (c .before .before .before .before .before .before .before .is-valid2 .ensures) ∙ not-false _ (c .before .before .before .before .before .before .if2 .left))
-    (places (c .before .before .before .before .before .before .before .before .before .before .args .other) _ (c .before .before .before .before .before .before .before .before .before .before .good .1 .0)) (c .before .before .before .map-points .ensures) (sym (c .before .before .before .before .before .is-finite .ensures) ∙ not-false _ (c .before .before .before .before .if3 .left))
+    ∙ merge-made (args .points) (args .other) (shifted .map-points .result) (args .offset) valid other (places (args .other) _ (start .good .1 .0)) (shifted .map-points .ensures) fine
 
 pub merge-spec : {M : Type 1} → statement M
 merge-spec =

@@ -40,7 +40,8 @@ returns c =
     let len = places ps _ (c .before .before .before .before .before .before .good .0) in
     let ok = and-both (and-both (c .before .before .before .before .before .is-finite .ensures) (c .before .before .before .before .is-finite2 .ensures)) (c .before .before .before .is-finite3 .ensures) in
     let risen = c .before .before .faded-in-all in
-    ends-kept (λ x. fadedOutPlaces b v (fadedInPlaces a v x)) (λ l. fadedOutAll b v (fadedInAll a v l)) (fades-holding a b v) ps (risen .result) (c .finish .ensures .0) ok len (fades-kept a b v ps (risen .result) (risen .ensures) (c .before .if1 .taken))
+    ends-kept (λ x. fadedOutPlaces b v (fadedInPlaces a v x)) (λ l. fadedOutAll b v (fadedInAll a v l)) (fades-holding a b v) ps (risen .result) (c .finish .ensures .0) ok len
+    (fades-kept a b v ps (risen .result) (risen .ensures) (c .before .if1 .taken))
 
 returns-2 : tie.Need-returns-2
 returns-2 c =
@@ -52,7 +53,9 @@ returns-2 c =
     let ok = and-both (and-both (c .before .before .before .before .before .before .is-finite .ensures) (c .before .before .before .before .before .is-finite2 .ensures)) (c .before .before .before .before .is-finite3 .ensures) in
     let risen = c .before .before .before .faded-in-all in
     let last = c .before .last-time in
-    ends-kept (λ x. fadedOutPlaces b v (fadedInPlaces a v x)) (λ l. fadedOutAll b v (fadedInAll a v l)) (fades-holding a b v) ps (mappedIn (changed (FadeOut (sub binary64 (last .result) b) b v)) (risen .result)) (c .edit-from .ensures) ok len (fades-mapped a b v ps (risen .result) (risen .ensures) (last .result) (last .ensures) (c .before .before .if1 .left))
+    ends-kept (λ x. fadedOutPlaces b v (fadedInPlaces a v x)) (λ l. fadedOutAll b v (fadedInAll a v l)) (fades-holding a b v) ps
+    (mappedIn (changed (FadeOut (sub binary64 (last .result) b) b v)) (risen .result)) (c .edit-from .ensures) ok len
+    (fades-mapped a b v ps (risen .result) (risen .ensures) (last .result) (last .ensures) (c .before .before .if1 .left))
 
 pub apply-fades-spec : {M : Type 1} → statement M
 apply-fades-spec =

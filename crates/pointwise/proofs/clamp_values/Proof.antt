@@ -29,7 +29,8 @@ returns c =
     let args = c .before .before .before .before .before .before .before .args in
     let ok = and-both (c .before .before .before .before .before .before .is-finitef .ensures) (c .before .before .before .before .before .is-finitef2 .ensures) in
     c .refuse .ensures
-    ∙ crossed (args .points) (args .min) (args .max) (sym (c .before .before .is-valid .ensures) ∙ c .before .if3 .taken) (sym ok ∙ c .before .before .before .if2 .taken) (c .before .before .before .before .if1 .taken)
+    ∙ crossed (args .points) (args .min) (args .max) (sym (c .before .before .is-valid .ensures) ∙ c .before .if3 .taken)
+    (sym ok ∙ c .before .before .before .if2 .taken) (c .before .before .before .before .if1 .taken)
 
 edit-each-requires : tie.Need-edit-each-requires
 edit-each-requires c κs = search needs

@@ -38,7 +38,8 @@ returns c =
     let base = args .base in
     let len = ap (λ (x : Points). length (x .places)) (made .ensures .0) ∙ map-long (changed (args .change)) (base .count) (base .places) ∙ places base _ (start .good .1 .1 .0) in
     out-accepted (args .points) (made .result .points) (args .ok) (c .before .before .before .before .before .before .is-valid .ensures)
-    (c .before .before .before .before .before .if1 .taken) (c .before .before .before .before .if2 .taken) (made .ensures .1) (c .before .before .if3 .taken) (made .ensures .2) (c .before .if4 .taken) len
+    (c .before .before .before .before .before .if1 .taken) (c .before .before .before .before .if2 .taken)
+    (made .ensures .1) (c .before .before .if3 .taken) (made .ensures .2) (c .before .if4 .taken) len
     ∙ ap (finished (args .points) (args .ok)) (made .ensures .0)
 
 returns-2 : tie.Need-returns-2
@@ -47,7 +48,8 @@ returns-2 c =
     let made = c .before .before .before .map-tested in
     c .refuse .ensures
     ∙ out-rise (args .points) (made .result .points) (args .ok) (c .before .before .before .before .before .before .is-valid .ensures)
-    (c .before .before .before .before .before .if1 .taken) (c .before .before .before .before .if2 .taken) (made .ensures .1) (c .before .before .if3 .taken) (made .ensures .2) (c .before .if4 .left)
+    (c .before .before .before .before .before .if1 .taken) (c .before .before .before .before .if2 .taken)
+    (made .ensures .1) (c .before .before .if3 .taken) (made .ensures .2) (c .before .if4 .left)
     ∙ ap (finished (args .points) (args .ok)) (made .ensures .0)
 
 returns-3 : tie.Need-returns-3

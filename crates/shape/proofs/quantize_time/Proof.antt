@@ -45,7 +45,8 @@ returns-2 c =
     let ps = start .args .points in
     let grid = start .args .grid in
     let len = places ps _ (start .good .0) in
-    ends-quantized ps (c .before .without-repeats .result) grid (c .finish2 .ensures .0) (c .before .before .before .before .is-finite .ensures) (c .before .before .before .if1 .left) (times-fit ps _ (start .good .0))
+    ends-quantized ps (c .before .without-repeats .result) grid (c .finish2 .ensures .0) (c .before .before .before .before .is-finite .ensures)
+    (c .before .before .before .if1 .left) (times-fit ps _ (start .good .0))
     (λ v. c .before .without-repeats .ensures ∙ ap (λ (k : List AutomationPoint). holding (withoutRepeats k)) (ap listOf (c .before .before .map-points .ensures) ∙ mapped-list (changed (Quantize grid)) ps v len))
     ∙ ap (λ (b : Bool). editPoints ps (finite grid) (cond b (listOf ps) (firsts (map (changed (Quantize grid)) (listOf ps))))) (sym (c .before .before .before .if1 .left))
 

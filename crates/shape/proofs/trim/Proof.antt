@@ -22,7 +22,8 @@ returns : tie.Need-returns
 returns c =
     let ps = c .before .before .before .before .args .points in
     let q = inside (c .before .before .before .before .args .start-time) (c .before .before .before .before .args .end-time) in
-    ends ps (c .before .kept-inside .result) (keepIf q (listOf ps)) (c .finish .ensures .0) (and-both (c .before .before .before .is-finite .ensures) (c .before .before .is-finite2 .ensures)) (c .before .kept-inside .ensures)
+    ends ps (c .before .kept-inside .result) (keepIf q (listOf ps)) (c .finish .ensures .0)
+    (and-both (c .before .before .before .is-finite .ensures) (c .before .before .is-finite2 .ensures)) (c .before .kept-inside .ensures)
 
 pub trim-spec : {M : Type 1} → statement M
 trim-spec =
