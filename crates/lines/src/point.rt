@@ -1,6 +1,5 @@
 // A point's line.
 ghost use mathlib.Core.Path.{_≡_};
-ghost use Prim.Native.Nat.{_<_};
 ghost use lib.ListN.{drop};
 ghost use Rattle.fields.specs.Told.{DigitTable};
 ghost use Rattle.lines.specs.Lines.{controlsForm, pointForm, positionOf, pointMeaning, pointLine};

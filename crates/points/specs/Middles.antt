@@ -1,5 +1,5 @@
 -- The elements that stand between two others and pass a test of the three; what one more element does. Assumes nothing.
-use Prim.Native.Nat.{ℕ, zero, suc, _+_, _-_, _≤_, _<_, zero-le, suc-le-suc}
+use Prim.Native.Nat.{ℕ, zero, suc, _+_, _-_, _≤_, _<_}
 use mathlib.Core.Path.{_≡_, refl, ap, _∙_}
 use mathlib.Core.Bool.{Bool, true, false, cond}
 use mathlib.Core.List.{List, [], _∷_, _++_, append-nil}
@@ -20,10 +20,6 @@ module _ {A : Type 0} where
   pub keep-cons : (b : Bool) (x : A) (k ks ys : List A) → k ≡ ks ++ ys → cond b (x ∷ k) k ≡ cond b (x ∷ ks) ks ++ ys
   keep-cons true x k ks ys e = ap (λ (l : List A). x ∷ l) e
   keep-cons false x k ks ys e = e
-
-  pub keep-one : (b : Bool) (x : A) (k : List A) (n : ℕ) → length k ≤ n → length (cond b (x ∷ k) k) ≤ suc n
-  keep-one true x k n h = suc-le-suc h
-  keep-one false x k n h = omega arith
 
   middles-suc : (q : A → A → A → Bool) (l : List A) (k : ℕ) (d : A) → suc (suc k) < length l
       → middles q (take (suc (suc (suc k))) l) ≡ middles q (take (suc (suc k)) l) ++ cond (q (getD l k d) (getD l (suc k) d) (getD l (suc (suc k)) d)) (getD l (suc k) d ∷ []) []
@@ -56,13 +52,3 @@ module _ {A : Type 0} where
   middles-two q [] = refl
   middles-two q (a ∷ []) = refl
   middles-two q (a ∷ (b ∷ l)) = refl
-
-  -- between the first and the last
-  pub middles-few : (q : A → A → A → Bool) (l : List A) → length (middles q l) ≤ length l - 2
-  unfolding middles
-  middles-few q [] = zero-le
-  middles-few q (a ∷ []) = zero-le
-  middles-few q (a ∷ (b ∷ [])) = zero-le
-  middles-few q (a ∷ (b ∷ (c ∷ l))) =
-      let h = middles-few q (b ∷ (c ∷ l)) in
-      omega (arith, keep-one (q a b c) b (middles q (b ∷ (c ∷ l))) (length l) (omega arith))

@@ -11,7 +11,7 @@ use lib.Dec.{T, eqb}
 use lib.ListN.{length, take, drop, getD, set, length-set}
 use lib.IntN.{pos}
 use lib.Seq.{getD-take, length-take-le, drop-set-lt}
-use lib.Ieee.{Float, nan, inf, fin, binary64, lt, le, fits, isNan, ofInt}
+use lib.Ieee.{Float, nan, binary64, lt, le, fits, isNan, ofInt}
 use lib.Ieee.Fits.{div-fits}
 use borrow.Author.Tests.{eqb-true, eqb-false, not-false}
 use Rattle.numbers.specs.Order.{orderKey}
@@ -33,6 +33,7 @@ use Rattle.lookup.specs.declared.Limits.{Limits}
 use Rattle.render.specs.declared.Segment.{Segment}
 use Rattle.render.specs.declared.Ends.{Ends}
 use Rattle.numbers.specs.OrderLaws.{number-key}
+use Rattle.numbers.proofs.BitLaws.{nan-is}
 use Rattle.numbers.proofs.Compare.{lt-left, lt-right, finite-number, le-not, lt-key, lt-around}
 
 every-at : {A : Type 0} (q : A → Bool) (l : List A) (j : ℕ) (d : A) → every q l ≡ true → j < length l → q (getD l j d) ≡ true
@@ -149,12 +150,6 @@ module _ (ps : List AutomationPoint) (n : ℕ) (f : n ≤ length ps) (w : 2 ≤ 
       ∙ place-at timeKey anyPoint (orderKey nan) ps n n f (omega arith) (λ j s. number-key (pointAt ps j .time) (fit j) (number-at j s)) (λ s. absurd (omega arith)))
       (omega arith)
 
-  is-nan : (time : Float) → isNan time ≡ true → time ≡ nan
-  unfolding isNan
-  is-nan nan h = refl
-  is-nan (inf s) h = absurd (false≢true h)
-  is-nan (fin s m e) h = absurd (false≢true h)
-
   pub raw-outside : (silent : Float) (limits : Limits) (time : Float) → (lt (pointAt ps 0 .time) time && lt time (pointAt ps (n - 1) .time)) ≡ false
       → outsideAt (endsOf silent limits (pointAt ps 0) (pointAt ps (n - 1))) time ≡ sampleOf silent limits (rawAt (take n ps) time)
   raw-outside silent limits time h = go (le time x) refl (le y time) refl (isNan time) refl
@@ -169,7 +164,7 @@ module _ (ps : List AutomationPoint) (n : ℕ) (f : n ≤ length ps) (w : 2 ≤ 
           → cond a (constrained limits (pointAt ps 0 .value)) (cond b (constrained limits (pointAt ps (n - 1) .value)) silent) ≡ sampleOf silent limits (rawAt (take n ps) time)
       go true a b q c s = ap (sampleOf silent limits) (sym (raw-first _ _ ps n time f w a))
       go false a true b c s = ap (sampleOf silent limits) (sym (raw-last _ _ ps n time f w a b))
-      go false a false b true s = ap (sampleOf silent limits) (sym (nan-raw time a b (is-nan time s)))
+      go false a false b true s = ap (sampleOf silent limits) (sym (nan-raw time a b (nan-is time s)))
       go false a false b false s =
           let i = not-false (lt x time) (sym (le-not x time (number-at 0 (omega arith)) s) ∙ a) in
           let j = not-false (lt time y) (sym (le-not time y s (number-at (n - 1) (omega arith))) ∙ b) in

@@ -68,13 +68,6 @@ pub order-no : (s : Session) → s .length / 1028 < s .kept → false ≡ inOrde
 unfolding inOrder
 order-no s h = rw (lt-leb (s .kept + s .ahead) (s .length / 1028) (omega arith))
 
--- one more, at most d
-pub more-yes : (k d : ℕ) → k < d → k + 1 ≡ min (k + 1) d
-more-yes k d h = omega arith
-
-pub more-no : (k d : ℕ) → d ≤ k → d ≡ min (k + 1) d
-more-no k d h = omega arith
-
 pub after-yes : (d at : ℕ) → 1 < d - at → at + 1 ≡ slotAfter d at
 unfolding slotAfter
 after-yes d at h = rw (lt-ltb (at + 1) d (omega arith))

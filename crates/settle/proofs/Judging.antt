@@ -80,11 +80,6 @@ pub causes-either : {A : Type 0} (P : A → Type 0) (refuse : Refusal → A) (ow
     → P (gate (causes valid p) refuse own)
 causes-either P refuse own valid p refusing holds = gate-either P (firstFailing (causes valid p)) refuse own refusing (λ h. holds (passes valid p h))
 
-pub judged-either : (P : EditedPoints → Type 0) (ps : Points) (valid : Bool) (p : Proposal) → ((r : Refusal) → P (refused ps r)) → (Passes valid p → P (accepted (holding (p .list))))
-    → P (judged ps valid p)
-unfolding judged
-judged-either P ps valid p refusing holds = causes-either P (refused ps) (accepted (holding (p .list))) valid p refusing holds
-
 -- ---- one that makes a rising list of what is valid: 6 can't meet it
 
 other-answer : Accepted ≡ Refused TimesDontRise → ⊥
