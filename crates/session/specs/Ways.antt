@@ -16,13 +16,12 @@ use Rattle.points.specs.Points.{every}
 use Rattle.points.specs.Laws.{and-left, and-right, and-true, and-false}
 use Rattle.points.specs.declared.refusal.Refusal.{Refusal}
 use Rattle.points.specs.declared.refusal.Refusal.the-variants.{NotValid, MemoryLength, StoredState}
-use Rattle.points.specs.declared.refusal.Answer.{Answer}
 use Rattle.points.specs.declared.refusal.Answer.the-variants.{Accepted, Refused}
 use Rattle.envelope.specs.Envelope.{validEnvelope}
 use Rattle.envelope.specs.Edit.{EditTold, toldEdit}
 use Rattle.envelope.specs.declared.AutomationEnvelope.{AutomationEnvelope}
 use Rattle.envelope.specs.declared.Edited.{Edited}
-use Rattle.state.specs.State.{stateWords, pack, unpacked, readAs, readState, WordsTold, writeState}
+use Rattle.state.specs.State.{stateWords, pack, unpacked, readAs, readState, stateOver}
 use Rattle.session.specs.Session.{depth, stateAt, stored, slotAfter, slotBefore, placeBelow, inOrder, validSession, Called, called, declined, movedTo, counted, settled, exchanged, steppedOver, refusedBy, movedBy}
 use Rattle.session.specs.Calls.{Entry, madeBy, othersValid, Call, edit, back, forward, admission, admissionOf, afterwards, inTurn, testsOf, callValid, ownOf, callOf, behind}
 use Rattle.session.specs.declared.Session.{Session}
@@ -100,12 +99,12 @@ part-words from m h =
     let e : from + 1028 - from ≡ 1028 = omega arith in
     ap (λ (n : ℕ). length (take n (drop from m))) e ∙ length-take-le 1028 (drop from m) (simp length-drop (omega arith))
 
--- a valid envelope's state written over 1,028 words is all of them
-pub part-written : (e : AutomationEnvelope) (part new : List ℕ) → validEnvelope e ≡ true → length part ≡ 1028 → new ≡ writeState e part .words → new ≡ pack e
-unfolding writeState
-part-written e part new v h p =
-    let w : writeState e part ≡ record { said = gives tt; words = pack e ++ drop stateWords part } = rw (v, le-ltb (length part) 1028 (omega (arith, h))) in
-    p ∙ ap (λ (w : WordsTold). w .words) w ∙ ap (λ (l : List ℕ). pack e ++ l) (drop-of-length-le part {i = 1028} (omega (arith, h))) ∙ append-nil (pack e)
+-- a state over 1,028 words is all of them
+pub part-written : (e : AutomationEnvelope) (part new : List ℕ) → length part ≡ 1028 → new ≡ stateOver e part → new ≡ pack e
+unfolding stateOver
+part-written e part new h p =
+    let w : stateOver e part ≡ pack e ++ drop stateWords part = rw (le-ltb (length part) 1028 (omega (arith, h))) in
+    p ∙ w ∙ ap (λ (l : List ℕ). pack e ++ l) (drop-of-length-le part {i = 1028} (omega (arith, h))) ∙ append-nil (pack e)
 
 -- ---- the tests in turn
 
@@ -183,11 +182,6 @@ module _ (x : Entry) (s : Session) (m : List ℕ) where
 -- no answer both gives and refuses
 pub not-both : {n : ℕ} → _≡_ {A = Said (Unit {0})} (gives tt) (refuses n) → ⊥
 not-both h = let z : _≡_ {A = ℕ} 0 1 = cc in omega arith
-
--- an edit that gives 1 where a test fails, and is accepted, has passed the test
-pub accepted-passed : (test : Bool) (a : Answer) → (test ≡ false → said a ≡ refuses 1) → a ≡ Accepted → test ≡ true
-accepted-passed true a one h = refl
-accepted-passed false a one h = absurd (not-both (sym (ap said h) ∙ one refl))
 
 -- what an edit's result makes of the session
 module _ (s : Session) (m : List ℕ) (r : Edited) (a : SessionAnswer) where

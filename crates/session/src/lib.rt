@@ -5,8 +5,6 @@ ghost use Prim.Native.Nat.{_+_, _*_, _/_, _≤_, _<_, min};
 ghost use lib.ListN.{length};
 ghost use Rattle.points.specs.Refusal.{said};
 ghost use Rattle.points.specs.declared.refusal.Refusal.the-variants.{NotValid};
-ghost use Rattle.points.specs.declared.refusal.Answer.the-variants.{Accepted};
-ghost use Rattle.envelope.specs.Envelope.{validEnvelope};
 ghost use Rattle.envelope.specs.Edit.{toldEdit};
 ghost use Rattle.state.specs.State.{pack, readState};
 ghost use Rattle.session.specs.Session.{stateAt, stored, slotAfter, slotBefore, openSession, placeBelow, inOrder, validSession, called, counted, settled, steppedOver, refusedBy, movedBy};
@@ -42,12 +40,11 @@ pub struct SessionAnswer {
 
 fn store(slot: usize, envelope: AutomationEnvelope, memory: &mut [u64])
     requires { ⌜ slot * 1028 + 1028 ≤ length (now memory) ⌝ }
-    requires { ⌜ validEnvelope envelope ≡ true ⌝ }
     ensures { λ _. ⌜ now (memory .exit) ≡ stored slot (pack envelope) (now (memory .entry)) ⌝ }
 {
     let from = slot * 1028;
     let to = from + 1028;
-    state::write::write_state(envelope, &mut memory[from..to]);
+    state::write::fit_state(envelope, &mut memory[from..to]);
 }
 
 fn load(slot: usize, memory: &[u64]) -> Edited
@@ -177,7 +174,6 @@ impl Session {
     fn count(mut self, made: AutomationEnvelope, memory: &mut [u64]) -> SessionAnswer
         requires { ⌜ inOrder self ≡ true ⌝ }
         requires { ⌜ length (now memory) ≡ self .length ⌝ }
-        requires { ⌜ validEnvelope (self .envelope) ≡ true ⌝ }
         ensures { λ a. ⌜ called a (now (memory .exit)) ≡ counted self (now (memory .entry)) made ⌝ }
     {
         let depth = self.length / 1028;
@@ -197,7 +193,6 @@ impl Session {
     fn settle(mut self, r: Edited, memory: &mut [u64]) -> SessionAnswer
         requires { ⌜ inOrder self ≡ true ⌝ }
         requires { ⌜ length (now memory) ≡ self .length ⌝ }
-        requires { ⌜ (r .answer ≡ Accepted → validEnvelope (self .envelope) ≡ true) ⌝ }
         ensures { λ a. ⌜ called a (now (memory .exit)) ≡ settled self (now (memory .entry)) (said (r .answer)) (r .envelope) ⌝ }
     {
         let answer = r.answer;
@@ -262,7 +257,6 @@ impl Session {
         memory: &mut [u64],
     ) -> SessionAnswer
         requires { ⌜ slot * 1028 + 1028 ≤ length (now memory) ⌝ }
-        requires { ⌜ validEnvelope (self .envelope) ≡ true ⌝ }
         ensures { λ a. ⌜ called a (now (memory .exit)) ≡ steppedOver self (now (memory .entry)) slot at kept ahead ⌝ }
     {
         let r = load(slot, memory);

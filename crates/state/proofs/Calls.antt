@@ -16,13 +16,21 @@ use Rattle.envelope.specs.Envelope.{new, validEnvelope}
 use Rattle.envelope.specs.Edit.{toldEdit, refusedEdit}
 use Rattle.envelope.specs.declared.AutomationEnvelope.{AutomationEnvelope}
 use Rattle.envelope.specs.declared.Edited.{Edited}
-use Rattle.state.specs.State.{packSettings, packPoints, pointsOf, pack, stateOf, ifTest, unpacked, readAs, readState, writeState}
+use Rattle.state.specs.State.{packSettings, packPoints, pointsOf, pack, stateOf, ifTest, unpacked, readAs, readState, stateOver, writeState}
 use Rattle.state.specs.StateLaws.{length-places, length-pointsOf}
 use Rattle.state.proofs.Words.{same-state}
 
 -- ---- writing
 
 module _ (e : AutomationEnvelope) (w : List ℕ) where
+  pub over-none : length w < 1028 → w ≡ stateOver e w
+  unfolding stateOver
+  over-none h = rw (lt-ltb (length w) 1028 h)
+
+  pub over-all : 1028 ≤ length w → pack e ++ drop 1028 w ≡ stateOver e w
+  unfolding stateOver
+  over-all h = rw (le-ltb (length w) 1028 h)
+
   pub not-valid : validEnvelope e ≡ false → record { said = refuses 1; words = w } ≡ writeState e w
   unfolding writeState
   not-valid v = rw v

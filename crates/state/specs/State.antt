@@ -161,6 +161,10 @@ readAs (some e) = record { said = gives tt; envelope = e }
 unfoldable pub readState : List ℕ → EditTold
 readState w = readAs (unpacked w)
 
+-- a state from the start of lent words, if they have room for it: the words after it stay
+unfoldable pub stateOver : AutomationEnvelope → List ℕ → List ℕ
+stateOver e w = cond (ltb (length w) stateWords) w (pack e ++ drop stateWords w)
+
 -- the answer of writing, and the lent words after it
 pub record WordsTold : Type 0 where
   pub said : Said (Unit {0})

@@ -5,7 +5,7 @@ ghost use Prim.Native.Nat.{_+_, _<_, _≤_};
 ghost use lib.ListN.{length, drop};
 ghost use lib.Seq.{sets};
 ghost use Rattle.points.specs.Refusal.{said};
-ghost use Rattle.state.specs.State.{halves, flag, hasLimit, limitBits, hasPosition, positionWord, flags, boundsWord, controlsWord, valueWord, packSettings, packPoint, pack, writeState};
+ghost use Rattle.state.specs.State.{halves, flag, hasLimit, limitBits, hasPosition, positionWord, flags, boundsWord, controlsWord, valueWord, packSettings, packPoint, pack, stateOver, writeState};
 use curve::CurveType;
 use envelope::AutomationEnvelope;
 use lookup::Limit;
@@ -156,7 +156,18 @@ fn put_state(envelope: AutomationEnvelope, words: &mut [u64])
     }
 }
 
-// The envelope's state from the start of the lent words; the words after it stay.
+// The envelope's state from the start of the lent words, if they have room; else they stay as they are. The crates above use it where they have tested
+// the envelope: every envelope packs.
+pub fn fit_state(envelope: AutomationEnvelope, words: &mut [u64])
+    ensures { λ _. ⌜ now (words .exit) ≡ stateOver envelope (now (words .entry)) ⌝ }
+{
+    if 1028 > words.len() {
+        return;
+    }
+    put_state(envelope, &mut *words);
+}
+
+// The same with the refusals of a call: 1, then 8.
 pub fn write_state(envelope: AutomationEnvelope, words: &mut [u64]) -> Answer
     ensures { λ r. ⌜ said r ≡ writeState envelope (now (words .entry)) .said ⌝ }
     ensures { λ _. ⌜ now (words .exit) ≡ writeState envelope (now (words .entry)) .words ⌝ }

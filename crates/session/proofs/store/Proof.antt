@@ -13,7 +13,7 @@ use Rattle.session.proofs.store.Statement.{statement}
 use Rattle.session.proofs.store.Tie as tie
 use Rattle.session.proofs.store.Reads as reads
 use Rattle.session.proofs.store.Lts as lts
-use Rattle.state.proofs.write.write_state.Reads as write-state-reads
+use Rattle.state.proofs.write.fit_state.Reads as fit-state-reads
 
 mul-from : tie.Need-mul-from
 mul-from c = search needs
@@ -21,20 +21,20 @@ mul-from c = search needs
 add-to : tie.Need-add-to
 add-to c = search needs
 
-mul-write-state : tie.Need-mul-write-state
-mul-write-state c = search needs
+mul-fit-state : tie.Need-mul-fit-state
+mul-fit-state c = search needs
 
-sub-write-state : tie.Need-sub-write-state
-sub-write-state c = search needs
+sub-fit-state : tie.Need-sub-fit-state
+sub-fit-state c = search needs
 
-part-write-state-start : tie.Need-part-write-state-start
-part-write-state-start c = search needs
+part-fit-state-start : tie.Need-part-fit-state-start
+part-fit-state-start c = search needs
 
-part-write-state-end : tie.Need-part-write-state-end
-part-write-state-end c = search needs
+part-fit-state-end : tie.Need-part-fit-state-end
+part-fit-state-end c = search needs
 
-write-state-requires : tie.Need-write-state-requires
-write-state-requires c κs = search needs
+fit-state-requires : tie.Need-fit-state-requires
+fit-state-requires c κs = search needs
 
 same-length : tie.Need-same-length
 same-length c = search needs
@@ -45,8 +45,7 @@ returns c =
     let entry = c .before .before .before .before .before in
     let a = entry .args in
     ap (λ (l : List ℕ). take (a .slot * 1028) (now (a .memory)) ++ (l ++ postOf (a .slot * 1028) (a .slot * 1028 + 1028 - a .slot * 1028) (now (a .memory))))
-    (part-written (a .envelope) _ _ (entry .pre .1) (part-words (a .slot * 1028) (now (a .memory)) (entry .pre .0))
-    (c .before .before .write-state .ensures .1))
+    (part-written (a .envelope) _ _ (part-words (a .slot * 1028) (now (a .memory)) (entry .pre)) (c .before .before .fit-state .ensures))
     ∙ ap (λ (l : List ℕ). take (a .slot * 1028) (now (a .memory)) ++ (pack (a .envelope) ++ l)) (post-is (a .slot * 1028) (a .slot * 1028 + 1028) (now (a .memory)) (omega arith))
 
 pub store-spec : {M : Type 1} → statement M
@@ -55,10 +54,10 @@ store-spec =
     (tie.spec
     mul-from
     add-to
-    mul-write-state
-    sub-write-state
-    part-write-state-start
-    part-write-state-end
-    write-state-requires
+    mul-fit-state
+    sub-fit-state
+    part-fit-state-start
+    part-fit-state-end
+    fit-state-requires
     same-length
     returns)

@@ -30,7 +30,7 @@ store-requires c κs =
     let entry = some-slot .before .before .before .before .before in
     let o = in-order (entry .args .self) (entry .pre .0) in
     let l = o .below (omega (arith, some-slot .if1 .left)) in
-    (omega (arith, entry .pre .1 .0), entry .pre .1 .1)
+    omega (arith, entry .pre .1)
 
 moved-requires-2 : tie.Need-moved-requires-2
 moved-requires-2 c κs = search needs

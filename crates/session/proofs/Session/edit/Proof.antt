@@ -8,7 +8,7 @@ use Rattle.points.specs.Checks.{refusalOf}
 use Rattle.session.specs.Session.{called, settled}
 use Rattle.session.specs.Calls.{alone}
 use Rattle.session.specs.One.{edit-one}
-use Rattle.session.specs.Ways.{admitted-length, edit-order, edit-refused, edit-own, accepted-passed}
+use Rattle.session.specs.Ways.{admitted-length, edit-order, edit-refused, edit-own}
 use Rattle.session.specs.declared.SessionAnswer.{SessionAnswer}
 use borrow.Author.Needs.{needs}
 use Rattle.session.proofs.Session.edit.Statement.{statement}
@@ -37,17 +37,12 @@ edit-requires c κs = search needs
 
 settle-requires : tie.Need-settle-requires
 settle-requires c κs =
-    let made = c .before in
-    let told = made .before in
+    let told = c .before .before in
     let admitted = told .before .before in
     let tested = admitted .before .before in
     let a = tested .before .before .before .before .args in (
       sym (tested .before .in-order .ensures) ∙ tested .if1 .taken,
-      (
-        admitted-length (a .self) (now (a .memory)) (sym (admitted .admit .ensures) ∙ ap refusalOf (told .enum-told .given .1)),
-        accepted-passed (validEnvelope (a .self .envelope)) (made .edit .result .answer)
-            (λ f. ap (λ (t : EditTold). t .said) (made .edit .ensures) ∙ edit-one (a .e) (a .self .envelope) f),
-      ),
+      admitted-length (a .self) (now (a .memory)) (sym (admitted .admit .ensures) ∙ ap refusalOf (told .enum-told .given .1)),
     )
 
 enum-known-admitted : tie.Need-enum-known-admitted

@@ -2,14 +2,12 @@
 use mathlib.Core.Path.{ap, sym, _∙_}
 use denote.Ref.{now}
 use mathlib.Core.Bool.{_&&_}
-use Rattle.points.specs.Laws.{and-left}
-use Rattle.envelope.specs.Envelope.{validEnvelope}
 use Rattle.envelope.specs.Edit.{EditTold}
 use Rattle.points.specs.Checks.{refusalOf}
 use Rattle.session.specs.Session.{called, settled}
 use Rattle.session.specs.Calls.{joined}
 use Rattle.session.specs.One.{join-one}
-use Rattle.session.specs.Ways.{admitted-length, edit-order, edit-refused, edit-own, accepted-passed}
+use Rattle.session.specs.Ways.{admitted-length, edit-order, edit-refused, edit-own}
 use Rattle.session.specs.declared.SessionAnswer.{SessionAnswer}
 use borrow.Author.Needs.{needs}
 use Rattle.session.proofs.Session.join.Statement.{statement}
@@ -38,19 +36,12 @@ join-requires c κs = search needs
 
 settle-requires : tie.Need-settle-requires
 settle-requires c κs =
-    let made = c .before in
-    let told = made .before in
+    let told = c .before .before in
     let admitted = told .before .before in
     let tested = admitted .before .before in
-    let a = tested .before .before .before .before .args in
-    let e = a .self .envelope in (
+    let a = tested .before .before .before .before .args in (
       sym (tested .before .in-order .ensures) ∙ tested .if1 .taken,
-      (
-        admitted-length (a .self) (now (a .memory)) (sym (admitted .admit .ensures) ∙ ap refusalOf (told .enum-told .given .1)),
-        λ h. and-left (validEnvelope e) (validEnvelope (a .other))
-            (accepted-passed (validEnvelope e && validEnvelope (a .other)) (made .join .result .answer)
-            (λ f. ap (λ (t : EditTold). t .said) (made .join .ensures) ∙ join-one (a .join) e (a .other) f) h),
-      ),
+      admitted-length (a .self) (now (a .memory)) (sym (admitted .admit .ensures) ∙ ap refusalOf (told .enum-told .given .1)),
     )
 
 enum-known-admitted : tie.Need-enum-known-admitted

@@ -15,7 +15,7 @@ enum-told c = search needs
 count-requires : tie.Need-count-requires
 count-requires c κs =
     let entry = c .before .before .before .before .before in
-    (entry .pre .0, (entry .pre .1 .0, entry .pre .1 .1 (c .before .before .enum-told .given .1)))
+    (entry .pre .0, entry .pre .1)
 
 enum-known-answer : tie.Need-enum-known-answer
 enum-known-answer c = search needs

@@ -2,7 +2,7 @@
 use mathlib.Core.Path.{ap, _∙_}
 use denote.Ref.{now}
 use native.Mathlib.Omega.{arith}
-use Rattle.points.specs.Laws.{and-left, and-right}
+use Rattle.points.specs.Laws.{and-right}
 use Rattle.envelope.specs.Envelope.{validEnvelope}
 use Rattle.session.specs.Session.{inOrder, called}
 use Rattle.session.specs.Ways.{in-order, before-below, back-none, back-over}
@@ -45,7 +45,7 @@ step-over-requires c κs =
     let s = entry .args .self in
     let o = in-order s (and-right (validEnvelope (s .envelope)) (inOrder s) (entry .pre .0)) in
     let l = before-below s (slot .slot-before .result) o (omega (arith, some-kept .if1 .left)) (slot .slot-before .ensures) in
-    (omega (arith, l, entry .pre .1), and-left (validEnvelope (s .envelope)) (inOrder s) (entry .pre .0))
+    omega (arith, l, entry .pre .1)
 
 returns : tie.Need-returns
 returns c =

@@ -2,7 +2,7 @@
 use mathlib.Core.Path.{ap, _∙_}
 use denote.Ref.{now}
 use native.Mathlib.Omega.{arith}
-use Rattle.points.specs.Laws.{and-left, and-right}
+use Rattle.points.specs.Laws.{and-right}
 use Rattle.envelope.specs.Envelope.{validEnvelope}
 use Rattle.session.specs.Session.{inOrder, called}
 use Rattle.session.specs.Ways.{in-order, forward-none, forward-over}
@@ -44,7 +44,7 @@ step-over-requires c κs =
     let o = in-order s (and-right (validEnvelope (s .envelope)) (inOrder s) (entry .pre .0)) in
     let r = o .room in
     let l = o .below (omega (arith, r, some-ahead .if1 .left)) in
-    (omega (arith, l, entry .pre .1), and-left (validEnvelope (s .envelope)) (inOrder s) (entry .pre .0))
+    omega (arith, l, entry .pre .1)
 
 returns : tie.Need-returns
 returns c =
