@@ -2,28 +2,28 @@
 use std::hint::black_box;
 use std::time::{Duration, Instant};
 
-/// One side's function, by its symbol, and a pass that calls it on every input.
+/// One side's function, by its symbol, and a pass that does the work so many times.
 pub struct Side {
-    symbol: &'static str,
-    pass: Box<dyn Fn()>,
+    pub symbol: &'static str,
+    pass: Box<dyn Fn(usize)>,
 }
 
 impl Side {
-    pub fn new(symbol: &'static str, pass: impl Fn() + 'static) -> Self {
+    pub fn new(symbol: &'static str, pass: impl Fn(usize) + 'static) -> Self {
         Side {
             symbol,
             pass: Box::new(pass),
         }
     }
 
-    pub fn pass(&self) {
-        (self.pass)()
+    pub fn pass(&self, turns: usize) {
+        (self.pass)(turns)
     }
 
-    fn time(&self, passes: u32) -> Duration {
+    fn time(&self, passes: u32, turns: usize) -> Duration {
         let start = Instant::now();
         for _ in 0..passes {
-            self.pass();
+            self.pass(turns);
         }
         start.elapsed()
     }
@@ -31,7 +31,9 @@ impl Side {
 
 pub struct Figure {
     pub name: String,
-    /// How many units of work a pass has: calls, or samples, or points.
+    /// How many times a pass does the work.
+    pub turns: usize,
+    /// How many units a turn has: calls, or samples.
     pub units: usize,
     /// The most that the Rattle's time may be of the Rust's, where a target is set.
     pub most: Option<f64>,
@@ -42,6 +44,11 @@ pub struct Figure {
 }
 
 impl Figure {
+    /// The units of a pass.
+    fn all(&self) -> usize {
+        self.turns * self.units
+    }
+
     pub fn side(&self, name: &str) -> &Side {
         match name {
             "rattle" => &self.rattle,
@@ -56,16 +63,16 @@ impl Figure {
         const ROUNDS: u32 = 100;
         let once = self
             .rattle
-            .time(1)
-            .max(self.rust.time(1))
+            .time(1, self.turns)
+            .max(self.rust.time(1, self.turns))
             .max(Duration::from_nanos(100));
         let passes = (Duration::from_millis(1).as_nanos() / once.as_nanos()).max(1) as u32;
         let (mut rattle, mut rust) = (Duration::MAX, Duration::MAX);
         for _ in 0..ROUNDS {
-            rattle = rattle.min(self.rattle.time(passes));
-            rust = rust.min(self.rust.time(passes));
+            rattle = rattle.min(self.rattle.time(passes, self.turns));
+            rust = rust.min(self.rust.time(passes, self.turns));
         }
-        let unit = |t: Duration| t.as_secs_f64() * 1e9 / (passes as f64 * self.units as f64);
+        let unit = |t: Duration| t.as_secs_f64() * 1e9 / (passes as f64 * self.all() as f64);
         (unit(rattle), unit(rust))
     }
 
@@ -102,10 +109,29 @@ impl Figure {
             "{}\t{}\t{}\t{}\t{rattle:.digits$}\t{rust:.digits$}\t{ratio:.2}\t{}",
             self.rattle.symbol,
             self.rust.symbol,
-            self.units,
+            self.all(),
             self.name,
             self.most(ratio)
         );
+    }
+}
+
+/// A figure at three numbers of points; the most that a ratio may be is of the last.
+pub struct Sizes {
+    pub name: &'static str,
+    pub figures: [Figure; 3],
+}
+
+impl Sizes {
+    /// A row: name, the three ratios, the most that the last may be, and both times at each number of points.
+    pub fn print_row(&self) {
+        let all = self.figures.each_ref().map(Figure::measured);
+        let ratios = all.map(|(_, _, ratio)| format!("{ratio:.2}")).join(" | ");
+        let times = all
+            .map(|(rattle, rust, _)| format!("{rattle:.0} / {rust:.0}"))
+            .join(" | ");
+        let most = self.figures[2].most(all[2].2);
+        println!("| {} | {ratios} | {most} | {times} |", self.name);
     }
 }
 
@@ -127,14 +153,15 @@ macro_rules! calls {
         let (first, second, both) = (inputs.clone(), inputs.clone(), inputs.clone());
         Figure {
             name: $name.to_string(),
-            units: inputs.len(),
+            turns: inputs.len(),
+            units: 1,
             most: None,
             agree: Box::new(move || both.iter().all(|&x| unsafe { $rattle(x) == $rust(x) })),
-            rattle: Side::new(stringify!($rattle), move || {
-                figure::each(&first, |x| unsafe { $rattle(x) })
+            rattle: Side::new(stringify!($rattle), move |turns| {
+                figure::each(&first[..turns], |x| unsafe { $rattle(x) })
             }),
-            rust: Side::new(stringify!($rust), move || {
-                figure::each(&second, |x| unsafe { $rust(x) })
+            rust: Side::new(stringify!($rust), move |turns| {
+                figure::each(&second[..turns], |x| unsafe { $rust(x) })
             }),
         }
     }};

@@ -1,6 +1,6 @@
 //! The figures on envelopes. Both sides get the same lists of times and values, make their envelope
 //! of them, do the work so many times in one call, and must leave the same bits.
-use crate::figure::{Figure, Side};
+use crate::figure::{Figure, Side, Sizes};
 use crate::inputs;
 use std::cell::RefCell;
 use std::hint::black_box;
@@ -55,6 +55,24 @@ fn input(points: usize, curve: u32) -> &'static Input {
     }))
 }
 
+/// The same points, their times so many times as far apart.
+fn slower(points: usize, factor: f64) -> &'static Input {
+    let Input {
+        times,
+        values,
+        curve,
+        at,
+        samples,
+    } = input(points, LINEAR);
+    Box::leak(Box::new(Input {
+        times: times.iter().map(|t| t * factor).collect(),
+        values: values.clone(),
+        curve: *curve,
+        at: at.clone(),
+        samples: samples.clone(),
+    }))
+}
+
 /// The lists that a call may fill.
 pub struct Room {
     pub times: Vec<f64>,
@@ -83,25 +101,27 @@ impl Room {
 /// A figure of one of the pairs. Both sides must say and leave the same bits.
 pub fn figure(
     name: impl ToString,
+    turns: usize,
     units: usize,
     most: Option<f64>,
     symbols: (&'static str, &'static str),
     room: usize,
-    call: impl Fn(bool, &mut Room) -> u64 + Copy + 'static,
+    call: impl Fn(bool, &mut Room, usize) -> u64 + Copy + 'static,
 ) -> Figure {
     let once = move |rattle: bool| {
         let mut left = Room::new(room);
-        (call(rattle, &mut left), left.bits())
+        (call(rattle, &mut left, turns), left.bits())
     };
     // what a pass fills is there before it is timed
     let side = |symbol, rattle: bool| {
         let left = RefCell::new(Room::new(room));
-        Side::new(symbol, move || {
-            black_box(call(rattle, &mut left.borrow_mut()));
+        Side::new(symbol, move |turns| {
+            black_box(call(rattle, &mut left.borrow_mut(), turns));
         })
     };
     Figure {
         name: name.to_string(),
+        turns,
         units,
         most,
         agree: Box::new(move || once(true) == once(false)),
@@ -112,9 +132,9 @@ pub fn figure(
 
 /// A figure whose call has an input's lists and more arguments, which may use the lists to fill.
 macro_rules! record {
-    ($name:expr, $units:expr, $most:expr, $input:expr, $rattle:ident, $rust:ident, $room:expr, |$left:ident| ($($arg:expr),*)) => {{
+    ($name:expr, $turns:expr, $units:expr, $most:expr, $input:expr, $rattle:ident, $rust:ident, $room:expr, |$left:ident, $n:ident| ($($arg:expr),*)) => {{
         let i: &'static Input = $input;
-        figure($name, $units, $most, (stringify!($rattle), stringify!($rust)), $room, move |rattle, $left| {
+        figure($name, $turns, $units, $most, (stringify!($rattle), stringify!($rust)), $room, move |rattle, $left, $n| {
             let call = if rattle { $rattle } else { $rust };
             unsafe { call(i.times.as_ptr(), i.times.len(), i.values.as_ptr(), i.values.len(), i.curve, $($arg),*) }
         })
@@ -134,36 +154,37 @@ const RATE: f64 = 48_000.0;
 const SAMPLES: usize = 48_000;
 
 fn rendering() -> Vec<Figure> {
-    const TURNS: u32 = 4;
+    const TURNS: usize = 4;
     let mut all = Vec::new();
     for (curve, code, most) in CURVES {
         for (points, most) in [2, 16, 256].into_iter().zip(most) {
             let name = format!("to_buffer, {curve}, {points}");
-            let units = SAMPLES * TURNS as usize;
             all.push(record!(
                 name,
-                units,
+                TURNS,
+                SAMPLES,
                 Some(most),
                 input(points, code),
                 rattle_to_buffer,
                 rust_to_buffer,
                 SAMPLES,
-                |left| (RATE, 1.0, TURNS, left.values.as_mut_ptr(), SAMPLES)
+                |left, turns| (RATE, 1.0, turns as u32, left.values.as_mut_ptr(), SAMPLES)
             ));
         }
     }
-    const BLOCKS: u32 = 100;
+    const BLOCKS: usize = 100;
     for (curve, code, _) in CURVES {
         let name = format!("64 samples, {curve}, 256");
         all.push(record!(
             name,
-            BLOCKS as usize,
+            BLOCKS,
+            1,
             Some(1.5),
             input(256, code),
             rattle_render,
             rust_render,
             64,
-            |left| (RATE, 24_000, BLOCKS, left.values.as_mut_ptr(), 64)
+            |left, turns| (RATE, 24_000, turns as u32, left.values.as_mut_ptr(), 64)
         ));
     }
     all
@@ -177,22 +198,24 @@ fn lookups() -> Vec<Figure> {
         all.push(record!(
             format!("get_value_at, {points}"),
             LOOKUPS,
+            1,
             most,
             i,
             rattle_get_value_at,
             rust_get_value_at,
             0,
-            |_left| (i.at.as_ptr(), LOOKUPS)
+            |_left, turns| (i.at.as_ptr(), turns)
         ));
         all.push(record!(
             format!("get_value_at_sample, {points}"),
             LOOKUPS,
+            1,
             most,
             i,
             rattle_get_value_at_sample,
             rust_get_value_at_sample,
             0,
-            |_left| (i.samples.as_ptr(), LOOKUPS)
+            |_left, turns| (i.samples.as_ptr(), turns)
         ));
     }
     all
@@ -230,96 +253,129 @@ const EDITS: [(&str, u32, f64, f64); 28] = [
     ("set_step", 25, 0.5, 0.0),
 ];
 /// Those that take a second envelope: itself, later by x. Of two of 128 points they make 256.
-const PAIRS: [(&str, u32, f64, f64, f64); 7] = [
-    ("merge, 128 and 128", 26, 0.001, 0.0, 4.0),
-    ("blend, 128 and 128", 27, 0.001, 0.25, 2.0),
-    ("add, 128 and 128", 28, 0.001, 0.0, 2.0),
-    ("multiply, 128 and 128", 29, 0.001, 0.0, 2.0),
-    ("min, 128 and 128", 30, 0.001, 0.0, 2.0),
-    ("max, 128 and 128", 31, 0.001, 0.0, 2.0),
-    ("subtract, 128 and 128", 32, 0.001, 0.0, 2.0),
+const JOINS: [(&str, u32, f64, f64, f64); 7] = [
+    ("merge", 26, 0.001, 0.0, 4.0),
+    ("blend", 27, 0.001, 0.25, 2.0),
+    ("add", 28, 0.001, 0.0, 2.0),
+    ("multiply", 29, 0.001, 0.0, 2.0),
+    ("min", 30, 0.001, 0.0, 2.0),
+    ("max", 31, 0.001, 0.0, 2.0),
+    ("subtract", 32, 0.001, 0.0, 2.0),
 ];
 const PLACES: usize = 256;
 
-fn edits() -> Vec<Figure> {
-    let edit = |(name, which, x, y): (&'static str, u32, f64, f64), most: f64, i: &'static Input| {
-        const TURNS: u32 = 200;
-        record!(
-            name,
-            TURNS as usize,
-            Some(most),
-            i,
-            rattle_edit,
-            rust_edit,
+/// An edit by its number, on an envelope of so many points.
+fn edit(name: String, points: usize, (which, x, y): (u32, f64, f64), most: Option<f64>) -> Figure {
+    const TURNS: usize = 200;
+    record!(
+        name,
+        TURNS,
+        1,
+        most,
+        input(points, LINEAR),
+        rattle_edit,
+        rust_edit,
+        PLACES,
+        |left, turns| (
+            which,
+            x,
+            y,
+            turns as u32,
+            left.times.as_mut_ptr(),
             PLACES,
-            |left| (
-                which,
-                x,
-                y,
-                TURNS,
-                left.times.as_mut_ptr(),
-                PLACES,
-                left.values.as_mut_ptr(),
-                PLACES
-            )
+            left.values.as_mut_ptr(),
+            PLACES
+        )
+    )
+}
+
+/// The edits of one envelope, at 2, 16 and 255 points. The limit is of the last.
+pub fn edits() -> Vec<Sizes> {
+    let at = |points: usize, (name, which, x, y): (&str, u32, f64, f64)| {
+        let most = (points == 255).then_some(4.0);
+        edit(format!("{name}, {points}"), points, (which, x, y), most)
+    };
+    let sizes = |e: (&'static str, u32, f64, f64)| Sizes {
+        name: e.0,
+        figures: [2, 16, 255].map(|points| at(points, e)),
+    };
+    EDITS.into_iter().map(sizes).collect()
+}
+
+/// The edits of two envelopes, of 2, 16 and 128 points each. The limit is of the last.
+pub fn joins() -> Vec<Sizes> {
+    let at = |points: usize, (name, which, x, y, most): (&str, u32, f64, f64, f64)| {
+        let most = (points == 128).then_some(most);
+        edit(
+            format!("{name}, {points} and {points}"),
+            points,
+            (which, x, y),
+            most,
         )
     };
-    let i = input(255, LINEAR);
-    let mut all: Vec<Figure> = EDITS.into_iter().map(|e| edit(e, 4.0, i)).collect();
-    let i = input(128, LINEAR);
-    all.extend(
-        PAIRS
-            .into_iter()
-            .map(|(name, which, x, y, most)| edit((name, which, x, y), most, i)),
-    );
-    all
+    let sizes = |e: (&'static str, u32, f64, f64, f64)| Sizes {
+        name: e.0,
+        figures: [2, 16, 128].map(|points| at(points, e)),
+    };
+    JOINS.into_iter().map(sizes).collect()
+}
+
+const ANALYSES: usize = 100;
+
+/// The ranges from `start` to `end`, from `start + 1` to `end`, and so on.
+fn ranges(name: &str, i: &'static Input, (start, end): (f64, f64), turns: usize) -> Figure {
+    record!(
+        name,
+        turns,
+        1,
+        Some(2.0),
+        i,
+        rattle_get_range,
+        rust_get_range,
+        0,
+        |_left, turns| (start, end, turns as u32)
+    )
 }
 
 fn analyses() -> Vec<Figure> {
-    const TURNS: u32 = 20;
-    let units = TURNS as usize;
     let i = input(256, LINEAR);
     vec![
-        record!(
-            "get_range, 256",
-            units,
-            Some(2.0),
-            i,
-            rattle_get_range,
-            rust_get_range,
-            0,
-            |_left| (0.1, 0.9, TURNS)
-        ),
+        // from 0 to 1,000 seconds, so that every range starts and ends inside
+        ranges("get_range, 256", slower(256, 1000.0), (100.0, 900.0), ANALYSES),
+        ranges("get_range back from past the last point, 256", i, (1.1, 0.9), 20),
         record!(
             "get_range_samples, 256",
-            units,
+            ANALYSES,
+            1,
             None,
             i,
             rattle_get_range_samples,
             rust_get_range_samples,
             0,
-            |_left| (4_800, 43_200, TURNS)
+            |_left, turns| (4_800, 43_200, turns as u32)
         ),
         record!(
             "get_slope_at, 256",
             LOOKUPS,
+            1,
             None,
             i,
             rattle_get_slope_at,
             rust_get_slope_at,
             0,
-            |_left| (i.at.as_ptr(), LOOKUPS)
+            |_left, turns| (i.at.as_ptr(), turns)
         ),
         record!(
             "find_peaks, 256",
-            units,
+            ANALYSES,
+            1,
             None,
             i,
             rattle_find_peaks,
             rust_find_peaks,
             PLACES,
-            |left| (
-                TURNS,
+            |left, turns| (
+                turns as u32,
                 left.times.as_mut_ptr(),
                 PLACES,
                 left.values.as_mut_ptr(),
@@ -331,30 +387,32 @@ fn analyses() -> Vec<Figure> {
 
 /// At step memories of one state, of 16 and of 256: what a call costs doesn't grow with them.
 fn sessions() -> Vec<Figure> {
-    const TURNS: u32 = 200;
+    const TURNS: usize = 200;
     let i = input(256, LINEAR);
     let mut all = Vec::new();
     for depth in [1, 16, 256] {
         let words = depth * 1028;
         all.push(record!(
             format!("session edit, D = {depth}"),
-            TURNS as usize,
+            TURNS,
+            1,
             Some(3.0),
             i,
             rattle_session_edit,
             rust_session_edit,
             words,
-            |left| (TURNS, left.memory.as_mut_ptr(), words)
+            |left, turns| (turns as u32, left.memory.as_mut_ptr(), words)
         ));
         all.push(record!(
             format!("session step, D = {depth}"),
-            2 * TURNS as usize,
+            TURNS,
+            2,
             Some(3.0),
             i,
             rattle_session_step,
             rust_session_step,
             words,
-            |left| (TURNS, left.memory.as_mut_ptr(), words)
+            |left, turns| (turns as u32, left.memory.as_mut_ptr(), words)
         ));
     }
     all
@@ -363,7 +421,6 @@ fn sessions() -> Vec<Figure> {
 pub fn figures() -> Vec<Figure> {
     let mut all = rendering();
     all.extend(lookups());
-    all.extend(edits());
     all.extend(analyses());
     all.extend(sessions());
     all

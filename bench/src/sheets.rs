@@ -84,23 +84,34 @@ fn refuse_alike(sheet: &[u8]) -> bool {
 }
 
 pub fn figures() -> Vec<Figure> {
-    const TURNS: u32 = 100;
+    const TURNS: usize = 100;
     const ROOM: usize = 20_000;
     let sheet = sheet();
     let reading = figure(
         "read_sheet, 256",
-        TURNS as usize,
+        TURNS,
+        1,
         Some(2.0),
         ("rattle_read_sheet", "rust_read_sheet"),
         PLACES,
-        move |rattle, left| {
+        move |rattle, left, turns| {
             let read = if rattle {
                 rattle_read_sheet
             } else {
                 rust_read_sheet
             };
             let (times, values) = (left.times.as_mut_ptr(), left.values.as_mut_ptr());
-            unsafe { read(sheet.as_ptr(), sheet.len(), TURNS, times, PLACES, values, PLACES) }
+            unsafe {
+                read(
+                    sheet.as_ptr(),
+                    sheet.len(),
+                    turns as u32,
+                    times,
+                    PLACES,
+                    values,
+                    PLACES,
+                )
+            }
         },
     );
     let same = reading.agree;
@@ -110,17 +121,26 @@ pub fn figures() -> Vec<Figure> {
     };
     let writing = figure(
         "write_sheet, 256",
-        TURNS as usize,
+        TURNS,
+        1,
         None,
         ("rattle_write_sheet", "rust_write_sheet"),
         ROOM,
-        move |rattle, left| {
+        move |rattle, left, turns| {
             let write = if rattle {
                 rattle_write_sheet
             } else {
                 rust_write_sheet
             };
-            unsafe { write(sheet.as_ptr(), sheet.len(), TURNS, left.bytes.as_mut_ptr(), ROOM) }
+            unsafe {
+                write(
+                    sheet.as_ptr(),
+                    sheet.len(),
+                    turns as u32,
+                    left.bytes.as_mut_ptr(),
+                    ROOM,
+                )
+            }
         },
     );
     vec![reading, writing]

@@ -21,7 +21,8 @@ pub unsafe extern "C" fn rust_read_sheet(
     let text = from_raw_parts(text, text_len);
     let mut last = read_sheet(text);
     for _ in 1..turns {
-        last = black_box(read_sheet(black_box(text)));
+        last = read_sheet(black_box(text));
+        black_box(&last);
     }
     let e = match last {
         Ok(e) => e,
