@@ -139,9 +139,10 @@ fn sheet(l: &mut Lines, end: fn(&[u8]) -> bool) -> Result<Envelope, u32> {
     Ok(e)
 }
 
-/// In the program the points end at `rate duration`.
+/// In the program the points end at `rate duration`, whether or not its line ends.
 fn play(l: &mut Lines) -> Result<Play, u32> {
-    let envelope = sheet(l, |left| left.starts_with(b"rate duration\n"))?;
+    let ended = |left: &[u8]| left == b"rate duration" || left.starts_with(b"rate duration\n");
+    let envelope = sheet(l, ended)?;
     l.names("rate duration")?;
     let [rate, duration] = l.fields()?;
     let (rate, duration) = (bits(rate, 16)?, bits(duration, 16)?);
