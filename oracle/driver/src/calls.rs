@@ -1,9 +1,10 @@
 //! The Rust's answer to a call, as text.
 use crate::domain::{refused_after, refused_before, stride, valid};
+use crate::forms::signature;
 use crate::reader::read_sheet;
 use crate::records::{of_points, Envelope};
 use crate::rules::{self, bare, hold, same, Marked};
-use crate::text::{self, double, marked, signature, single, word, Arg};
+use crate::text::{self, double, marked, single, word, Arg};
 use std::panic::{catch_unwind, AssertUnwindSafe};
 
 /// What a call gives: the answer's text, and the envelope where one comes back.
@@ -254,7 +255,7 @@ fn range_samples(e: &Envelope, from: u64, to: u64) -> String {
 fn buffer(len: u64, place: u64, samples: impl Iterator<Item = Marked>) -> String {
     let before = (0..len).map(|i| format!("{:08X}", 0x4B00_0000 + i as u32));
     let mut places: Vec<String> = before.collect();
-    for (k, (v, open)) in (place as usize..).zip(samples) {
+    for ((v, open), k) in samples.zip(place as usize..) {
         if k >= places.len() {
             places.resize(k + 1, "outside".into());
         }

@@ -1,6 +1,7 @@
 //! Document 01's domain and its refusals, in its order.
+use crate::forms::signature;
 use crate::records::{controls, of_points, AutomationPoint, CurveType, Envelope};
-use crate::text::{sheet, signature, Arg};
+use crate::text::{sheet, Arg};
 
 /// The most samples of a run.
 pub const MOST: u64 = u32::MAX as u64;

@@ -3,9 +3,10 @@
 //! it, merges that replace points, results past 256 points, and numbers that are not finite.
 use crate::edges::{near, near_double, sign};
 use crate::envelopes::{sort, NOT_FINITE};
+use crate::forms::signature;
 use crate::random::Random;
 use crate::records::{of_points, AutomationPoint, Envelope};
-use crate::text::{signature, Arg};
+use crate::text::Arg;
 
 pub fn arguments(r: &mut Random, op: &str) -> Vec<Arg> {
     let (kinds, _) = signature(op).unwrap();

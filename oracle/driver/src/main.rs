@@ -5,52 +5,80 @@ mod domain;
 mod edges;
 mod edits;
 mod envelopes;
+mod forms;
 mod plays;
+mod printed;
 mod random;
 mod reader;
 mod records;
+mod reply;
 mod rules;
 mod session;
 mod sheets;
 mod state;
 mod text;
+mod wrong;
+mod wrong_plays;
+mod wrong_sessions;
 
-use calls::{call, Answer};
+use calls::call;
 use random::Random;
+use reply::reply;
 use session::{session, Sessions};
-use std::io::{BufRead, BufWriter, Result, Write};
-use text::{arguments, Read, Registers, Words, OPERATIONS};
+use std::io::{stdin, BufRead, BufWriter, Read, Result, Write};
+use text::{arguments, Registers};
 
 const USAGE: &str = "oracle_driver [--raw]
 oracle_driver --gen SEED N [OPERATION,..]
 oracle_driver --vectors SEED N [OPERATION,..]
 oracle_driver --sessions SEED N [WORDS]
+oracle_driver --wrong SEED
+oracle_driver --printed
 oracle_driver --plays SEED N FOLDER
-oracle_driver --play-list SEED POINTS";
+oracle_driver --play-fixed SEED
+oracle_driver --play-list SEED POINTS
+oracle_driver --play-wrong SEED
+oracle_driver --play-printed
+oracle_driver --play";
 
 fn main() -> Result<()> {
-    std::panic::set_hook(Box::new(|_| {}));
+    std::panic::set_hook(Box::new(|e| {
+        // a panic of the Rust is an answer
+        if e.location().is_some_and(|l| l.file().contains("driver/src")) {
+            eprintln!("{e}");
+        }
+    }));
     let words: Vec<String> = std::env::args().skip(1).collect();
     let words: Vec<&str> = words.iter().map(String::as_str).collect();
-    let mut out = BufWriter::new(std::io::stdout().lock());
+    let out = &mut BufWriter::new(std::io::stdout().lock());
     match words[..] {
-        [] => replies(&mut out, false)?,
-        ["--raw"] => replies(&mut out, true)?,
-        ["--plays", seed, count, folder] => {
-            let (Ok(seed), Ok(count)) = (seed.parse(), count.parse()) else {
-                panic_usage();
-            };
-            plays::write(std::path::Path::new(folder), seed, count)?;
+        [] => replies(out, false)?,
+        ["--raw"] => replies(out, true)?,
+        ["--gen", seed, count, ref ops @ ..] => {
+            random_calls(out, number(seed), number(count), ops.first(), false)?
         }
-        [mode @ ("--gen" | "--vectors" | "--sessions" | "--play-list"), seed, count, ref rest @ ..] => {
-            let (Ok(seed), Ok(count)) = (seed.parse(), count.parse()) else {
-                panic_usage();
-            };
-            match mode {
-                "--play-list" => plays::list(&mut out, seed, count)?,
-                "--sessions" => random_sessions(&mut out, seed, count, rest.first())?,
-                _ => random_calls(&mut out, seed, count, rest.first(), mode == "--vectors")?,
-            }
+        ["--vectors", seed, count, ref ops @ ..] => {
+            random_calls(out, number(seed), number(count), ops.first(), true)?
+        }
+        ["--sessions", seed, count, ref words @ ..] => {
+            random_sessions(out, number(seed), number(count), words.first().map(|w| number(w)))?
+        }
+        ["--wrong", seed] => wrong::write(out, number(seed))?,
+        ["--printed"] => {
+            let mut sessions = Sessions::new();
+            printed::print(out, stdin().lock(), |line| printed::of_call(line, &mut sessions))?
+        }
+        ["--plays", seed, count, folder] => {
+            plays::write(std::path::Path::new(folder), number(seed), number(count))?
+        }
+        ["--play-fixed", seed] => plays::fixed_list(out, number(seed))?,
+        ["--play-list", seed, points] => plays::list(out, number(seed), number(points))?,
+        ["--play-wrong", seed] => wrong_plays::write(out, number(seed))?,
+        ["--play-printed"] => printed::print(out, stdin().lock(), printed::of_play)?,
+        ["--play"] => {
+            let mut input = vec![];
+            stdin().lock().read_to_end(&mut input)?;
+            write!(out, "{}", plays::output(&input))?
         }
         _ => panic_usage(),
     }
@@ -62,6 +90,10 @@ fn panic_usage() -> ! {
     std::process::exit(2);
 }
 
+fn number(word: &str) -> u64 {
+    word.parse().unwrap_or_else(|_| panic_usage())
+}
+
 fn random_calls(
     out: &mut impl Write,
     seed: u64,
@@ -69,7 +101,7 @@ fn random_calls(
     ops: Option<&&str>,
     answers: bool,
 ) -> Result<()> {
-    let all: Vec<&str> = OPERATIONS.iter().map(|o| o.0).collect();
+    let all: Vec<&str> = forms::operations().map(|o| o.0).collect();
     let ops = ops.map_or(all, |s| s.split(',').collect());
     let mut r = Random(seed);
     for _ in 0..count {
@@ -85,19 +117,18 @@ fn random_calls(
 }
 
 /// One session after the other, each of some tens of calls.
-fn random_sessions(out: &mut impl Write, seed: u64, count: u64, words: Option<&&str>) -> Result<()> {
+fn random_sessions(out: &mut impl Write, seed: u64, count: u64, words: Option<u64>) -> Result<()> {
     let mut r = Random(seed);
-    let words: Option<u64> = words.map(|w| w.parse().unwrap_or_else(|_| panic_usage()));
     let mut sessions = Sessions::new();
-    let (mut line, mut length) = r.opening(words);
+    let mut line = r.opening(words);
     for _ in 0..count {
         let call: Vec<&str> = line.split(' ').collect();
         let answer = session(&mut sessions, &Registers::new(), &call);
         writeln!(out, "session {line} => {}", answer.expect("a call made here"))?;
         if r.once_in(60) {
-            (line, length) = r.opening(words);
+            line = r.opening(words);
         } else {
-            let (call, a) = r.session_call(length, &sessions["s"].envelope());
+            let (call, a) = r.session_call(&sessions["s"]);
             line = format!("s {call}{}", arguments(&a));
         }
     }
@@ -107,19 +138,19 @@ fn random_sessions(out: &mut impl Write, seed: u64, count: u64, words: Option<&&
 fn replies(out: &mut impl Write, raw: bool) -> Result<()> {
     let mut registers = Registers::new();
     let mut sessions = Sessions::new();
-    for line in std::io::stdin().lock().lines() {
+    for line in stdin().lock().lines() {
         let line = line?;
-        let call = line.split(" => ").next().unwrap_or("");
-        let mut words: Vec<&str> = call.split_whitespace().collect();
+        let mut call = line.split(" => ").next().unwrap_or("");
+        let words: Vec<&str> = call.split_whitespace().collect();
         if words.first().is_none_or(|w| w.starts_with('#')) {
             continue;
         }
         let mut name = None;
         if let [register, "=", _, ..] = words[..] {
             name = register.strip_prefix('@');
-            words.drain(..2);
+            call = call.split_once(" = ").map_or(call, |parts| parts.1);
         }
-        match reply(call, &words, raw, &registers, &mut sessions) {
+        match reply(call, raw, &registers, &mut sessions) {
             Err(text) => writeln!(out, "error {text}")?,
             Ok(answer) => {
                 writeln!(out, "{}", answer.text)?;
@@ -130,37 +161,4 @@ fn replies(out: &mut impl Write, raw: bool) -> Result<()> {
         }
     }
     Ok(())
-}
-
-fn reply(
-    line: &str,
-    words: &[&str],
-    raw: bool,
-    registers: &Registers,
-    sessions: &mut Sessions,
-) -> Read<Answer> {
-    let op = words[0];
-    if op == "read_sheet" {
-        // its bytes have spaces
-        let bytes = line.split_once("read_sheet ").map_or("", |parts| parts.1);
-        return Ok(call(op, &[text::Arg::S(text::unshown(bytes)?)], raw));
-    }
-    if op == "session" {
-        let text = session(sessions, registers, &words[1..])?;
-        return Ok(Answer { text, envelope: None });
-    }
-    if op == "{" || op.starts_with('@') {
-        let e = Words::new(words, registers).envelope()?;
-        return Ok(Answer {
-            text: format!("ok {}", text::envelope(&e, &[])),
-            envelope: Some(e),
-        });
-    }
-    let (kinds, _) = text::signature(op).ok_or(format!("no operation {op}"))?;
-    let mut rest = Words::new(&words[1..], registers);
-    let a: Vec<text::Arg> = kinds.chars().map(|k| rest.argument(k)).collect::<Read<_>>()?;
-    if !rest.is_empty() {
-        return Err("too many words".into());
-    }
-    Ok(call(op, &a, raw))
 }

@@ -9,7 +9,7 @@ use crate::text::{double, sheet, shown, single};
 use std::io::{Result, Write};
 use std::path::Path;
 
-const EXAMPLE: &str = "target enabled min max step
+pub const EXAMPLE: &str = "target enabled min max step
 0 1 - - -
 time position value curve cp1 cp2
 0000000000000000 - 00000000 00 - -
@@ -69,6 +69,13 @@ fn fixed(places: &[usize]) -> Vec<Vec<u8>> {
             all.push(changed);
         }
     }
+    all.extend(causes());
+    all
+}
+
+/// The example with a line for each cause of a refusal, and with something after it.
+pub fn causes() -> Vec<Vec<u8>> {
+    let mut all = vec![];
     let lines: Vec<&str> = EXAMPLE.lines().collect();
     let mut with = |others: &[(usize, &str)]| {
         let mut changed = lines.clone();
@@ -117,7 +124,7 @@ fn fixed(places: &[usize]) -> Vec<Vec<u8>> {
         with(&[(6, names)]);
     }
     for more in ["\n", "x", "3FF0000000000000 4008000000000000\n"] {
-        all.push([example, more.as_bytes()].concat());
+        all.push([EXAMPLE.as_bytes(), more.as_bytes()].concat());
     }
     all
 }
@@ -129,7 +136,7 @@ fn long() -> [Vec<u8>; 2] {
 }
 
 /// An envelope of so many points, of every curve.
-fn envelope(r: &mut Random, count: u64) -> Envelope {
+pub fn envelope(r: &mut Random, count: u64) -> Envelope {
     let mut e = Envelope::new(r.below(1 << 32) as u32);
     e.enabled = !r.once_in(16);
     let mut time = (r.unit() - 0.5) * 2.0;
@@ -157,7 +164,7 @@ fn envelope(r: &mut Random, count: u64) -> Envelope {
 }
 
 /// An input of so many samples, from time 0 to after the last point.
-fn over_all(e: &Envelope, samples: u64) -> Vec<u8> {
+pub fn over_all(e: &Envelope, samples: u64) -> Vec<u8> {
     let end = e.points.last().map_or(0.0, |p| p.time).abs() + 1.0;
     input(e, samples as f64 / end, end)
 }
@@ -188,7 +195,7 @@ fn random(r: &mut Random) -> Vec<u8> {
 }
 
 /// A sheet of exactly so many points, and what follows them.
-fn full(r: &mut Random, points: u64, rest: &str) -> Vec<u8> {
+pub fn full_with(r: &mut Random, points: u64, rest: &str) -> Vec<u8> {
     let mut e = Envelope::new(7);
     for i in 0..points {
         e.points.push(AutomationPoint {
@@ -206,8 +213,24 @@ fn around(r: &mut Random, counts: std::ops::RangeInclusive<u64>) -> Vec<Vec<u8>>
     const BLOCK: &str = "rate duration\n4024000000000000 4059000000000000\n";
     let mut all = Vec::new();
     for points in counts {
-        for rest in [BLOCK, "", "\n", "rate duration", &BLOCK[..30], "x\n"] {
-            all.push(full(r, points, rest));
+        for rest in [
+            BLOCK,
+            "",
+            "\n",
+            "rate duration",
+            &BLOCK[..30],
+            "x\n",
+            // beside the names without an end, after 256 points
+            "rate duratio",
+            "rate duration\r",
+            "rate duration\r\n",
+            "rate duration ",
+            "rate durations",
+            "Rate duration",
+            "r",
+            "rate duration\n",
+        ] {
+            all.push(full_with(r, points, rest));
         }
     }
     all
@@ -244,7 +267,7 @@ fn sum(bytes: &[u8]) -> u64 {
 }
 
 /// An output in a line; a long one by `#`, its length and its sum.
-fn expected(output: &str) -> String {
+pub fn expected(output: &str) -> String {
     const LONG: usize = 400;
     let bytes = output.as_bytes();
     if bytes.len() <= LONG {
@@ -253,18 +276,29 @@ fn expected(output: &str) -> String {
     format!("# {:016X} {:016X}", bytes.len(), sum(bytes))
 }
 
-/// Writes lines `input => output`: the fixed inputs with each byte at a digit's place, those around 256
-/// points, and an input for each number of points up to `points`, with some eight samples for each.
+/// Writes lines `input => output`: the fixed inputs with each byte at a digit's place, and those around
+/// 256 points.
+pub fn fixed_list(out: &mut impl Write, seed: u64) -> Result<()> {
+    let mut all = fixed(&DIGITS);
+    all.extend(around(&mut Random(seed), 256..=257));
+    lines(out, all)
+}
+
+/// Writes lines `input => output`: an input for each number of points up to `points`, with some eight
+/// samples for each.
 pub fn list(out: &mut impl Write, seed: u64, points: u64) -> Result<()> {
     let mut r = Random(seed);
-    let mut all = fixed(&DIGITS);
-    all.extend(around(&mut r, 256..=257));
+    let mut all = vec![];
     for count in 0..=points {
         let e = envelope(&mut r, count);
         let samples = 8 * count + r.below(100);
         all.push(over_all(&e, samples));
     }
-    for input in all {
+    lines(out, all)
+}
+
+fn lines(out: &mut impl Write, inputs: Vec<Vec<u8>>) -> Result<()> {
+    for input in inputs {
         writeln!(out, "{} => {}", shown(&input), expected(&output(&input)))?;
     }
     Ok(())

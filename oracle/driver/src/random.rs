@@ -2,10 +2,11 @@
 use crate::domain::MOST;
 use crate::edges;
 use crate::edits;
+use crate::forms::{is_lookup, session_edits, signature, weighted_calls};
 use crate::records::{curve_of, AutomationPoint, CurveType, Envelope};
-use crate::session::LOOKUPS;
+use crate::session::Session;
 use crate::sheets;
-use crate::text::{sheet, signature, Arg, OPERATIONS};
+use crate::text::{sheet, Arg};
 
 /// SplitMix64.
 pub struct Random(pub u64);
@@ -129,14 +130,37 @@ impl Random {
             ("peaks", [E(e), ..]) => self.length(e.find_peaks().len() as u64),
             ("valleys", [E(e), ..]) => self.length(e.find_valleys().len() as u64),
             ("sheet", [E(e)]) => self.length(sheet(e).len() as u64),
+            ("render", [_, D(_)]) | ("render", [_, D(_), N(_)]) if self.once_in(16) => self.large(),
             ("render", [E(e), D(rate)]) => self.first_sample(e, *rate, MOST),
-            ("render", [_, _, _, N(count), N(place)]) => self.length(place + count),
+            ("render", [_, _, _, N(count)]) => self.place(*count),
+            ("to_buffer", [_, D(rate), D(duration)]) => self.place((duration * rate) as u64),
+            ("render", [_, _, _, N(count), N(place)]) => self.run_length(*count, *place),
             ("to_buffer", [_, D(rate), D(duration), N(place)]) => {
-                let count = (duration * rate) as u64;
-                self.length(place + count.min(200))
+                self.run_length((duration * rate) as u64, *place)
             }
             _ => self.below(14),
         }
+    }
+
+    /// A number about 2^53, 2^63 or 2^64.
+    fn large(&mut self) -> u64 {
+        let about = self.one_of(&[1 << 53, 1 << 63, u64::MAX - 1]);
+        about - 1 + self.below(3)
+    }
+
+    /// The place of a run's first sample. A large one is past the buffer's end, where a run of none is accepted.
+    fn place(&mut self, count: u64) -> u64 {
+        if self.once_in(if count == 0 { 2 } else { 16 }) {
+            return self.large();
+        }
+        self.below(14)
+    }
+
+    /// The length of a run's buffer: never more than 1,024 places.
+    fn run_length(&mut self, count: u64, place: u64) -> u64 {
+        let needed = place.saturating_add(count);
+        let needed = if needed > 1000 { self.below(30) } else { needed };
+        self.length(needed)
     }
 
     /// The length of a lent buffer: often just what is needed, or one place less.
@@ -217,8 +241,8 @@ impl Random {
         a
     }
 
-    /// The opening of a session, and the words of its step memory.
-    pub fn opening(&mut self, words: Option<u64>) -> (String, u64) {
+    /// The opening of a session.
+    pub fn opening(&mut self, words: Option<u64>) -> String {
         let lengths = [
             0,
             1027,
@@ -234,46 +258,51 @@ impl Random {
         ];
         let words = words.unwrap_or_else(|| self.one_of(&lengths));
         let target = self.one_of(&[0, 7, u32::MAX]);
-        (format!("s open {target} {words}"), words)
+        format!("s open {target} {words}")
     }
 
     /// An edit of a session without its first envelope: its name and arguments.
     fn session_edit(&mut self) -> (&'static str, Vec<Arg>) {
-        let edits: Vec<&str> = OPERATIONS
-            .iter()
-            .filter(|o| "ec".contains(o.2))
-            .map(|o| o.0)
-            .collect();
         let op = if self.once_in(8) {
             "add_point"
         } else {
-            self.one_of(&edits)
+            self.one_of(&session_edits())
         };
         (op, self.call(op)[1..].to_vec())
     }
 
-    /// A lookup or a run of a session: its name and arguments without the first envelope.
-    fn session_lookup(&mut self, e: &Envelope) -> (String, Vec<Arg>) {
-        let op = self.one_of(&LOOKUPS);
+    /// The arguments of a lookup or a run of a session, without the first envelope.
+    pub fn session_lookup(&mut self, op: &str, e: &Envelope) -> Vec<Arg> {
         let (kinds, _) = signature(op).unwrap();
         let mut a = vec![Arg::E(e.clone())];
         for kind in kinds.chars().skip(1) {
             let x = self.argument(op, kind, &a);
             a.push(x);
         }
-        (op.into(), a[1..].to_vec())
+        a[1..].to_vec()
     }
 
-    /// A call of a session whose envelope is `e`, and the words that follow its name. `words` is the step
-    /// memory's length.
-    pub fn session_call(&mut self, words: u64, e: &Envelope) -> (String, Vec<Arg>) {
+    /// The word of a session's call, each as often as the table says.
+    fn session_word(&mut self) -> &'static str {
+        let calls = weighted_calls();
+        let mut left = self.below(calls.iter().map(|c| c.1).sum());
+        for (word, weight) in calls {
+            if left < weight {
+                return word;
+            }
+            left -= weight;
+        }
+        unreachable!("the weights' sum")
+    }
+
+    /// A call of a session, and the words that follow its name. What can't be asked now is an edit.
+    pub fn session_call(&mut self, s: &Session) -> (String, Vec<Arg>) {
         let (op, a) = self.session_edit();
-        match self.below(150) {
-            100..=124 => self.session_lookup(e),
-            125..=149 => ("memory".into(), vec![]),
-            0..=24 => ("back".into(), vec![]),
-            25..=41 => ("forward".into(), vec![]),
-            42..=43 => {
+        let edit = (format!("edit {op}"), a.clone());
+        match self.session_word() {
+            "edit" => edit,
+            "len" => {
+                let words = s.words();
                 let other = self.one_of(&[words + 1, words + 1028, words.saturating_sub(1), 0]);
                 match self.below(3) {
                     0 => (format!("len {other} back"), vec![]),
@@ -281,12 +310,33 @@ impl Random {
                     _ => (format!("len {other} edit {op}"), a),
                 }
             }
-            44..=45 if words >= 1028 => {
+            "damage" if s.words() >= 1028 => {
                 let point = 4 + 4 * self.below(256);
                 let word = self.one_of(&[0, 1, 2, 3, point, point + 3]);
-                (format!("damage {} {word}", self.below(words / 1028)), vec![])
+                (format!("damage {} {word}", self.below(s.words() / 1028)), vec![])
             }
-            _ => (format!("edit {op}"), a),
+            "slot" => match &s.whole()[..] {
+                [] => edit,
+                slots => (format!("slot {}", self.one_of(slots)), vec![]),
+            },
+            "words" => {
+                let part = self.one_of(&s.unwritten());
+                (self.some_words(part), vec![])
+            }
+            "damage" => edit,
+            word if is_lookup(word) => (word.into(), self.session_lookup(word, &s.envelope())),
+            word => (word.into(), vec![]),
         }
+    }
+
+    /// All words of a part, or some.
+    fn some_words(&mut self, part: std::ops::Range<u64>) -> String {
+        let count = part.end - part.start;
+        let (first, last) = match self.below(3) {
+            0 => (0, count - 1),
+            _ => (self.below(count), self.below(count)),
+        };
+        let (first, last) = (first.min(last), first.max(last));
+        format!("words {} {}", part.start + first, last - first + 1)
     }
 }

@@ -1,30 +1,45 @@
 //! Sessions by document 01's rule: the only Rust in this part is that of the edits, lookups and runs.
 use crate::calls::call;
+use crate::forms::{is_call, is_lookup, signature};
 use crate::records::Envelope;
 use crate::rules::hold;
 use crate::state::{before_opening, packed, sum, STATE};
-use crate::text::{self, signature, Arg, Read, Registers, Words};
+use crate::text::{self, Arg, Read, Registers, Words};
 use std::collections::HashMap;
+use std::ops::Range;
 
 pub type Sessions = HashMap<String, Session>;
 
-/// The calls that alter nothing.
-pub const LOOKUPS: [&str; 4] = ["value_at", "value_at_sample", "render", "to_buffer"];
-
 /// The edits that count, each as the envelope after it; a mark among them; how many are kept. Beside
-/// 01's state, the words of the step memory, of which the session is lent the first, and which slots a
-/// `damage` has spoiled: edit number k has slot k mod D.
+/// 01's state, the words of the step memory, of which the session is lent the first; for each slot the
+/// envelope whose state was last written there since the opening; and which slots a `damage` has spoiled.
+/// Edit number k has slot k mod D.
 pub struct Session {
     target: u32,
     words: u64,
     edits: Vec<Envelope>,
     mark: usize,
     kept: u64,
+    stored: Vec<Option<Envelope>>,
     damaged: Vec<bool>,
     memory: Vec<u64>,
 }
 
 impl Session {
+    fn new(target: u32, words: u64) -> Self {
+        let slots = words as usize / STATE;
+        Session {
+            target,
+            words,
+            edits: vec![],
+            mark: 0,
+            kept: 0,
+            stored: vec![None; slots],
+            damaged: vec![false; slots],
+            memory: before_opening(),
+        }
+    }
+
     /// The envelope after so many of the edits.
     fn after(&self, edits: usize) -> Envelope {
         match edits {
@@ -80,6 +95,52 @@ impl Session {
     fn store(&mut self, edit: usize) {
         let (slot, state) = (self.slot(edit), packed(&self.envelope()));
         self.memory[slot * STATE..][..STATE].copy_from_slice(&state);
+        self.stored[slot] = Some(self.envelope());
+    }
+
+    /// The length of the step memory that is lent.
+    pub fn words(&self) -> u64 {
+        self.words
+    }
+
+    /// The slots to which a state was written, and none of whose words a `damage` spoiled.
+    pub fn whole(&self) -> Vec<u64> {
+        let whole = |k: &u64| self.stored[*k as usize].is_some() && !self.damaged[*k as usize];
+        (0..self.stored.len() as u64).filter(whole).collect()
+    }
+
+    /// The words to which no state was written: each such slot, and those after the slots.
+    pub fn unwritten(&self) -> Vec<Range<u64>> {
+        let (slots, state) = (self.stored.len() as u64, STATE as u64);
+        let free = (0..slots).filter(|k| self.stored[*k as usize].is_none());
+        let mut all: Vec<Range<u64>> = free.map(|k| k * state..(k + 1) * state).collect();
+        all.push(slots * state..self.memory.len() as u64);
+        all
+    }
+
+    /// The envelope whose state stands in a slot.
+    fn in_slot(&self, slot: u64) -> Read<String> {
+        if !self.whole().contains(&slot) {
+            return Err("a slot without a whole state".into());
+        }
+        let e = self.stored[slot as usize].clone().unwrap();
+        hold(
+            self.memory[slot as usize * STATE..][..STATE] == packed(&e),
+            "a slot's words",
+        );
+        Ok(format!("ok {}", text::envelope(&e, &[])))
+    }
+
+    /// The sum of words to which no state was written.
+    fn sum_of(&self, from: u64, count: u64) -> Read<String> {
+        let end = from.checked_add(count).ok_or("too many words")?;
+        let free = self.unwritten();
+        let none_written = (from..end).all(|k| free.iter().any(|part| part.contains(&k)));
+        if count == 0 || !none_written {
+            return Err("words of a state".into());
+        }
+        let words = &self.memory[from as usize..end as usize];
+        Ok(format!("ok {}", text::word(sum(words))))
     }
 
     /// By 01 the memory holds the envelope before each kept edit, and the one that each entry after the
@@ -123,36 +184,45 @@ impl Session {
         for k in kinds.chars().skip(1) {
             a.push(words.argument(k)?);
         }
+        words.end()?;
         Ok(a)
     }
 
-    /// One call, with a step memory of `lent` words.
-    fn run(&mut self, lent: u64, what: &str, mut words: Words) -> Read<String> {
-        if what == "damage" {
-            let (slot, word) = (words.decimal()?, words.decimal()?);
-            self.damage(slot, word)?;
-            return Ok(self.answer());
-        }
-        if what == "show" {
-            return Ok(self.answer());
-        }
-        if what == "memory" {
-            hold(self.holds(), "the step memory");
-            return Ok(format!("ok {}", text::word(sum(&self.memory))));
-        }
-        if LOOKUPS.contains(&what) {
+    /// One call, with a step memory of an `other` length than at opening or of the same.
+    fn run(&mut self, other: bool, what: &str, mut words: Words) -> Read<String> {
+        if is_lookup(what) {
             return Ok(call(what, &self.arguments(what, words)?, false).text);
         }
-        let other = lent != self.words;
+        if what == "edit" {
+            return self.edit(other, words);
+        }
+        let mut a = [0; 2];
+        let count = match what {
+            "damage" | "words" => 2,
+            "slot" => 1,
+            _ => 0,
+        };
+        for x in &mut a[..count] {
+            *x = words.decimal()?;
+        }
+        words.end()?;
         let refusal = match what {
-            "back" if other => Some(11),
-            "forward" if other => Some(11),
+            "damage" => self.damage(a[0], a[1]).map(|_| None)?,
+            "show" => None,
+            "memory" => return Ok(self.sum_of_all()),
+            "slot" => return self.in_slot(a[0]),
+            "words" => return self.sum_of(a[0], a[1]),
+            "back" | "forward" if other => Some(11),
             "back" => self.back(),
             "forward" => self.forward(),
-            "edit" => return self.edit(other, words),
-            _ => return Err("session NAME open|edit|back|forward|show|damage|memory|a lookup or run".into()),
+            _ => return Err(format!("no call {what}")),
         };
         Ok(refusal.map_or_else(|| self.answer(), |n| format!("refuse {n}")))
+    }
+
+    fn sum_of_all(&self) -> String {
+        hold(self.holds(), "the step memory");
+        format!("ok {}", text::word(sum(&self.memory)))
     }
 
     /// An edit, with a step memory of an `other` length or the right one. A second envelope that is
@@ -179,26 +249,25 @@ pub fn session(all: &mut Sessions, registers: &Registers, line: &[&str]) -> Read
     let mut words = Words::new(line, registers);
     let name = words.word()?;
     let mut what = words.word()?;
+    if !is_call(what) {
+        return Err(format!("no call {what}"));
+    }
     if what == "open" {
         let (target, length) = (words.decimal()? as u32, words.decimal()?);
-        let s = Session {
-            target,
-            words: length,
-            edits: vec![],
-            mark: 0,
-            kept: 0,
-            damaged: vec![false; length as usize / STATE],
-            memory: before_opening(),
-        };
+        words.end()?;
+        let s = Session::new(target, length);
         let answer = s.answer();
         all.insert(name.into(), s);
         return Ok(answer);
     }
     let s = all.get_mut(name).ok_or("no such session")?;
-    let mut lent = s.words;
+    let mut other = false;
     if what == "len" {
-        lent = words.decimal()?;
+        other = words.decimal()? != s.words;
         what = words.word()?;
+        if !matches!(what, "edit" | "back" | "forward") {
+            return Err("a length is an edit's or a step's".into());
+        }
     }
-    s.run(lent, what, words)
+    s.run(other, what, words)
 }

@@ -1,4 +1,4 @@
-//! The text forms of calls and answers, and the table of operations. DRIVER.md has the forms.
+//! The text forms of calls and answers. DRIVER.md has them.
 use crate::records::{code_of, controls, curve_of, AutomationPoint, CurveType, Envelope};
 use std::collections::HashMap;
 use std::hint::black_box;
@@ -23,80 +23,6 @@ pub type Read<T> = Result<T, String>;
 /// Envelopes that lines have named.
 pub type Registers = HashMap<String, Envelope>;
 
-/// An operation's name, the kinds of its arguments, and its group: e edit, c combination, m edit
-/// that no session has, l lookup or analysis, s sheet read, n number. Kinds: D f64, T f64 that may be
-/// anything, F f32, G f32 that may be anything, U u64 (16 digits), N decimal, B 0 or 1, O f32 or none,
-/// C curve, P point, L list of points, E envelope, S bytes.
-pub const OPERATIONS: &[(&str, &str, char)] = &[
-    ("value_at", "ET", 'l'),
-    ("value_at_sample", "EU", 'l'),
-    ("slope_at", "ET", 'l'),
-    ("range", "EDD", 'l'),
-    ("range_samples", "EUU", 'l'),
-    ("peaks", "ENN", 'l'),
-    ("valleys", "ENN", 'l'),
-    ("render", "EDNNNN", 'l'),
-    ("to_buffer", "EDDNN", 'l'),
-    ("walk", "EDDN", 'l'),
-    ("eq", "EE", 'l'),
-    ("eq_exact", "EE", 'l'),
-    ("point_eq", "PP", 'l'),
-    ("point_eq_exact", "PP", 'l'),
-    ("sheet", "EN", 'l'),
-    ("valid", "E", 'l'),
-    ("read_sheet", "S", 's'),
-    ("add_point", "EP", 'e'),
-    ("remove_point_at", "ED", 'e'),
-    ("shift", "ED", 'e'),
-    ("scale_time", "ED", 'e'),
-    ("trim", "EDD", 'e'),
-    ("reverse", "E", 'e'),
-    ("invert_values", "EFF", 'e'),
-    ("quantize_time", "ED", 'e'),
-    ("simplify", "EF", 'e'),
-    ("normalize", "EFF", 'e'),
-    ("scale", "EF", 'e'),
-    ("offset", "EF", 'e'),
-    ("clamp_values", "EFF", 'e'),
-    ("apply_fade_in", "EDC", 'e'),
-    ("apply_fade_out", "EDC", 'e'),
-    ("apply_fades", "EDDC", 'e'),
-    ("apply_gate", "EF", 'e'),
-    ("apply_compression", "EFF", 'e'),
-    ("merge", "EED", 'e'),
-    ("merge_points", "ELD", 'm'),
-    ("set_enabled", "EB", 'e'),
-    ("set_min", "EO", 'e'),
-    ("set_max", "EO", 'e'),
-    ("set_step", "EO", 'e'),
-    ("fade_in", "EDC", 'e'),
-    ("fade_out", "EDC", 'e'),
-    ("pulse", "EDDDC", 'e'),
-    ("ramp", "EDFFC", 'e'),
-    ("blend", "EEF", 'c'),
-    ("add", "EE", 'c'),
-    ("multiply", "EE", 'c'),
-    ("min", "EE", 'c'),
-    ("max", "EE", 'c'),
-    ("subtract", "EE", 'c'),
-    ("interpolate", "CGGG", 'n'),
-    ("roundf", "G", 'n'),
-    ("round", "T", 'n'),
-    ("sqrtf", "G", 'n'),
-    ("square", "G", 'n'),
-    ("narrow", "T", 'n'),
-    ("u64_to_f32", "U", 'n'),
-    ("f64_to_u64", "T", 'n'),
-    ("total_cmp", "TT", 'n'),
-    ("fmax", "GG", 'n'),
-    ("fmin", "GG", 'n'),
-];
-
-/// The kinds of an operation's arguments, and its group.
-pub fn signature(op: &str) -> Option<(&'static str, char)> {
-    OPERATIONS.iter().find(|o| o.0 == op).map(|o| (o.1, o.2))
-}
-
 /// The words of a line, read from the left.
 pub struct Words<'a> {
     words: &'a [&'a str],
@@ -108,8 +34,13 @@ impl<'a> Words<'a> {
         Words { words, registers }
     }
 
-    pub fn is_empty(&self) -> bool {
-        self.words.is_empty()
+    /// No word is left.
+    pub fn end(&self) -> Read<()> {
+        if self.words.is_empty() {
+            Ok(())
+        } else {
+            Err("too many words".into())
+        }
     }
 
     pub fn word(&mut self) -> Read<&'a str> {

@@ -1,0 +1,121 @@
+//! What the programs that replay lists print for a list, computed from the list alone: a line for each
+//! line that is reported, and the tally at the end and at each comment that begins with `##`.
+use crate::forms::{is_call, signature};
+use crate::plays::{expected, output};
+use crate::reply::reply;
+use crate::session::Sessions;
+use crate::text::{unshown, Registers};
+use std::io::{BufRead, Result, Write};
+
+/// The most bytes of a line that is no comment.
+const MOST: usize = 131_072;
+
+#[derive(Clone, Copy, PartialEq)]
+pub enum Verdict {
+    Right,
+    Differs,
+    NoLine,
+}
+
+/// Which lines are none: too long, or their call is none.
+fn is_no_line(line: &str) -> bool {
+    if line.len() > MOST {
+        return true;
+    }
+    let mut words = line.split(' ');
+    match words.next().unwrap_or("") {
+        "session" => !words.nth(1).is_some_and(is_call),
+        op => signature(op).is_none(),
+    }
+}
+
+/// What is said of a line `call => answer`.
+pub fn of_call(line: &str, sessions: &mut Sessions) -> Verdict {
+    if is_no_line(line) {
+        return Verdict::NoLine;
+    }
+    let Some((call, given)) = line.split_once(" => ") else {
+        return Verdict::Differs;
+    };
+    match reply(call, false, &Registers::new(), sessions) {
+        Ok(right) if same(&right.text, given) => Verdict::Right,
+        _ => Verdict::Differs,
+    }
+}
+
+/// What is said of a line `input => output`.
+pub fn of_play(line: &str) -> Verdict {
+    if line.len() > MOST {
+        return Verdict::NoLine;
+    }
+    let right =
+        |(input, given): (&str, &str)| unshown(input).is_ok_and(|bytes| expected(&output(&bytes)) == given);
+    if line.split_once(" => ").is_some_and(right) {
+        Verdict::Right
+    } else {
+        Verdict::Differs
+    }
+}
+
+/// The answer is the given one: any NaN for any NaN, and either zero for one that is marked.
+pub fn same(right: &str, given: &str) -> bool {
+    let split = |text: &str| -> Vec<String> {
+        let parts = text.split_inclusive([' ', '/', '|']);
+        parts.map(str::to_string).collect()
+    };
+    let (right, given) = (split(right), split(given));
+    right.len() == given.len() && right.iter().zip(&given).all(|(a, b)| a == b || forgiven(a, b))
+}
+
+fn forgiven(a: &str, b: &str) -> bool {
+    let plain = |s: &str| s.trim_end_matches([' ', '/', '|']).to_string();
+    if a[plain(a).len()..] != b[plain(b).len()..] {
+        return false;
+    }
+    let (a, b) = (plain(a), plain(b));
+    let zero = |s: &str| matches!(s.trim_end_matches('~'), "00000000" | "80000000");
+    (is_nan(&a) && is_nan(&b) && a.len() == b.len()) || (b.ends_with('~') && zero(&a) && zero(&b))
+}
+
+/// Eight or sixteen digits.
+pub fn is_bits(s: &str) -> bool {
+    matches!(s.len(), 8 | 16)
+        && s.bytes()
+            .all(|b| b.is_ascii_digit() || (b'A'..=b'F').contains(&b))
+}
+
+pub fn is_nan(s: &str) -> bool {
+    let bits = u64::from_str_radix(s, 16).unwrap_or(0);
+    is_bits(s)
+        && match s.len() {
+            8 => f32::from_bits(bits as u32).is_nan(),
+            _ => f64::from_bits(bits).is_nan(),
+        }
+}
+
+/// Reads a list and writes what is printed for it.
+pub fn print(
+    out: &mut impl Write,
+    list: impl BufRead,
+    mut verdict: impl FnMut(&str) -> Verdict,
+) -> Result<()> {
+    let (mut run, mut differ) = (0, 0);
+    for (number, line) in (1..).zip(list.lines()) {
+        let line = line?;
+        if line.starts_with("##") {
+            writeln!(out, "{run} run, {differ} differ")?;
+            (run, differ) = (0, 0);
+        }
+        if line.is_empty() || line.starts_with('#') {
+            continue;
+        }
+        run += 1;
+        match verdict(&line) {
+            Verdict::Right => continue,
+            Verdict::Differs => writeln!(out, "line {number} differs")?,
+            Verdict::NoLine => writeln!(out, "line {number} is no line")?,
+        }
+        differ += 1;
+    }
+    writeln!(out, "{run} run, {differ} differ")
+}

@@ -1,0 +1,206 @@
+//! Wrong lines of sessions. The call of each line is run, so the answer that would be right is known;
+//! after a line whose call can't be read comes an opening.
+use crate::calls::Answer;
+use crate::forms::{is_lookup, weighted_calls};
+use crate::random::Random;
+use crate::records::{AutomationPoint, CurveType, Envelope};
+use crate::session::{session, Sessions};
+use crate::text::{arguments, Arg, Registers};
+use crate::wrong::{another_letter, chosen, lines_of, malformed, wrong_answers};
+use std::io::{Result, Write};
+
+struct Script<'a, W: Write> {
+    out: &'a mut W,
+    sessions: Sessions,
+}
+
+/// Three slots and some words after them.
+const OPEN: &str = "open 7 3100";
+
+fn point(time: f64, position: Option<u64>, value: f32, curve: CurveType) -> AutomationPoint {
+    AutomationPoint {
+        time,
+        sample_position: position,
+        value,
+        curve,
+    }
+}
+
+fn edit(op: &str, a: &[Arg]) -> String {
+    format!("edit {op}{}", arguments(a))
+}
+
+fn add(p: AutomationPoint) -> String {
+    edit("add_point", &[Arg::P(p)])
+}
+
+impl<W: Write> Script<'_, W> {
+    /// Runs a call and gives its answer.
+    fn run(&mut self, call: &str) -> String {
+        let line = format!("s {call}");
+        let words: Vec<&str> = line.split(' ').collect();
+        session(&mut self.sessions, &Registers::new(), &words).expect("a call made here")
+    }
+
+    /// Runs a call and writes its line with the k-th wrong answer. Says whether there are more.
+    fn wrong(&mut self, call: &str, k: usize) -> Result<bool> {
+        let right = self.run(call);
+        let wrong = wrong_answers(&right, &[self.run("show")]);
+        writeln!(self.out, "session s {call} => {}", wrong[k % wrong.len()])?;
+        Ok(k + 1 < wrong.len())
+    }
+
+    /// All wrong answers of calls that together lead back to where they started.
+    fn all(&mut self, calls: &[&str]) -> Result<()> {
+        let mut k = 0;
+        loop {
+            let mut more = false;
+            for call in calls {
+                more |= self.wrong(call, k)?;
+            }
+            if !more {
+                return Ok(());
+            }
+            k += 1;
+        }
+    }
+
+    /// An opening, and edits after which two points and a limit are there: four, of which three are kept.
+    fn start(&mut self) -> Result<()> {
+        self.wrong(OPEN, 0)?;
+        let bezier = CurveType::Bezier(0.25, 0.75);
+        self.wrong(&edit("set_min", &[Arg::O(Some(-1.0))]), 1)?;
+        self.wrong(&add(point(0.0, None, 0.5, bezier)), 2)?;
+        self.wrong(&add(point(1.0, Some(48000), 2.0, CurveType::Linear)), 3)?;
+        self.wrong(&edit("scale", &[Arg::F(2.0)]), 4)?;
+        Ok(())
+    }
+
+    /// Edits and steps, each field of their answers.
+    fn edits_and_steps(&mut self) -> Result<()> {
+        let mut second = Envelope::new(1);
+        second.points.push(point(3.0, None, 0.25, CurveType::SCurve));
+        let merge = edit("merge", &[Arg::E(second.clone()), Arg::D(0.5)]);
+        let third = add(point(2.0, Some(96000), 1.0, CurveType::Back));
+        self.all(&[OPEN])?;
+        self.start()?;
+        self.all(&[&third, "back"])?;
+        self.all(&[&merge, "back"])?;
+        self.all(&["forward", "back"])?;
+        self.all(&["len 3100 forward", "len 3100 back"])?;
+        self.all(&[&format!("len 3100 {third}"), "back"])?;
+        self.all(&[&edit("max", &[Arg::E(second)]), "back"])
+    }
+
+    /// What is looked at, each field.
+    fn looks(&mut self) -> Result<()> {
+        self.start()?;
+        for call in [
+            "show",
+            "memory",
+            "slot 0",
+            "slot 2",
+            "words 3084 17396",
+            "words 20479 1",
+        ] {
+            self.all(&[call])?;
+        }
+        self.wrong("open 0 20480", 0)?;
+        self.wrong(&edit("set_enabled", &[Arg::B(false)]), 0)?;
+        self.all(&["words 1028 1028"])?;
+        self.all(&["slot 0"])
+    }
+
+    /// A refusal of each number that a session has.
+    fn refusals(&mut self) -> Result<()> {
+        self.wrong(OPEN, 1)?;
+        self.all(&["back"])?;
+        self.all(&["forward"])?;
+        self.start()?;
+        let scale = edit("scale", &[Arg::F(3.0)]);
+        for call in ["len 3084 back", "len 0 forward", &format!("len 20480 {scale}")] {
+            self.all(&[call])?;
+        }
+        let mut bad = Envelope::new(1);
+        bad.step_size = Some(f32::NAN);
+        self.all(&[&edit("add", &[Arg::E(bad.clone())])])?;
+        self.all(&[&format!("len 5 {}", edit("add", &[Arg::E(bad)]))])?;
+        self.all(&[&edit("scale", &[Arg::F(f32::INFINITY)])])?;
+        self.all(&[&edit("scale", &[Arg::F(f32::MAX)])])?;
+        self.all(&[&edit("clamp_values", &[Arg::F(1.0), Arg::F(0.0)])])?;
+        self.all(&[&edit("shift", &[Arg::D(1e300)])])?;
+        self.all(&["damage 0 1"])?;
+        self.all(&["back"])
+    }
+
+    /// Each lookup and run, by the calls that show all fields of their answers.
+    fn lookups(&mut self, r: &mut Random) -> Result<()> {
+        self.start()?;
+        for (op, _) in weighted_calls().into_iter().filter(|c| is_lookup(c.0)) {
+            let e = self.sessions["s"].envelope();
+            let cases = chosen(|| {
+                let a = r.session_lookup(op, &e);
+                let call = format!("{op}{}", arguments(&a));
+                let text = self.run(&call);
+                (format!("session s {call}"), a, Answer { text, envelope: None })
+            });
+            for line in lines_of(&cases) {
+                writeln!(self.out, "{line}")?;
+            }
+            for line in malformed(&cases[0].call, &cases[0].right) {
+                writeln!(self.out, "{line}")?;
+            }
+        }
+        Ok(())
+    }
+
+    /// Lines whose call can't be read, or that have no answer.
+    fn malformed(&mut self) -> Result<()> {
+        let scale = edit("scale", &[Arg::F(3.0)]);
+        let longer = format!("len 3100 {scale}");
+        let calls = [
+            OPEN,
+            &scale,
+            "back",
+            "forward",
+            "show",
+            "damage 0 1",
+            "memory",
+            "slot 0",
+            "words 3084 1",
+            &longer,
+            "len 3100 back",
+        ];
+        self.start()?;
+        for call in calls {
+            let right = self.run(call);
+            let word = call.split(' ').next().unwrap();
+            let mut lines = malformed(call, &right);
+            lines.push(format!(
+                "{}{} => {right}",
+                another_letter(word),
+                &call[word.len()..]
+            ));
+            for line in lines {
+                writeln!(self.out, "session s {line}")?;
+                self.start()?;
+            }
+        }
+        let right = self.run("show");
+        writeln!(self.out, "session s wobble => {right}")?;
+        writeln!(self.out, "session s edit wobble => {right}")?;
+        self.start()
+    }
+}
+
+pub fn write(out: &mut impl Write, r: &mut Random) -> Result<()> {
+    let mut script = Script {
+        out,
+        sessions: Sessions::new(),
+    };
+    script.edits_and_steps()?;
+    script.looks()?;
+    script.refusals()?;
+    script.lookups(r)?;
+    script.malformed()
+}
