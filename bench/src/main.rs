@@ -72,7 +72,10 @@ fn loops() -> Vec<Figure> {
 
 /// How many instructions a turn adds is read off what callgrind counts in these.
 fn turns() {
-    for f in loops() {
+    let all = loops();
+    // a pass that has what the program did before it
+    all[0].rattle.pass(1);
+    for f in all {
         for (name, side) in [("rattle", &f.rattle), ("rust", &f.rust)] {
             for turns in [1, 2, 3] {
                 side.pass(turns);
