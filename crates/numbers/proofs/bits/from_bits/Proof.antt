@@ -1,5 +1,7 @@
 -- `numbers::bits::from_bits` meets its contract: above the patterns of the infinities there are only NaNs.
 -- Assumes nothing.
+use native.Mathlib.Nat.{le-trans}
+use lib.Dec.{lit≤}
 use lib.Ieee.{binary64}
 use borrow.Author.Needs.{needs}
 use Rattle.numbers.proofs.BitLaws.{nan-read, number-read}
@@ -7,7 +9,7 @@ use Rattle.numbers.proofs.bits.from_bits.Statement.{statement}
 use Rattle.numbers.proofs.bits.from_bits.Tie as tie
 
 float-from-bits-result : tie.Need-float-from-bits-result
-float-from-bits-result c = number-read binary64 (c .before .args .b) (c .if1 .left)
+float-from-bits-result c = number-read binary64 (c .before .args .b) (le-trans (c .if1 .left) (lit≤ tt))
 
 returns : tie.Need-returns
 returns c = nan-read binary64 (c .before .args .b) (c .if1 .taken)

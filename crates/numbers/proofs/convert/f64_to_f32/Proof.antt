@@ -12,7 +12,7 @@ use borrow.Author.Tests.{ltb-false}
 use Rattle.numbers.specs.Narrow.{narrow}
 use Rattle.numbers.specs.Order.{orderKey}
 use Rattle.numbers.specs.Tests.{yes, no, equals-itself}
-use Rattle.numbers.proofs.BitLaws.{zero-by-zero}
+use Rattle.numbers.proofs.BitLaws.{zero-by-zero, number-read}
 use Rattle.numbers.proofs.Compare.{lt-left, lt-key}
 use Rattle.numbers.proofs.Narrowing.{narrow-fits, narrow-number, plain}
 use Rattle.numbers.proofs.Rounded.{bits-lt, bits-back, bits-no-nan}
@@ -83,6 +83,10 @@ module _ (c : tie.Then2) where
   rounded : (b + 268435455 + b / 536870912 % 2) / 536870912 - 7516192768 ≡ toBits binary32 (narrow x)
   rounded = plain b (inside .0) (inside .1) ∙ ap (λ (v : Float). toBits binary32 (narrow v)) (back x held)
 
+-- up to the infinity's pattern there is no NaN
+no-nan : (n : ℕ) → n ≤ 2139095040 → T (not (nanBits binary32 n))
+no-nan n h = let m : n % 2147483648 ≤ 2139095040 = omega arith in number-read binary32 n m
+
 float-to-bits-b : tie.Need-float-to-bits-b
 float-to-bits-b c = number c
 
@@ -96,10 +100,10 @@ sub-result : tie.Need-sub-result
 sub-result c = omega (arith, inside c .0)
 
 cast-result : tie.Need-cast-result
-cast-result c = record { fits = narrow-lt (x c) _ (number c) (rounded c) }
+cast-result c = omega (arith, inside c .1)
 
 float-from-bits-result : tie.Need-float-from-bits-result
-float-from-bits-result c = narrow-no-nan (x c) _ (number c) (rounded c)
+float-from-bits-result c = no-nan _ (omega (arith, inside c .1))
 
 returns : tie.Need-returns
 returns c = narrow-back (x c) _ (number c) (rounded c)

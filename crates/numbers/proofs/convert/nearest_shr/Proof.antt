@@ -2,12 +2,12 @@
 -- Assumes nothing.
 use mathlib.Core.Path.{_≡_, sym, ap, _∙_, subst}
 use Prim.Native.Nat.{ℕ, suc, _+_, _-_, _*_, _/_, _%_, _^_, _≤_, _<_}
-use native.Mathlib.Nat.{lt-of-lt-of-le, mod-lt, mul-comm, pow-succ'}
+use native.Mathlib.Nat.{le-trans, mod-lt, mul-comm, mul-le-mul-left, le-div-iff-mul-le, div-mul-le-self, zero-lt-suc, pow-succ'}
 use native.Mathlib.Omega.{arith}
-use lib.Pow.{pow-add, pow-pos, pow-mono}
+use lib.Pow.{pow-pos, pow-mono}
 use lib.Ieee.Nearest.{closest}
 use borrow.Author.Needs.{needs}
-use Rattle.numbers.proofs.Closest.{one-shl, carried, closest-le}
+use Rattle.numbers.proofs.Closest.{one-shl, carried}
 use Rattle.numbers.proofs.convert.nearest_shr.Statement.{statement}
 use Rattle.numbers.proofs.convert.nearest_shr.Tie as tie
 
@@ -45,12 +45,15 @@ returned c =
     subst (λ (v : ℕ). n / v + (n % (h c * 2) + (h c - 1) + n / v % 2) / v ≡ closest n v) (sym (twice c))
     (ap (λ (w : ℕ). n / (2 * h c) + (n % w + (h c - 1) + n / (2 * h c) % 2) / (2 * h c)) (mul-comm (h c) 2) ∙ carried n (h c) (positive c))
 
--- the quotient moved up is at most 2 ^ 63
-most : (c : tie.Start) → closest (c .args .n) (2 ^ c .args .k) ≤ 2 ^ 63
-most c = closest-le (c .args .n) (2 ^ c .args .k) (2 ^ 63) (pow-pos (c .args .k)) (lt-of-lt-of-le (c .fits .n .fits) (subst (λ (x : ℕ). 2 ^ 64 ≤ x) (pow-add 2 63 (c .args .k)) (pow-mono (more (c .args .k) (c .pre .0)))))
-  where
-    more : (k : ℕ) → 0 < k → 64 ≤ 63 + k
-    more k h = omega arith
+-- two quotients of words by 2 or more make a word
+quotient-half : (x v : ℕ) → 2 ≤ v → x / v ≤ x / 2
+quotient-half x v h = le-div-iff-mul-le {k = 2} {x = x / v} {y = x} (zero-lt-suc 1) .1 (le-trans (mul-le-mul-left (x / v) h) (div-mul-le-self x v))
+
+both-fit : (x y v : ℕ) → 2 ≤ v → x < 2 ^ 64 → y < 2 ^ 64 → x / v + y / v < 2 ^ 64
+both-fit x y v h p q = omega (arith, quotient-half x v h, quotient-half y v h)
+
+two : (c : tie.Start) → 2 ≤ 2 ^ c .args .k
+two c = pow-mono {i = 1} {j = c .args .k} (c .pre .0)
 
 sub-h : tie.Need-sub-h
 sub-h c = search needs
@@ -80,7 +83,7 @@ shr-result : tie.Need-shr-result
 shr-result c = search needs
 
 add-result-3 : tie.Need-add-result-3
-add-result-3 c = omega (arith, returned c, most c)
+add-result-3 c = record { fits = both-fit _ _ _ (two c) (c .fits .n .fits) (add-result-2 c .fits) }
 
 returns : tie.Need-returns
 returns c = returned c

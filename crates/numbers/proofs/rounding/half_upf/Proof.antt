@@ -1,7 +1,7 @@
 -- `numbers::rounding::half_upf` meets its contract: `Halves.antt` at binary32.
 -- Assumes nothing.
 use mathlib.Core.Path.{sym, ap, _∙_, subst}
-use Prim.Native.Nat.{ℕ, _+_, _/_, _^_, _<_}
+use Prim.Native.Nat.{ℕ, _+_, _/_, _^_, _≤_, _<_}
 use native.Mathlib.Omega.{arith}
 use lib.IntN.{pos}
 use lib.Dec.{T, le→leb}
@@ -27,9 +27,12 @@ truncating-f32-to-u64-requires c κs = (at c .over, at c .under)
 add-result : tie.Need-add-result
 add-result c = omega (arith, little c)
 
-int-to-float-result : tie.Need-int-to-float-result
+in-float : (n : ℕ) → n ≤ 2 ^ 24 → T (inFloat binary32 (pos n))
 unfolding inFloat
-int-to-float-result c = le→leb ((c .before .truncating-f32-to-u64 .result + 1) / 2) (2 ^ 24) (omega (arith, little (c .before)))
+in-float n h = le→leb n (2 ^ 24) h
+
+int-to-float-result : tie.Need-int-to-float-result
+int-to-float-result c = in-float _ (omega (arith, little (c .before)))
 
 returns : tie.Need-returns
 returns c = ap (λ (z : ℕ). ofInt binary32 (pos ((z + 1) / 2))) (c .before .truncating-f32-to-u64 .ensures) ∙ at (c .before .before) .is-up
