@@ -1,7 +1,7 @@
 -- The loop over the point lines: what holds before each line, and what it comes to. Assumes nothing.
 use Prim.Native.Nat.{ℕ, zero, suc, _+_, _-_, _≤_, _<_}
 use mathlib.Core.Path.{_≡_, refl, sym, ap, _∙_}
-use mathlib.Core.Bool.{Bool, true, false, cond, _&&_}
+use mathlib.Core.Bool.{Bool, true, false, cond, _&&_, _||_}
 use mathlib.Core.List.{List, [], _∷_, _++_}
 use native.Mathlib.Numerals.{add-one}
 use native.Mathlib.Omega.{arith}
@@ -15,7 +15,7 @@ use Rattle.points.specs.Points.{holding, timeKey, rising, risingBy}
 use Rattle.points.specs.declared.AutomationPoint.{AutomationPoint}
 use Rattle.points.specs.declared.Points.{Points}
 use Rattle.lines.specs.Lines.{refused, line, pointLine}
-use Rattle.lines.specs.PointLines.{Lines, stop, lines, onward, isEmpty, pointsEnd, pointLines}
+use Rattle.lines.specs.PointLines.{Lines, stop, lines, onward, isEmpty, pointsEnd, cutShort, pointLines}
 
 -- ---- one more point
 
@@ -69,9 +69,9 @@ module _ (program : Bool) (before : List AutomationPoint) (l : List ℕ) where
   lines-end zero e = rw e
   lines-end (suc room) e = rw e
 
-  lines-full : pointsEnd program l ≡ false → pointLines program 0 before l ≡ stop (cond (isEmpty l) 9 5) (length before + 4)
+  lines-full : pointsEnd program l ≡ false → pointLines program 0 before l ≡ stop (cond (isEmpty l || cutShort program l) 9 5) (length before + 4)
   unfolding pointLines
-  lines-full e = rw e (either (isEmpty l) (length before + 4))
+  lines-full e = rw e (either (isEmpty l || cutShort program l) (length before + 4))
 
   pub lines-next : (room : ℕ) → pointsEnd program l ≡ false
       → pointLines program (suc room) before l ≡ onward (length before + 4) (pointLine l) (λ p rest. cond (rising (before ++ (p ∷ []))) (pointLines program room (before ++ (p ∷ [])) rest) (stop 6 (length before + 4)))
@@ -117,7 +117,7 @@ module _ {program : Bool} {l₀ s : List ℕ} {ps : List AutomationPoint} {count
   ended h = sym (r .same ∙ lines-end program (take count ps) (drop at s) (256 - count) h ∙ ap (λ (e : Points). lines e (drop at s)) whole)
 
   module _ (h : pointsEnd program (drop at s) ≡ false) where
-    pub full : (n : ℕ) → n ≡ cond (isEmpty (drop at s)) 9 5 → count ≡ 256 → stop n (count + 4) ≡ pointLines program 256 [] l₀
+    pub full : (n : ℕ) → n ≡ cond (isEmpty (drop at s) || cutShort program (drop at s)) 9 5 → count ≡ 256 → stop n (count + 4) ≡ pointLines program 256 [] l₀
     full n k e =
         let z : 256 - count ≡ 0 = omega arith in
         sym (r .same ∙ ap (λ (m : ℕ). pointLines program m (take count ps) (drop at s)) z ∙ lines-full program (take count ps) (drop at s) h ∙ rw (← k, taken))

@@ -1,12 +1,12 @@
 // The point lines.
 ghost use mathlib.Core.Path.{_≡_};
-ghost use mathlib.Core.Bool.{cond};
+ghost use mathlib.Core.Bool.{cond, _||_};
 ghost use mathlib.Core.List.{List, []};
 ghost use Prim.Native.Nat.{ℕ, min};
 ghost use lib.ListN.{length, drop};
 ghost use Rattle.points.specs.Refusal.{number};
 ghost use Rattle.fields.specs.Told.{DigitTable};
-ghost use Rattle.lines.specs.PointLines.{stop, isEmpty, pointsEnd, pointLines};
+ghost use Rattle.lines.specs.PointLines.{stop, isEmpty, pointsEnd, cutShort, pointLines};
 ghost use Rattle.lines.specs.Told.{toldPointLines, pointLinesHeld};
 use crate::point::PointLine;
 use points::Points;
@@ -32,14 +32,28 @@ fn points_end(s: &[u8], at: usize, program: bool) -> bool
     }
 }
 
-// What is wrong after 256 points: no line, or one more.
-fn after_last(s: &[u8], at: usize) -> Refusal
-    ensures { λ r. ⌜ number r ≡ cond (isEmpty (drop at (now (s .entry)))) 9 5 ⌝ }
+// Whether at the place the program's input has the names of its block without their last byte, and ends.
+fn cut_short(s: &[u8], at: usize, program: bool) -> bool
+    ensures { λ r. ⌜ r ≡ cutShort program (drop at (now (s .entry))) ⌝ }
 {
-    if at < s.len() {
-        Refusal::TooManyPoints
-    } else {
+    if !program {
+        return false;
+    }
+    if !fields::bytes::starts_with(s, at, b"rate duration") {
+        return false;
+    }
+    // those names have 13 bytes
+    s.len() <= at + 13
+}
+
+// What is wrong after 256 points: no line, or the block's cut short; else one more.
+fn after_last(s: &[u8], at: usize, program: bool) -> Refusal
+    ensures { λ r. ⌜ number r ≡ cond (isEmpty (drop at (now (s .entry))) || cutShort program (drop at (now (s .entry)))) 9 5 ⌝ }
+{
+    if (s.len() <= at) | cut_short(s, at, program) {
         Refusal::SheetForm
+    } else {
+        Refusal::TooManyPoints
     }
 }
 
@@ -77,7 +91,7 @@ fn lines_from(t: &[u8; 256], s: &[u8], start: usize, program: bool) -> PointLine
     while !points_end(s, at, program) {
         let line = (count + 4) as u32;
         if count == 256 {
-            return no_points(after_last(s, at), line);
+            return no_points(after_last(s, at, program), line);
         }
         match crate::point::point_line(t, s, at) {
             PointLine::Refused(refusal) => {

@@ -1,7 +1,7 @@
 -- The first 16,536 bytes decide what the program reads: bytes after them change no answer. Assumes nothing.
 use Prim.Native.Nat.{ℕ, zero, suc, _+_, _*_, _^_, _≤_}
 use mathlib.Core.Path.{_≡_, refl, sym, ap, subst, _∙_}
-use mathlib.Core.Bool.{Bool, true, false, cond, _&&_}
+use mathlib.Core.Bool.{Bool, true, false, cond, _&&_, _||_, and-false}
 use mathlib.Core.List.{List, [], _∷_, _++_}
 use native.Mathlib.Nat.{pow-suc, pow-zero, mul-one, mul-le-mul-right}
 use native.Mathlib.Omega.{arith}
@@ -14,9 +14,9 @@ use Rattle.points.specs.Refusal.{Said, refuses, gives}
 use Rattle.points.specs.declared.AutomationPoint.{AutomationPoint}
 use Rattle.points.specs.declared.Points.{Points}
 use Rattle.envelope.specs.declared.AutomationEnvelope.{AutomationEnvelope}
-use Rattle.fields.specs.Form.{Got, bad, got, then, startsWith, nextIs, ended, digit, readDigits, numberForm, optionalForm, decimals, nextDigit, targetForm}
+use Rattle.fields.specs.Form.{Got, bad, got, then, text, startsWith, nextIs, ended, digit, readDigits, numberForm, optionalForm, decimals, nextDigit, targetForm}
 use Rattle.lines.specs.Lines.{Line, refused, line, meant, lineOf, settingsForm, settingsLine, settingsMeaning, dashes, controlsForm, pointForm, pointLine, pointMeaning, blockForm, blockLine, blockMeaning}
-use Rattle.lines.specs.PointLines.{Lines, stop, lines, onward, blockNames, isEmpty, pointsEnd, lineAfter, pointLines}
+use Rattle.lines.specs.PointLines.{Lines, stop, lines, onward, blockNames, isEmpty, pointsEnd, cutShort, lineAfter, pointLines}
 use Rattle.sheet.specs.Sheet.{named, settingNames, pointNames, withSettings, sheetLines, lastLine, blockFrom, playInput, readFrom, readSheet}
 use Rattle.fields.specs.Text.{placesOf, decimalText}
 use Rattle.fields.specs.declared.Optional.the-variants as optional
@@ -28,6 +28,7 @@ use Rattle.lines.specs.declared.block.Block.{Block}
 use Rattle.fields.proofs.Stores.{length-number}
 use Rattle.fields.proofs.Places.{places-le}
 use Rattle.fields.proofs.Target.{grows, write-target}
+use Rattle.lines.proofs.Ends.{empty-in}
 
 -- ---- a form that k bytes decide
 
@@ -302,6 +303,11 @@ unfolding pointsEnd
 end-same true l m h = starts-same blockNames l m h
 end-same false l m h = let e = empty-same l m (omega arith) in e .0 ∙ sym (e .1)
 
+-- the names that are cut short have 13 bytes, and none after them
+cut-long : (program : Bool) (l : List ℕ) → 14 ≤ length l → cutShort program l ≡ false
+unfolding cutShort
+cut-long program l h = rw (empty-in l 13 (omega arith), and-false (startsWith (text "rate duration") l)) (and-false program)
+
 -- the bytes that the block may need are left
 abbrev Enough : ℕ → List ℕ → Type 0
 Enough room l = room * 64 + 49 ≤ length l
@@ -340,7 +346,7 @@ points-same : (program : Bool) (room : ℕ) (before : List AutomationPoint) (l m
 unfolding pointLines pointLine next
 points-same program zero before l m h =
     let e = empty-same l m (omega arith) in
-    rw (end-same program l m (omega arith), e .0, e .1) (on (pointsEnd program l))
+    rw (end-same program l m (omega arith), e .0, e .1, cut-long program (l ++ m) (omega (arith, length-append l m)), cut-long program l (omega arith)) (on (pointsEnd program l))
   where
     on : (t : Bool) → cond t (lines (holding before) (l ++ m)) (stop 5 (lineAfter before)) ≡ moreLines m (cond t (lines (holding before) l) (stop 5 (lineAfter before)))
     on true = refl
@@ -352,7 +358,7 @@ points-same program (suc room) before l m h =
 
 points-left : (program : Bool) (room : ℕ) (before : List AutomationPoint) (l : List ℕ) → Enough room l → LeftLines 49 (pointLines program room before l)
 unfolding pointLines pointLine next
-points-left program zero before l h = on (pointsEnd program l) (isEmpty l)
+points-left program zero before l h = on (pointsEnd program l) (isEmpty l || cutShort program l)
   where
     on : (t u : Bool) → LeftLines 49 (cond t (lines (holding before) l) (cond u (stop 9 (lineAfter before)) (stop 5 (lineAfter before))))
     on true u = omega arith

@@ -1,7 +1,7 @@
 -- The lines of a sheet: what is written is read back, and what is read is valid and was written so. Assumes nothing.
 use Prim.Native.Nat.{ℕ, zero, suc, _-_, _^_, _≤_, _<_}
 use mathlib.Core.Path.{_≡_, refl, sym, ap, subst, _∙_}
-use mathlib.Core.Bool.{Bool, true, false, cond, _&&_}
+use mathlib.Core.Bool.{Bool, true, false, cond, _&&_, _||_}
 use mathlib.Core.List.{List, [], _∷_, _++_, append-nil, append-assoc}
 use native.Mathlib.Omega.{arith}
 use borrow.Author.Tests.{le-leb, ltb-true, eqb-true}
@@ -27,7 +27,7 @@ use lib.IntN.{pos, negsuc}
 use lib.Ieee.{Float, nan, inf, fin}
 use Rattle.fields.specs.Form.{Got, bad, got, startsWith}
 use Rattle.lines.specs.Lines.{Line, refused, line, meant, lineOf, settingsForm, settingsMeaning, settingsLine, pointForm, pointMeaning, pointLine}
-use Rattle.lines.specs.PointLines.{Lines, stop, lines, onward, isEmpty, pointsEnd, lineAfter, pointLines}
+use Rattle.lines.specs.PointLines.{Lines, stop, lines, onward, isEmpty, pointsEnd, cutShort, lineAfter, pointLines}
 use Rattle.sheet.specs.Sheet.{named, settingNames, pointNames, envelopeOf, withSettings, sheetLines}
 use Rattle.sheet.specs.Text.{settingsText, pointText, rawSettings, rawPoint, pointTexts, sheetText}
 use Rattle.lines.specs.declared.settings.RawSettings.{RawSettings}
@@ -112,7 +112,7 @@ module _ (program : Bool) (all : Points) (rest : List ℕ) where
 
   points-read : (room : ℕ) (before : List AutomationPoint) (l : List ℕ) → rising before ≡ true → pointLines program room before l ≡ lines all rest → PointsRead program room before l all rest
   unfolding pointLines
-  points-read zero before l r q = on (pointsEnd program l) refl (isEmpty l) q
+  points-read zero before l r q = on (pointsEnd program l) refl (isEmpty l || cutShort program l) q
     where
       on : (t : Bool) → pointsEnd program l ≡ t → (u : Bool) → cond t (lines (holding before) l) (cond u (stop 9 (lineAfter before)) (stop 5 (lineAfter before))) ≡ lines all rest → PointsRead program zero before l all rest
       on true e u q = none-read zero before l r e q

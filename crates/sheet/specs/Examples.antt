@@ -16,7 +16,7 @@ use Rattle.lookup.specs.declared.Limit.the-variants as limit
 use Rattle.envelope.specs.declared.AutomationEnvelope.{AutomationEnvelope}
 use Rattle.fields.specs.Form.{text, startsWith, nextIs, readDigits, numberForm, optionalForm, decimals, nextDigit, targetForm}
 use Rattle.lines.specs.Lines.{settingsForm, limitOf, finiteBits, settingsMeaning, settingsLine, controlsForm, pointForm, positionOf, pointMeaning, pointLine, blockForm, blockMeaning, blockLine}
-use Rattle.lines.specs.PointLines.{blockNames, isEmpty, pointsEnd, pointLines}
+use Rattle.lines.specs.PointLines.{stop, blockNames, isEmpty, pointsEnd, cutShort, lineAfter, pointLines}
 use Rattle.sheet.specs.Sheet.{settingNames, pointNames, sheetLines, Read, refusal, sheet, readSheet, Input, declined, input, playInput}
 use Rattle.fields.specs.Text.{digitByte, digitsOf, optionalText, placesOf}
 use Rattle.sheet.specs.Text.{settingsText, pointText, rawSettings, rawPoint, pointTexts, sheetText}
@@ -139,3 +139,18 @@ inputs =
 pub inputs-hold : map (λ c. playInput (c .0)) inputs ≡ map (λ c. c .1) inputs
 unfolding startsWith nextIs readDigits numberForm optionalForm decimals nextDigit targetForm settingsForm limitOf finiteBits settingsMeaning settingsLine controlsForm pointForm positionOf pointMeaning pointLine blockForm blockMeaning blockLine isEmpty pointsEnd pointLines sheetLines playInput finite ofBits toBits orderKey risingBy curveOf
 inputs-hold = refl
+
+-- the program's lines after 256 points, whichever they are: no line, the block's names without their 0A, and others
+abbrev afterLast : List (List ℕ × ℕ)
+afterLast =
+    ([], 9)
+    ∷ (text "rate duration", 9)
+    ∷ (text "rate duratio", 5)
+    ∷ (text "rate duration\r", 5)
+    ∷ (text "rate duration ", 5)
+    ∷ (first, 5)
+    ∷ []
+
+pub full-hold : (ps : List AutomationPoint) → map (λ c. pointLines true 0 ps (c .0)) afterLast ≡ map (λ c. stop (c .1) (lineAfter ps)) afterLast
+unfolding startsWith isEmpty pointsEnd cutShort pointLines
+full-hold ps = refl
