@@ -28,7 +28,7 @@ enum-told c = search needs
 
 returns : tie.Need-returns
 unfolding controlsForm toldControls toldSingle
-returns c = rw (eq-eqb _ _ (c .before .before .before .if1 .taken), told (toldSingle _) (c .before .before .single-at .ensures) (c .enum-told .given .1))
+returns c = rw (eq-eqb _ 5 (c .before .before .before .if1 .taken), told (toldSingle _) (c .before .before .single-at .ensures) (c .enum-told .given .1))
 
 single-at-requires-2 : tie.Need-single-at-requires-2
 single-at-requires-2 c κs = search needs
@@ -41,11 +41,11 @@ enum-told-2 c = search needs
 
 returns-2 : tie.Need-returns-2
 unfolding controlsForm toldControls toldSingle
-returns-2 c = rw (eq-eqb _ _ (c .before .before .before .before .before .before .before .if1 .taken), told (toldSingle _) (c .before .before .before .before .before .before .single-at .ensures) (c .before .before .before .before .cp1 .given .1), told (toldSingle _) (c .before .before .single-at2 .ensures) (c .enum-told2 .given .1))
+returns-2 c = rw (eq-eqb _ 5 (c .before .before .before .before .before .before .before .if1 .taken), told (toldSingle _) (c .before .before .before .before .before .before .single-at .ensures) (c .before .before .before .before .cp1 .given .1), told (toldSingle _) (c .before .before .single-at2 .ensures) (c .enum-told2 .given .1))
 
 returns-3 : tie.Need-returns-3
 unfolding controlsForm toldControls toldSingle
-returns-3 c = rw (eq-eqb _ _ (c .before .before .before .before .before .before .before .before .if1 .taken), told (toldSingle _) (c .before .before .before .before .before .before .before .single-at .ensures) (c .before .before .before .before .before .cp1 .given .1), told (toldSingle _) (c .before .before .before .single-at2 .ensures) (c .before .cp2 .given .1))
+returns-3 c = rw (eq-eqb _ 5 (c .before .before .before .before .before .before .before .before .if1 .taken), told (toldSingle _) (c .before .before .before .before .before .before .before .single-at .ensures) (c .before .before .before .before .before .cp1 .given .1), told (toldSingle _) (c .before .before .before .single-at2 .ensures) (c .before .cp2 .given .1))
 
 slice-aggregate-starts-with : tie.Need-slice-aggregate-starts-with
 slice-aggregate-starts-with c = search needs
@@ -58,11 +58,11 @@ add-t17 c = omega (arith, starts-with-length dashes (c .before .before .before .
 
 returns-4 : tie.Need-returns-4
 unfolding controlsForm toldControls
-returns-4 c = rw (ne-eqb _ _ (c .before .before .before .if1 .left), sym (c .before .starts-with .ensures) ∙ c .if2 .taken) (ap (λ (l : List ℕ). got (0, 0) l) (sym (drop-drop 4 (c .before .before .before .before .before .args .at) (c .before .before .before .before .before .args .s .now))))
+returns-4 c = rw (ne-eqb _ 5 (c .before .before .before .if1 .left), sym (c .before .starts-with .ensures) ∙ c .if2 .taken) (ap (λ (l : List ℕ). got (0, 0) l) (sym (drop-drop 4 (c .before .before .before .before .before .args .at) (c .before .before .before .before .before .args .s .now))))
 
 returns-5 : tie.Need-returns-5
 unfolding controlsForm toldControls
-returns-5 c = rw (ne-eqb _ _ (c .before .before .before .if1 .left), sym (c .before .starts-with .ensures) ∙ c .if2 .left)
+returns-5 c = rw (ne-eqb _ 5 (c .before .before .before .if1 .left), sym (c .before .starts-with .ensures) ∙ c .if2 .left)
 
 pub controls-at-spec : {M : Type 1} → statement M
 controls-at-spec =
