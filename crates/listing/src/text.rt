@@ -171,9 +171,9 @@ fn hexadecimal(s: &[u8], at: usize, n: usize) -> Word
     Word::Is(v, start + n)
 }
 
-// The bytes w and decimal digits, as far as they go. A number of 2^53 or more is bad.
+// The bytes w and decimal digits, as far as they go. A number of 2^64 or more is bad.
 pub fn decimal_after(s: &[u8], at: usize, w: &[u8]) -> Word
-    ensures { λ r. ⌜ Below (2 ^ 53) r ⌝ }
+    ensures { λ r. ⌜ Below (2 ^ 64) r ⌝ }
 {
     let Place::At(start) = after(s, at, w) else {
         return Word::Bad;
@@ -185,10 +185,10 @@ pub fn decimal_after(s: &[u8], at: usize, w: &[u8]) -> Word
         if 10 <= d {
             break;
         }
-        v = v * 10 + d;
-        if 9007199254740992 <= v {
+        if (u64::MAX - d) / 10 < v {
             return Word::Bad;
         }
+        v = v * 10 + d;
         i += 1;
     }
     if i == start {
@@ -199,7 +199,7 @@ pub fn decimal_after(s: &[u8], at: usize, w: &[u8]) -> Word
 
 // A field of a count.
 pub fn decimal_at(s: &[u8], at: usize) -> Word
-    ensures { λ r. ⌜ Below (2 ^ 53) r ⌝ }
+    ensures { λ r. ⌜ Below (2 ^ 64) r ⌝ }
 {
     decimal_after(s, at, b" ")
 }

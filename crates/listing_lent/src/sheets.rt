@@ -16,8 +16,8 @@ use listing::text::decimal_after;
 use listing::text::decimal_at;
 use listing::text::ended;
 use listing::text::find;
+use listing_envelopes::answers::answers_envelope;
 use listing_envelopes::records::envelope_at;
-use listing_envelopes::records::says_envelope;
 use listing_points::answers::answers_refusal;
 use listing_points::answers::says_refusal;
 use points::refusal::Refusal;
@@ -138,12 +138,7 @@ fn answers_read(s: &[u8], at: usize, read: ReadSheet) -> Outcome {
     let answer = read.answer;
     let envelope = read.envelope;
     match answer {
-        SheetAnswer::Accepted => {
-            let Place::At(start) = after(s, at, b" => ok") else {
-                return Outcome::Differs;
-            };
-            ended(s, says_envelope(s, start, envelope))
-        }
+        SheetAnswer::Accepted => answers_envelope(s, at, envelope),
         SheetAnswer::Refused(why, line) => ended(s, says_line(s, at, why, line)),
     }
 }

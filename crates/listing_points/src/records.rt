@@ -1,5 +1,4 @@
-// Points and settings in a line. A point is `TIME POSITION VALUE CODE CP1 CP2`, an envelope
-// `{ TARGET ENABLED MIN MAX STEP N POINT*N }`; `-` is none.
+// Points and settings in a line. A point is `TIME POSITION VALUE CODE CP1 CP2`; `-` is none.
 ghost use mathlib.Core.Path.{_≡_};
 ghost use Prim.Native.Nat.{min};
 use curve::CurveType;

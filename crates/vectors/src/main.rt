@@ -1,13 +1,12 @@
 // Replays lists of the Rust's answers: reads lines `call => answer` from standard input, runs each
-// call, prints the lines whose answer is not ours, and last how many were run and how many differ.
+// call, and reports the lines whose answer is not ours, as the library `lists` says.
 ghost use mathlib.Core.Path.{_≡_};
 ghost use lib.ListN.{length};
-use libc::STDOUT_FILENO;
+use lists::Reader;
+use session::Session;
 
 mod calls_edit;
-mod calls_session;
-mod replay;
-mod words;
+mod dispatch;
 
 // Room for a line: two envelopes of 256 points and their answer take some 40,000 bytes.
 fn buffer() -> [u8; 131072]
@@ -23,12 +22,31 @@ fn memory() -> [u64; 20480]
     [0; 20480]
 }
 
+// Runs the lines of standard input. A proved loop has to end, and nothing says that a list does: so
+// the lines are counted down from a number that no run uses up.
+fn replay(buf: &mut [u8], memory: &mut [u64]) -> Reader {
+    let mut session = Session::open(0, memory);
+    let mut reader = lists::start();
+    let mut lines = u64::MAX;
+    while lines > 0 {
+        lines -= 1;
+        let line = lists::next(buf, reader);
+        if !line.found {
+            return line.reader;
+        }
+        let from = line.from;
+        let to = line.to;
+        let read = line.reader;
+        let played = dispatch::played(&buf[from..to], session, memory);
+        let outcome = played.outcome;
+        reader = lists::counted(read, outcome);
+        session = played.session;
+    }
+    reader
+}
+
 fn main() {
     let mut buf = buffer();
     let mut memory = memory();
-    let tally = replay::replay(&mut buf, &mut memory);
-    io::print_decimal(STDOUT_FILENO, tally.run);
-    io::write_all(STDOUT_FILENO, b" run, ");
-    io::print_decimal(STDOUT_FILENO, tally.differ);
-    io::write_all(STDOUT_FILENO, b" differ\n");
+    lists::print_tally(replay(&mut buf, &mut memory));
 }

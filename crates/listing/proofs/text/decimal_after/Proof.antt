@@ -1,4 +1,4 @@
--- `listing::text::decimal_after` meets its contract: the number stays below 2 ^ 53, so that another digit fits.
+-- `listing::text::decimal_after` meets its contract: another digit is taken only where the number then stays below 2 ^ 64.
 -- Assumes nothing.
 use Prim.Native.Nat.{_-_, _^_, _≤_, _<_}
 use native.Mathlib.Omega.{arith}
@@ -8,7 +8,7 @@ use Rattle.listing.proofs.text.decimal_after.Statement.{statement}
 use Rattle.listing.proofs.text.decimal_after.Tie as tie
 
 abbrev Inv-loop : tie.InvT-loop
-Inv-loop s at w start v₀ i₀ v i = (start ≤ i) × (i ≤ length s) × (v < 2 ^ 53)
+Inv-loop s at w start v₀ i₀ v i = (start ≤ i) × (i ≤ length s) × (v < 2 ^ 64)
 
 abbrev μ-loop : tie.MeasureT-loop
 μ-loop s at w start v₀ i₀ v i = length s - i
@@ -34,14 +34,17 @@ shared-slice-read-digit c = omega arith
 digit-requires : tie.Need-digit-requires Inv-loop μ-loop
 digit-requires c κs = search needs
 
+sub-if2 : tie.Need-sub-if2 Inv-loop μ-loop
+sub-if2 c = omega arith
+
+returns-2 : tie.Need-returns-2 Inv-loop μ-loop
+returns-2 c = search needs
+
 mul-v : tie.Need-mul-v Inv-loop μ-loop
 mul-v c = omega arith
 
 add-v : tie.Need-add-v Inv-loop μ-loop
 add-v c = omega arith
-
-returns-2 : tie.Need-returns-2 Inv-loop μ-loop
-returns-2 c = search needs
 
 add-i : tie.Need-add-i Inv-loop μ-loop
 add-i c = omega arith
@@ -71,9 +74,10 @@ decimal-after-spec =
     loop-holds
     shared-slice-read-digit
     digit-requires
+    sub-if2
+    returns-2
     mul-v
     add-v
-    returns-2
     add-i
     loop-less
     loop-again

@@ -1,26 +1,28 @@
--- `plays::list::run` ends: the measure is the number of turns that are left.
-use Prim.Native.Nat.{_≤_}
-use lib.ListN.{length}
-use mathlib.Core.Path.{_≡_}
+-- `plays::list::run` ends: the measure is the number of lines that are left.
 use borrow.Author.Needs.{needs}
 use native.Mathlib.Omega.{arith}
+use lib.ListN.{length}
+use mathlib.Core.Path.{_≡_}
 use Rattle.plays.proofs.list.run.Statement.{statement}
 use Rattle.plays.proofs.list.run.Tie as tie
 
 abbrev Inv-loop : tie.InvT-loop
-Inv-loop text₀ input₀ out₀ r₀ turns₀ text input out r turns = (r .held ≤ length text) × (length text ≡ length text₀) × (length input ≡ length input₀)
+Inv-loop buf₀ input₀ out₀ reader₀ lines₀ buf input out reader lines = (length buf ≡ length buf₀) × (length input ≡ length input₀)
 
 abbrev μ-loop : tie.MeasureT-loop
-μ-loop text₀ input₀ out₀ r₀ turns₀ text input out r turns = turns
+μ-loop buf₀ input₀ out₀ reader₀ lines₀ buf input out reader lines = lines
+
+start-requires : tie.Need-start-requires Inv-loop μ-loop
+start-requires c κs = search needs
 
 loop-holds : tie.Need-loop-holds Inv-loop μ-loop
 loop-holds c = search needs
 
-sub-turns : tie.Need-sub-turns Inv-loop μ-loop
-sub-turns c = omega arith
+sub-lines : tie.Need-sub-lines Inv-loop μ-loop
+sub-lines c = omega arith
 
-turn-requires : tie.Need-turn-requires Inv-loop μ-loop
-turn-requires c κs = search needs
+next-requires : tie.Need-next-requires Inv-loop μ-loop
+next-requires c κs = search needs
 
 same-length : tie.Need-same-length Inv-loop μ-loop
 same-length c = search needs
@@ -30,6 +32,21 @@ same-length-2 c = search needs
 
 returns : tie.Need-returns Inv-loop μ-loop
 returns c = search needs
+
+sub-played : tie.Need-sub-played Inv-loop μ-loop
+sub-played c = search needs
+
+part-played-start : tie.Need-part-played-start Inv-loop μ-loop
+part-played-start c = search needs
+
+part-played-end : tie.Need-part-played-end Inv-loop μ-loop
+part-played-end c = search needs
+
+played-requires : tie.Need-played-requires Inv-loop μ-loop
+played-requires c κs = search needs
+
+counted-requires : tie.Need-counted-requires Inv-loop μ-loop
+counted-requires c κs = search needs
 
 loop-less : tie.Need-loop-less Inv-loop μ-loop
 loop-less c = omega arith
@@ -52,12 +69,18 @@ run-spec =
     (tie.spec
     Inv-loop
     μ-loop
+    start-requires
     loop-holds
-    sub-turns
-    turn-requires
+    sub-lines
+    next-requires
     same-length
     same-length-2
     returns
+    sub-played
+    part-played-start
+    part-played-end
+    played-requires
+    counted-requires
     loop-less
     loop-again
     same-length-3

@@ -1,41 +1,31 @@
 // The lines of a session: `session s CALL => ok kept KEPT ahead AHEAD E`, where a call is
 // `open TARGET WORDS`, `edit NAME ARGUMENTS`, `back`, `forward`, `show`, `damage SLOT WORD`, or
 // `len WORDS` and one of those, with a step memory of another length. One session is open at a time.
-// Lookups and runs have their own answers, and `memory` gives the sum of the memory's words.
+// The calls that alter nothing are in looks.rt.
+use crate::looks::look;
 use crate::words;
-use listing::text::Double;
 use listing::text::Name;
 use listing::text::Outcome;
 use listing::text::Place;
 use listing::text::Word;
 use listing::text::after;
-use listing::text::answers_word;
 use listing::text::decimal_after;
 use listing::text::decimal_at;
-use listing::text::double_at;
 use listing::text::ended;
 use listing::text::find;
-use listing::text::word_at;
 use listing_edits::EditField;
 use listing_edits::JoinField;
 use listing_edits::edit_at;
 use listing_edits::join_at;
-use listing_envelopes::calls_render::RunField;
-use listing_envelopes::calls_render::WholeField;
-use listing_envelopes::calls_render::run_at;
-use listing_envelopes::calls_render::whole_at;
 use listing_envelopes::records::envelope_at;
 use listing_envelopes::records::says_envelope;
-use listing_points::answers::answers_lookup;
 use listing_points::answers::answers_refusal;
-use listing_points::buffers::answers_buffer;
-use listing_points::buffers::marked;
 use points::refusal::Answer;
 use session::Session;
 use session::SessionAnswer;
 
 // What a line comes to, and the session after it.
-pub(crate) struct Played {
+pub struct Played {
     pub outcome: Outcome,
     pub session: Session,
 }
@@ -130,7 +120,7 @@ fn call(s: &[u8], at: usize, session: Session, memory: &mut [u64]) -> Played {
         return shown(s, next, session);
     }
     let Place::At(next) = after(s, at, b" edit ") else {
-        return stays(session, Outcome::Differs);
+        return stays(session, Outcome::Unknown);
     };
     edit(s, next, session, memory)
 }
@@ -162,70 +152,8 @@ fn damage(s: &[u8], at: usize, session: Session, memory: &mut [u64]) -> Played {
     shown(s, next, session)
 }
 
-// ---- lookups and runs
-
-fn value_at(s: &[u8], at: usize, session: Session) -> Outcome {
-    let Double::Is(time, next) = double_at(s, at) else {
-        return Outcome::Differs;
-    };
-    answers_lookup(s, next, session.get_value_at(time))
-}
-
-fn value_at_sample(s: &[u8], at: usize, session: Session) -> Outcome {
-    let Word::Is(sample, next) = word_at(s, at) else {
-        return Outcome::Differs;
-    };
-    answers_lookup(s, next, session.get_value_at_sample(sample))
-}
-
-fn render(s: &[u8], at: usize, session: Session) -> Outcome {
-    let RunField::Is(rate, first, count, place, length, next) = run_at(s, at) else {
-        return Outcome::Differs;
-    };
-    if 1024 < length {
-        return Outcome::Differs;
-    }
-    let mut buffer = marked();
-    let out = &mut buffer[0..length];
-    let answer = session.render(rate, first, count, out, place);
-    answers_buffer(s, next, answer, out)
-}
-
-fn to_buffer(s: &[u8], at: usize, session: Session) -> Outcome {
-    let WholeField::Is(rate, duration, place, length, next) = whole_at(s, at) else {
-        return Outcome::Differs;
-    };
-    if 1024 < length {
-        return Outcome::Differs;
-    }
-    let mut buffer = marked();
-    let out = &mut buffer[0..length];
-    let answer = session.to_buffer(rate, duration, out, place);
-    answers_buffer(s, next, answer, out)
-}
-
-// The calls that alter nothing, and the memory's sum. `at` is the place before the name.
-fn look(s: &[u8], at: usize, session: Session, memory: &[u64]) -> Outcome {
-    let Place::At(start) = after(s, at, b" ") else {
-        return Outcome::Unknown;
-    };
-    let end = find(s, start, b' ');
-    let name = Name {
-        from: start,
-        to: end,
-    };
-    match name.among(s, b"value_at value_at_sample render to_buffer memory ") {
-        0 => value_at(s, end, session),
-        1 => value_at_sample(s, end, session),
-        2 => render(s, end, session),
-        3 => to_buffer(s, end, session),
-        4 => answers_word(s, end, words::sum(memory)),
-        _ => Outcome::Unknown,
-    }
-}
-
 // The line of the open session.
-pub(crate) fn run(s: &[u8], session: Session, memory: &mut [u64]) -> Played {
+pub fn run(s: &[u8], session: Session, memory: &mut [u64]) -> Played {
     let Place::At(at) = after(s, 0, b"session s") else {
         return stays(session, Outcome::Unknown);
     };

@@ -1,12 +1,12 @@
--- `vectors::replay::to_front` meets its contract: after i bytes the buffer is as long as before.
+-- `lists::reader::to_front` meets its contract: after i bytes the buffer is as long as before.
 -- Assumes nothing.
 use borrow.Author.Needs.{needs}
 use mathlib.Core.Path.{_≡_}
 use Prim.Native.Nat.{_-_, _≤_}
 use native.Mathlib.Omega.{arith}
 use lib.ListN.{length, length-set}
-use Rattle.vectors.proofs.replay.to_front.Statement.{statement}
-use Rattle.vectors.proofs.replay.to_front.Tie as tie
+use Rattle.lists.proofs.reader.to_front.Statement.{statement}
+use Rattle.lists.proofs.reader.to_front.Tie as tie
 
 abbrev Inv-loop : tie.InvT-loop
 Inv-loop buf₀ from to i₀ buf i = (i ≤ to - from) × (length buf ≡ length buf₀)

@@ -1,9 +1,10 @@
--- `plays::list::read_after` meets its contract: the bytes that came lie within the part that was lent.
+-- `lists::reader::read_after` meets its contract: the bytes that came lie within the part that was lent.
+-- Assumes nothing.
 use native.Mathlib.Omega.{arith}
 use Rattle.io.proofs.Counting.{counts}
 use borrow.Author.Needs.{needs}
-use Rattle.plays.proofs.list.read_after.Statement.{statement}
-use Rattle.plays.proofs.list.read_after.Tie as tie
+use Rattle.lists.proofs.reader.read_after.Statement.{statement}
+use Rattle.lists.proofs.reader.read_after.Tie as tie
 
 sub-part : tie.Need-sub-part
 sub-part c = search needs
