@@ -43,17 +43,18 @@ pub fn of_call(line: &str, sessions: &mut Sessions) -> Verdict {
     }
 }
 
-/// What is said of a line `input => output`.
+/// What is said of a line `input => output`. One without the arrow, or whose input is no bytes, is none.
 pub fn of_play(line: &str) -> Verdict {
     if line.len() > MOST {
         return Verdict::NoLine;
     }
-    let right =
-        |(input, given): (&str, &str)| unshown(input).is_ok_and(|bytes| expected(&output(&bytes)) == given);
-    if line.split_once(" => ").is_some_and(right) {
-        Verdict::Right
-    } else {
-        Verdict::Differs
+    let Some((input, given)) = line.split_once(" => ") else {
+        return Verdict::NoLine;
+    };
+    match unshown(input) {
+        Err(_) => Verdict::NoLine,
+        Ok(bytes) if expected(&output(&bytes)) == given => Verdict::Right,
+        Ok(_) => Verdict::Differs,
     }
 }
 
