@@ -143,15 +143,15 @@ module _ {program : Bool} {l₀ s : List ℕ} {ps : List AutomationPoint} {count
             let z : 256 - count ≡ suc (256 - (count + 1)) = omega arith in
             sym (drop-drop 1 count ps) ∙ ap (λ (l : List AutomationPoint). drop 1 l) (r .rest ∙ ap (λ (k : ℕ). replicate k unused) z)
 
-        pub goes-on : (ltb 0 count && leb (timeKey p) last) ≡ false → Reading program l₀ s (set ps count p) (count + 1) next (timeKey p)
-        goes-on f =
+        pub goes-on : (key : ℕ) → key ≡ timeKey p → (ltb 0 count && leb (timeKey p) last) ≡ false → Reading program l₀ s (set ps count p) (count + 1) next key
+        goes-on key k f =
             let t : take (count + 1) (set ps count p) ≡ take count ps ++ (p ∷ []) = rw (add-one count) (take-suc-set ps count p (omega (arith, r .long))) in
             let d : drop (count + 1) (set ps count p) ≡ drop (count + 1) ps = drop-set-lt (count + 1) ps count p (omega arith) in
             let u : rising (take count ps ++ (p ∷ [])) ≡ true = later (take count ps) p last (r .last-is) (r .rises) (ap (λ (k : ℕ). ltb 0 k && leb (timeKey p) last) taken ∙ f) in
             record {
               few = omega arith;
               long = length-set ps count p ∙ r .long;
-              last-is = sym (ap (λ (l : List AutomationPoint). lastKey 0 l) t ∙ last-key 0 (take count ps) p);
+              last-is = k ∙ sym (ap (λ (l : List AutomationPoint). lastKey 0 l) t ∙ last-key 0 (take count ps) p);
               rises = ap (λ (l : List AutomationPoint). rising l) t ∙ u;
               rest = d ∙ remain;
               same = opened ∙ rw (e, u, t);

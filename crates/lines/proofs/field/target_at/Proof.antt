@@ -1,9 +1,10 @@
 use Prim.Native.Nat.{ℕ, _+_}
 use mathlib.Core.Path.{_≡_, sym, ap, _∙_}
+use mathlib.Core.Bool.{true}
 use native.Mathlib.Omega.{arith}
 use lib.ListN.{drop}
 use borrow.Author.Tests.{eq-eqb, ne-eqb, lt-ltb, le-ltb}
-use Rattle.fields.specs.Form.{targetForm, got}
+use Rattle.fields.specs.Form.{targetForm, nextIs, got}
 use Rattle.lines.specs.Told.{toldNumber, toldSingle}
 use Rattle.fields.proofs.Fields.{tail-drop, next-inside, told}
 use Rattle.fields.proofs.Decimal.{next-digit-inside, decimals-lt}
@@ -30,7 +31,12 @@ add-t10 c = omega (arith, next-inside _ (c .before .before .before .before .befo
 
 returns : tie.Need-returns
 unfolding targetForm toldSingle
-returns c = let two : c .before .before .before .before .before .args .at + 2 ≡ c .before .before .before .before .before .args .at + 1 + 1 = omega arith in rw (← c .before .before .before .next-digit .ensures, eq-eqb _ _ (c .before .before .if1 .taken), tail-drop, sym (c .before .next-is .ensures) ∙ c .if2 .taken, tail-drop) (ap (λ (n : ℕ). got 0 (drop n (c .before .before .before .before .before .args .s .now))) two)
+returns c =
+    let two : c .before .before .before .before .before .args .at + 2 ≡ c .before .before .before .before .before .args .at + 1 + 1 = omega arith in
+    let spaced : nextIs 32 (drop (c .before .before .before .before .before .args .at + 1) (c .before .before .before .before .before .args .s .now)) ≡ true =
+    sym (c .before .next-is .ensures) ∙ c .if2 .taken in
+    rw (← c .before .before .before .next-digit .ensures, eq-eqb _ _ (c .before .before .if1 .taken), tail-drop, spaced, tail-drop)
+    (ap (λ (n : ℕ). got 0 (drop n (c .before .before .before .before .before .args .s .now))) two)
 
 returns-2 : tie.Need-returns-2
 unfolding targetForm toldSingle

@@ -24,25 +24,25 @@ returns-2 c = rw (sym (c .before .before .before .finite-bits .ensures) ∙ not-
 
 returns-3 : tie.Need-returns-3
 unfolding pointMeaning toldPoint
-returns-3 c = rw (sym (c .before .before .before .before .before .finite-bits .ensures) ∙ not-false _ (c .before .before .before .before .if1 .left), sym (c .before .before .before .finite-bitsf .ensures) ∙ not-false _ (c .before .before .if2 .left), eq-eqb _ _ (c .if3 .taken))
+returns-3 c = rw (sym (c .before .before .before .before .before .finite-bits .ensures) ∙ not-false _ (c .before .before .before .before .if1 .left), sym (c .before .before .before .finite-bitsf .ensures) ∙ not-false _ (c .before .before .if2 .left), eq-eqb _ 6 (c .if3 .taken))
 
 returns-4 : tie.Need-returns-4
 unfolding pointMeaning toldPoint
-returns-4 c = rw (sym (c .before .before .before .before .before .before .before .finite-bits .ensures) ∙ not-false _ (c .before .before .before .before .before .before .if1 .left), sym (c .before .before .before .before .before .finite-bitsf .ensures) ∙ not-false _ (c .before .before .before .before .if2 .left), ne-eqb _ _ (c .before .before .if3 .left), le-ltb _ _ (c .if4 .taken))
+returns-4 c = rw (sym (c .before .before .before .before .before .before .before .finite-bits .ensures) ∙ not-false _ (c .before .before .before .before .before .before .if1 .left), sym (c .before .before .before .before .before .finite-bitsf .ensures) ∙ not-false _ (c .before .before .before .before .if2 .left), ne-eqb _ 6 (c .before .before .if3 .left), le-ltb _ _ (c .if4 .taken))
 
 finite-bitsf-requires-2 : tie.Need-finite-bitsf-requires-2
 finite-bitsf-requires-2 c κs = search needs
 
 returns-5 : tie.Need-returns-5
 unfolding pointMeaning toldPoint
-returns-5 c = rw (sym (c .before .before .before .before .before .before .before .before .before .finite-bits .ensures) ∙ not-false _ (c .before .before .before .before .before .before .before .before .if1 .left), sym (c .before .before .before .before .before .before .before .finite-bitsf .ensures) ∙ not-false _ (c .before .before .before .before .before .before .if2 .left), ne-eqb _ _ (c .before .before .before .before .if3 .left), lt-ltb _ _ (c .before .before .if4 .left), sym (c .before .finite-bitsf2 .ensures) ∙ not-true _ (c .if5 .taken))
+returns-5 c = rw (sym (c .before .before .before .before .before .before .before .before .before .finite-bits .ensures) ∙ not-false _ (c .before .before .before .before .before .before .before .before .if1 .left), sym (c .before .before .before .before .before .before .before .finite-bitsf .ensures) ∙ not-false _ (c .before .before .before .before .before .before .if2 .left), ne-eqb _ 6 (c .before .before .before .before .if3 .left), lt-ltb _ _ (c .before .before .if4 .left), sym (c .before .finite-bitsf2 .ensures) ∙ not-true _ (c .if5 .taken))
 
 finite-bitsf-requires-3 : tie.Need-finite-bitsf-requires-3
 finite-bitsf-requires-3 c κs = search needs
 
 returns-6 : tie.Need-returns-6
 unfolding pointMeaning toldPoint
-returns-6 c = rw (sym (c .before .before .before .before .before .before .before .before .before .before .before .finite-bits .ensures) ∙ not-false _ (c .before .before .before .before .before .before .before .before .before .before .if1 .left), sym (c .before .before .before .before .before .before .before .before .before .finite-bitsf .ensures) ∙ not-false _ (c .before .before .before .before .before .before .before .before .if2 .left), ne-eqb _ _ (c .before .before .before .before .before .before .if3 .left), lt-ltb _ _ (c .before .before .before .before .if4 .left), sym (c .before .before .before .finite-bitsf2 .ensures) ∙ not-false _ (c .before .before .if5 .left), sym (c .before .finite-bitsf3 .ensures) ∙ not-true _ (c .if6 .taken))
+returns-6 c = rw (sym (c .before .before .before .before .before .before .before .before .before .before .before .finite-bits .ensures) ∙ not-false _ (c .before .before .before .before .before .before .before .before .before .before .if1 .left), sym (c .before .before .before .before .before .before .before .before .before .finite-bitsf .ensures) ∙ not-false _ (c .before .before .before .before .before .before .before .before .if2 .left), ne-eqb _ 6 (c .before .before .before .before .before .before .if3 .left), lt-ltb _ _ (c .before .before .before .before .if4 .left), sym (c .before .before .before .finite-bitsf2 .ensures) ∙ not-false _ (c .before .before .if5 .left), sym (c .before .finite-bitsf3 .ensures) ∙ not-true _ (c .if6 .taken))
 
 float-from-bits-cp1 : tie.Need-float-from-bits-cp1
 float-from-bits-cp1 c = finite-no-nan binary32 _ (sym (c .before .before .before .before .finite-bitsf2 .ensures) ∙ not-false _ (c .before .before .before .if5 .left))
@@ -64,7 +64,7 @@ float-from-bits-t16 c = finite-no-nan binary32 _ (sym (c .before .before .before
 
 returns-7 : tie.Need-returns-7
 unfolding pointMeaning toldPoint
-returns-7 c = rw (sym (c .before .before .before .before .before .before .before .before .before .before .before .before .before .before .before .before .before .finite-bits .ensures) ∙ not-false _ (c .before .before .before .before .before .before .before .before .before .before .before .before .before .before .before .before .if1 .left), sym (c .before .before .before .before .before .before .before .before .before .before .before .before .before .before .before .finite-bitsf .ensures) ∙ not-false _ (c .before .before .before .before .before .before .before .before .before .before .before .before .before .before .if2 .left), ne-eqb _ _ (c .before .before .before .before .before .before .before .before .before .before .before .before .if3 .left), lt-ltb _ _ (c .before .before .before .before .before .before .before .before .before .before .if4 .left), sym (c .before .before .before .before .before .before .before .before .before .finite-bitsf2 .ensures) ∙ not-false _ (c .before .before .before .before .before .before .before .before .if5 .left), sym (c .before .before .before .before .before .before .before .finite-bitsf3 .ensures) ∙ not-false _ (c .before .before .before .before .before .before .if6 .left), c .before .before .before .from-code .ensures, c .before .before .position-of .ensures)
+returns-7 c = rw (sym (c .before .before .before .before .before .before .before .before .before .before .before .before .before .before .before .before .before .finite-bits .ensures) ∙ not-false _ (c .before .before .before .before .before .before .before .before .before .before .before .before .before .before .before .before .if1 .left), sym (c .before .before .before .before .before .before .before .before .before .before .before .before .before .before .before .finite-bitsf .ensures) ∙ not-false _ (c .before .before .before .before .before .before .before .before .before .before .before .before .before .before .if2 .left), ne-eqb _ 6 (c .before .before .before .before .before .before .before .before .before .before .before .before .if3 .left), lt-ltb _ _ (c .before .before .before .before .before .before .before .before .before .before .if4 .left), sym (c .before .before .before .before .before .before .before .before .before .finite-bitsf2 .ensures) ∙ not-false _ (c .before .before .before .before .before .before .before .before .if5 .left), sym (c .before .before .before .before .before .before .before .finite-bitsf3 .ensures) ∙ not-false _ (c .before .before .before .before .before .before .if6 .left), c .before .before .before .from-code .ensures, c .before .before .position-of .ensures)
 
 pub point-of-spec : {M : Type 1} → statement M
 point-of-spec =

@@ -29,11 +29,23 @@ unfolding cutShort
 returns-2 c = rw (not-false (c .before .before .before .before .before .args .program) (c .before .before .before .if1 .left), sym (c .before .starts-with .ensures) ∙ not-true _ (c .if2 .taken))
 
 add-result : tie.Need-add-result
-add-result c = omega (arith, starts-with-length (text "rate duration") (c .before .before .before .before .before .args .s .now) (c .before .before .before .before .before .args .at) (sym (c .before .starts-with .ensures) ∙ not-false _ (c .if2 .left)) (omega arith), c .before .before .before .before .before .good)
+add-result c =
+    omega (
+      arith,
+      starts-with-length (text "rate duration") (c .before .before .before .before .before .args .s .now) (c .before .before .before .before .before .args .at)
+          (sym (c .before .starts-with .ensures) ∙ not-false _ (c .if2 .left)) (omega arith),
+      c .before .before .before .before .before .good,
+    )
 
 returns-3 : tie.Need-returns-3
 unfolding cutShort
-returns-3 c = rw (not-false (c .before .before .before .before .before .args .program) (c .before .before .before .if1 .left), sym (c .before .starts-with .ensures) ∙ not-false _ (c .if2 .left), drop-drop 13 (c .before .before .before .before .before .args .at) (c .before .before .before .before .before .args .s .now)) (empty-leb (c .before .before .before .before .before .args .s .now) (c .before .before .before .before .before .args .at + 13))
+returns-3 c =
+    rw (
+      not-false (c .before .before .before .before .before .args .program) (c .before .before .before .if1 .left),
+      sym (c .before .starts-with .ensures) ∙ not-false _ (c .if2 .left),
+      drop-drop 13 (c .before .before .before .before .before .args .at) (c .before .before .before .before .before .args .s .now),
+    )
+    (empty-leb (c .before .before .before .before .before .args .s .now) (c .before .before .before .before .before .args .at + 13))
 
 pub cut-short-spec : {M : Type 1} → statement M
 cut-short-spec =

@@ -90,7 +90,7 @@ loop-less c = omega (arith, c .before .before .before .before .before .before .b
 
 loop-again : tie.Need-loop-again Inv-loop μ-loop
 unfolding toldPointLine
-loop-again c = rw (c .before .order-key .ensures) (goes-on (c .before .before .before .before .before .before .before .before .before .loop .inv) (sym (c .before .before .before .before .before .before .before .before .points-end .ensures) ∙ not-true _ (c .before .before .before .before .before .before .before .if1 .taken)) (omega (arith, c .before .before .before .before .before .before .before .before .before .loop .inv .few, c .before .before .before .before .before .before .if2 .left)) _ _ (told (toldPointLine _) (c .before .before .before .before .before .point-line .ensures) (c .before .before .before .p .given .1)) (rw (← c .before .order-key .ensures) (c .if3 .left)))
+loop-again c = goes-on (c .before .before .before .before .before .before .before .before .before .loop .inv) (sym (c .before .before .before .before .before .before .before .before .points-end .ensures) ∙ not-true _ (c .before .before .before .before .before .before .before .if1 .taken)) (omega (arith, c .before .before .before .before .before .before .before .before .before .loop .inv .few, c .before .before .before .before .before .before .if2 .left)) _ _ (told (toldPointLine _) (c .before .before .before .before .before .point-line .ensures) (c .before .before .before .p .given .1)) _ (c .before .order-key .ensures) (rw (← c .before .order-key .ensures) (c .if3 .left))
 
 place-within-requires : tie.Need-place-within-requires Inv-loop μ-loop
 place-within-requires c κs = tt
