@@ -1,5 +1,4 @@
 // The calls of the analyses: ranges, the slope, peaks and valleys. `at` is the place after the name.
-use crate::records::envelope_at;
 use analysis::Found;
 use analysis::Range;
 use envelope::AutomationEnvelope;
@@ -16,6 +15,7 @@ use listing::text::ended;
 use listing::text::says_single;
 use listing::text::two_doubles_at;
 use listing::text::word_at;
+use listing_envelopes::records::envelope_at;
 use listing_points::answers::answers_lookup;
 use listing_points::answers::answers_refusal;
 use listing_points::buffers::marked;

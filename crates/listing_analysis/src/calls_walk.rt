@@ -1,6 +1,5 @@
 // The calls of a walk: `walk E RATE DURATION CALLS => ok walk COUNT VALUE/PLACE ..`, with each call's
 // value, `-` for none, and the place it leaves. `at` is the place after the name.
-use crate::records::envelope_at;
 use envelope::AutomationEnvelope;
 use listing::text::Doubles;
 use listing::text::Outcome;
@@ -13,6 +12,7 @@ use listing::text::decimal_at;
 use listing::text::ended;
 use listing::text::says_single;
 use listing::text::two_doubles_at;
+use listing_envelopes::records::envelope_at;
 use listing_points::answers::answers_refusal;
 use lookup::Lookup;
 use render::SampleIterator;

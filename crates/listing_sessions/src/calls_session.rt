@@ -34,6 +34,17 @@ fn stays(session: Session, outcome: Outcome) -> Played {
     Played { outcome, session }
 }
 
+// The name that stands after a space, up to the next one or the line's end.
+fn name_at(s: &[u8], at: usize) -> Name {
+    let Place::At(from) = after(s, at, b" ") else {
+        return Name { from: at, to: at };
+    };
+    Name {
+        from,
+        to: find(s, from, b' '),
+    }
+}
+
 // ---- answers
 
 fn says_session(s: &[u8], at: usize, session: Session) -> Place {
@@ -96,41 +107,41 @@ fn join(s: &[u8], name: Name, at: usize, session: Session, memory: &mut [u64]) -
     answered(s, next, session.join(join, other, memory))
 }
 
-// `start` is where the edit's name begins.
-fn edit(s: &[u8], start: usize, session: Session, memory: &mut [u64]) -> Played {
-    let end = find(s, start, b' ');
-    let name = Name {
-        from: start,
-        to: end,
-    };
-    let EditField::Is(edit, next) = edit_at(s, name, end) else {
-        return join(s, name, end, session, memory);
+// `at` is the place before the edit's name.
+fn edit(s: &[u8], at: usize, session: Session, memory: &mut [u64]) -> Played {
+    let name = name_at(s, at);
+    let next = name.to;
+    let EditField::Is(edit, next) = edit_at(s, name, next) else {
+        return join(s, name, next, session, memory);
     };
     answered(s, next, session.edit(edit, memory))
 }
 
-fn call(s: &[u8], at: usize, session: Session, memory: &mut [u64]) -> Played {
-    if let Place::At(next) = after(s, at, b" back") {
-        return answered(s, next, session.back(memory));
+fn call(s: &[u8], name: Name, session: Session, memory: &mut [u64]) -> Played {
+    let at = name.to;
+    match name.among(s, b"back forward show edit ") {
+        0 => answered(s, at, session.back(memory)),
+        1 => answered(s, at, session.forward(memory)),
+        2 => shown(s, at, session),
+        3 => edit(s, at, session, memory),
+        _ => stays(session, Outcome::Unknown),
     }
-    if let Place::At(next) = after(s, at, b" forward") {
-        return answered(s, next, session.forward(memory));
-    }
-    if let Place::At(next) = after(s, at, b" show") {
-        return shown(s, next, session);
-    }
-    let Place::At(next) = after(s, at, b" edit ") else {
-        return stays(session, Outcome::Unknown);
-    };
-    edit(s, next, session, memory)
 }
 
 // A call with the first `words` words.
-fn call_with(s: &[u8], at: usize, session: Session, memory: &mut [u64], words: usize) -> Played {
+fn call_with(s: &[u8], name: Name, session: Session, memory: &mut [u64], words: usize) -> Played {
     if memory.len() < words {
         return stays(session, Outcome::Differs);
     }
-    call(s, at, session, &mut memory[0..words])
+    call(s, name, session, &mut memory[0..words])
+}
+
+// A number of words, and a call with so many.
+fn call_with_length(s: &[u8], at: usize, session: Session, memory: &mut [u64]) -> Played {
+    let Word::Is(words, next) = decimal_at(s, at) else {
+        return stays(session, Outcome::Differs);
+    };
+    call_with(s, name_at(s, next), session, memory, words as usize)
 }
 
 // Sets all bits of a word of a stored state.
@@ -152,23 +163,26 @@ fn damage(s: &[u8], at: usize, session: Session, memory: &mut [u64]) -> Played {
     shown(s, next, session)
 }
 
-// The line of the open session.
-pub fn run(s: &[u8], session: Session, memory: &mut [u64]) -> Played {
-    let Place::At(at) = after(s, 0, b"session s") else {
-        return stays(session, Outcome::Unknown);
-    };
-    if let Place::At(next) = after(s, at, b" open") {
-        return open(s, next, session, memory);
-    }
-    if let Place::At(next) = after(s, at, b" damage") {
-        return damage(s, next, session, memory);
-    }
-    if let Word::Is(words, next) = decimal_after(s, at, b" len ") {
-        return call_with(s, next, session, memory, words as usize);
-    }
-    let outcome = look(s, at, session, &*memory);
+// A call with as many words as at the opening, or one that alters nothing.
+fn plain(s: &[u8], name: Name, session: Session, memory: &mut [u64]) -> Played {
+    let outcome = look(s, name, session, &*memory);
     let Outcome::Unknown = outcome else {
         return stays(session, outcome);
     };
-    call_with(s, at, session, memory, session.length)
+    call_with(s, name, session, memory, session.length)
+}
+
+// The line of the open session.
+pub fn run(s: &[u8], session: Session, memory: &mut [u64]) -> Played {
+    let Place::At(start) = after(s, 0, b"session s") else {
+        return stays(session, Outcome::Unknown);
+    };
+    let name = name_at(s, start);
+    let at = name.to;
+    match name.among(s, b"open damage len ") {
+        0 => open(s, at, session, memory),
+        1 => damage(s, at, session, memory),
+        2 => call_with_length(s, at, session, memory),
+        _ => plain(s, name, session, memory),
+    }
 }

@@ -6,13 +6,10 @@ use envelope::Edited;
 use listing::text::Double;
 use listing::text::Name;
 use listing::text::Outcome;
-use listing::text::Place;
 use listing::text::Word;
-use listing::text::after;
 use listing::text::answers_word;
 use listing::text::decimal_at;
 use listing::text::double_at;
-use listing::text::find;
 use listing::text::word_at;
 use listing_envelopes::answers::answers_envelope;
 use listing_envelopes::calls_render::RunField;
@@ -112,27 +109,19 @@ fn slot(s: &[u8], at: usize, memory: &[u64]) -> Outcome {
     answers_stored(s, next, state::read::read_state(&memory[from..to]))
 }
 
-// `at` is the place before the name.
-pub(crate) fn look(s: &[u8], at: usize, session: Session, memory: &[u64]) -> Outcome {
-    let Place::At(start) = after(s, at, b" ") else {
-        return Outcome::Unknown;
-    };
-    let end = find(s, start, b' ');
-    let name = Name {
-        from: start,
-        to: end,
-    };
+pub(crate) fn look(s: &[u8], name: Name, session: Session, memory: &[u64]) -> Outcome {
+    let at = name.to;
     match name.among(
         s,
         b"value_at value_at_sample render to_buffer memory words slot ",
     ) {
-        0 => value_at(s, end, session),
-        1 => value_at_sample(s, end, session),
-        2 => render(s, end, session),
-        3 => to_buffer(s, end, session),
-        4 => answers_word(s, end, words::sum(memory)),
-        5 => part(s, end, memory),
-        6 => slot(s, end, memory),
+        0 => value_at(s, at, session),
+        1 => value_at_sample(s, at, session),
+        2 => render(s, at, session),
+        3 => to_buffer(s, at, session),
+        4 => answers_word(s, at, words::sum(memory)),
+        5 => part(s, at, memory),
+        6 => slot(s, at, memory),
         _ => Outcome::Unknown,
     }
 }

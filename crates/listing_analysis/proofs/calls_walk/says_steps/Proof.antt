@@ -1,9 +1,9 @@
--- `listing_envelopes::calls_walk::says_steps` ends: the calls that are left become fewer.
+-- `listing_analysis::calls_walk::says_steps` ends: the calls that are left become fewer.
 -- Assumes nothing.
 use Prim.Native.Nat.{_-_, _≤_}
 use borrow.Author.Needs.{needs}
-use Rattle.listing_envelopes.proofs.calls_walk.says_steps.Statement.{statement}
-use Rattle.listing_envelopes.proofs.calls_walk.says_steps.Tie as tie
+use Rattle.listing_analysis.proofs.calls_walk.says_steps.Statement.{statement}
+use Rattle.listing_analysis.proofs.calls_walk.says_steps.Tie as tie
 
 abbrev Inv-loop : tie.InvT-loop
 Inv-loop s at envelope calls walk₀ place₀ i₀ walk place i = (i ≤ calls)
