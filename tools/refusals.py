@@ -122,6 +122,11 @@ def need_of(read, file, name):
     return found.group(1) if found else None
 
 
+def by_hand(read, name):
+    """Whether a function's proof says that it is by hand: the log then has it as not covered wherever it isn't proved."""
+    return "by hand" in (read("/".join(["proofs"] + name.split("::")[1:] + ["Proof.antt"])) or "")
+
+
 def refusals(log, below, read):
     """The errors of a log in its order, without those that only follow from another; but what isn't covered comes first, since
     the rest follows from it. Places are said from the folder `below` on, the last parts of its path."""
@@ -133,6 +138,8 @@ def refusals(log, below, read):
     for at, line in enumerate(lines):
         if said := NOT_COVERED.match(line):
             name, why, file, number, what = said.groups()
+            if by_hand(read, name):
+                continue
             uncovered.append(Refusal(place(file), int(number), name, None, "not covered", f"{why}: {what}"))
         elif said := COMPILER.match(line):
             file, number, name, what = said.groups()
