@@ -22,27 +22,55 @@ fn memory() -> [u64; 20480]
     [0; 20480]
 }
 
+// The list that is being read, and the session that is open.
+struct Progress {
+    reader: Reader,
+    session: Session,
+    ended: bool,
+}
+
+// Runs the next line.
+fn turn(buf: &mut [u8], r: Progress, memory: &mut [u64]) -> Progress {
+    let reader = r.reader;
+    let session = r.session;
+    let line = lists::next(buf, reader);
+    let read = line.reader;
+    if !line.found {
+        return Progress {
+            reader: read,
+            session,
+            ended: true,
+        };
+    }
+    let from = line.from;
+    let to = line.to;
+    let played = dispatch::played(&buf[from..to], session, memory);
+    let outcome = played.outcome;
+    let after = played.session;
+    Progress {
+        reader: lists::counted(read, outcome),
+        session: after,
+        ended: false,
+    }
+}
+
 // Runs the lines of standard input. A proved loop has to end, and nothing says that a list does: so
 // the lines are counted down from a number that no run uses up.
 fn replay(buf: &mut [u8], memory: &mut [u64]) -> Reader {
-    let mut session = Session::open(0, memory);
-    let mut reader = lists::start();
+    let mut r = Progress {
+        reader: lists::start(),
+        session: Session::open(0, memory),
+        ended: false,
+    };
     let mut lines = u64::MAX;
     while lines > 0 {
         lines -= 1;
-        let line = lists::next(buf, reader);
-        if !line.found {
-            return line.reader;
+        r = turn(buf, r, memory);
+        if r.ended {
+            return r.reader;
         }
-        let from = line.from;
-        let to = line.to;
-        let read = line.reader;
-        let played = dispatch::played(&buf[from..to], session, memory);
-        let outcome = played.outcome;
-        reader = lists::counted(read, outcome);
-        session = played.session;
     }
-    reader
+    r.reader
 }
 
 fn main() {

@@ -1,22 +1,23 @@
 -- `vectors::replay` ends: the measure is the number of lines that are left.
-use borrow.Author.Needs.{needs}
+-- Assumes nothing.
 use native.Mathlib.Omega.{arith}
+use borrow.Author.Needs.{needs}
 use lib.ListN.{length}
 use mathlib.Core.Path.{_≡_}
 use Rattle.vectors.proofs.replay.Statement.{statement}
 use Rattle.vectors.proofs.replay.Tie as tie
 
 abbrev Inv-loop : tie.InvT-loop
-Inv-loop buf₀ memory₀ session₀ reader₀ lines₀ buf memory session reader lines = (length buf ≡ length buf₀) × (length memory ≡ length memory₀)
+Inv-loop buf₀ memory₀ r₀ lines₀ buf memory r lines = (length buf ≡ length buf₀) × (length memory ≡ length memory₀)
 
 abbrev μ-loop : tie.MeasureT-loop
-μ-loop buf₀ memory₀ session₀ reader₀ lines₀ buf memory session reader lines = lines
-
-open-requires : tie.Need-open-requires Inv-loop μ-loop
-open-requires c κs = search needs
+μ-loop buf₀ memory₀ r₀ lines₀ buf memory r lines = lines
 
 start-requires : tie.Need-start-requires Inv-loop μ-loop
 start-requires c κs = search needs
+
+open-requires : tie.Need-open-requires Inv-loop μ-loop
+open-requires c κs = search needs
 
 loop-holds : tie.Need-loop-holds Inv-loop μ-loop
 loop-holds c = search needs
@@ -24,8 +25,8 @@ loop-holds c = search needs
 sub-lines : tie.Need-sub-lines Inv-loop μ-loop
 sub-lines c = omega arith
 
-next-requires : tie.Need-next-requires Inv-loop μ-loop
-next-requires c κs = search needs
+turn-requires : tie.Need-turn-requires Inv-loop μ-loop
+turn-requires c κs = search needs
 
 same-length : tie.Need-same-length Inv-loop μ-loop
 same-length c = search needs
@@ -35,21 +36,6 @@ same-length-2 c = search needs
 
 returns : tie.Need-returns Inv-loop μ-loop
 returns c = search needs
-
-sub-played : tie.Need-sub-played Inv-loop μ-loop
-sub-played c = search needs
-
-part-played-start : tie.Need-part-played-start Inv-loop μ-loop
-part-played-start c = search needs
-
-part-played-end : tie.Need-part-played-end Inv-loop μ-loop
-part-played-end c = search needs
-
-played-requires : tie.Need-played-requires Inv-loop μ-loop
-played-requires c κs = search needs
-
-counted-requires : tie.Need-counted-requires Inv-loop μ-loop
-counted-requires c κs = search needs
 
 loop-less : tie.Need-loop-less Inv-loop μ-loop
 loop-less c = omega arith
@@ -72,19 +58,14 @@ replay-spec =
     (tie.spec
     Inv-loop
     μ-loop
-    open-requires
     start-requires
+    open-requires
     loop-holds
     sub-lines
-    next-requires
+    turn-requires
     same-length
     same-length-2
     returns
-    sub-played
-    part-played-start
-    part-played-end
-    played-requires
-    counted-requires
     loop-less
     loop-again
     same-length-3
