@@ -4,7 +4,7 @@ use crate::forms::{is_call, signature};
 use crate::plays::{expected, output};
 use crate::reply::reply;
 use crate::session::Sessions;
-use crate::text::{unshown, Registers};
+use crate::text::{unshown, Registers, Words};
 use std::io::{BufRead, Result, Write};
 
 /// The most bytes of a line that is no comment.
@@ -17,16 +17,29 @@ pub enum Verdict {
     NoLine,
 }
 
-/// Which lines are none: too long, or their call is none.
+/// Which lines are none: too long, their call is none, or an edit whose arguments aren't all there.
 fn is_no_line(line: &str) -> bool {
     if line.len() > MOST {
         return true;
     }
-    let mut words = line.split(' ');
-    match words.next().unwrap_or("") {
-        "session" => !words.nth(1).is_some_and(is_call),
-        op => signature(op).is_none(),
+    let call = line.split(" => ").next().unwrap_or("");
+    let words: Vec<&str> = call.split(' ').collect();
+    match words[..] {
+        ["session", _, "len", _, ref rest @ ..] => !rest.first().is_some_and(|word| is_call(word)),
+        ["session", ref rest @ ..] => !rest.get(1).is_some_and(|word| is_call(word)),
+        [op, ref rest @ ..] => match signature(op) {
+            Some((kinds, 'e' | 'c')) => !stand(kinds, rest),
+            other => other.is_none(),
+        },
+        [] => true,
     }
+}
+
+/// Whether the arguments stand there, whatever comes after them.
+fn stand(kinds: &str, words: &[&str]) -> bool {
+    let registers = Registers::new();
+    let mut words = Words::new(words, &registers);
+    kinds.chars().all(|kind| words.argument(kind).is_ok())
 }
 
 /// What is said of a line `call => answer`.
