@@ -8,7 +8,7 @@ use listing::text::Outcome;
 use listing::text::Place;
 use listing::text::after;
 use listing::text::find;
-use lists::Reader;
+use listing_lines::Reader;
 
 // Whether the first n of the lent bytes give the output.
 fn first_give(input: &mut [u8], n: usize, s: &[u8], out: &mut [u8; 20480]) -> bool
@@ -61,11 +61,11 @@ fn played(s: &[u8], input: &mut [u8], out: &mut [u8; 20480]) -> Outcome {
 // Runs the lines of standard input. A proved loop has to end, and nothing says that a list does: so the lines are counted down from a
 // number that no run uses up.
 pub(crate) fn run(buf: &mut [u8], input: &mut [u8], out: &mut [u8; 20480]) -> Reader {
-    let mut reader = lists::start();
+    let mut reader = listing_lines::start();
     let mut lines = u64::MAX;
     while lines > 0 {
         lines -= 1;
-        let line = lists::next(buf, reader);
+        let line = listing_lines::next(buf, reader);
         if !line.found {
             return line.reader;
         }
@@ -73,7 +73,7 @@ pub(crate) fn run(buf: &mut [u8], input: &mut [u8], out: &mut [u8; 20480]) -> Re
         let to = line.to;
         let read = line.reader;
         let outcome = played(&buf[from..to], input, &mut *out);
-        reader = lists::counted(read, outcome);
+        reader = listing_lines::counted(read, outcome);
     }
     reader
 }

@@ -1,5 +1,5 @@
 // Plays the inputs of a list: reads lines `input => output` from standard input, plays each input through the functions that the
-// program uses, and reports the lines whose output is not ours, as the library `lists` says.
+// program uses, and reports the lines whose output is not ours, as the library `listing_lines` says.
 ghost use mathlib.Core.Path.{_≡_};
 ghost use lib.ListN.{length};
 
@@ -17,5 +17,5 @@ fn main() {
     let mut buf = buffer();
     let mut input = [0u8; 16640];
     let mut out = [0u8; 20480];
-    lists::print_tally(list::run(&mut buf, &mut input, &mut out));
+    listing_lines::print_tally(list::run(&mut buf, &mut input, &mut out));
 }

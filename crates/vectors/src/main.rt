@@ -1,8 +1,8 @@
 // Replays lists of the Rust's answers: reads lines `call => answer` from standard input, runs each
-// call, and reports the lines whose answer is not ours, as the library `lists` says.
+// call, and reports the lines whose answer is not ours, as the library `listing_lines` says.
 ghost use mathlib.Core.Path.{_≡_};
 ghost use lib.ListN.{length};
-use lists::Reader;
+use listing_lines::Reader;
 use session::Session;
 
 mod calls_edit;
@@ -33,7 +33,7 @@ struct Progress {
 fn turn(buf: &mut [u8], r: Progress, memory: &mut [u64]) -> Progress {
     let reader = r.reader;
     let session = r.session;
-    let line = lists::next(buf, reader);
+    let line = listing_lines::next(buf, reader);
     let read = line.reader;
     if !line.found {
         return Progress {
@@ -48,7 +48,7 @@ fn turn(buf: &mut [u8], r: Progress, memory: &mut [u64]) -> Progress {
     let outcome = played.outcome;
     let after = played.session;
     Progress {
-        reader: lists::counted(read, outcome),
+        reader: listing_lines::counted(read, outcome),
         session: after,
         ended: false,
     }
@@ -58,7 +58,7 @@ fn turn(buf: &mut [u8], r: Progress, memory: &mut [u64]) -> Progress {
 // the lines are counted down from a number that no run uses up.
 fn replay(buf: &mut [u8], memory: &mut [u64]) -> Reader {
     let mut r = Progress {
-        reader: lists::start(),
+        reader: listing_lines::start(),
         session: Session::open(0, memory),
         ended: false,
     };
@@ -76,5 +76,5 @@ fn replay(buf: &mut [u8], memory: &mut [u64]) -> Reader {
 fn main() {
     let mut buf = buffer();
     let mut memory = memory();
-    lists::print_tally(replay(&mut buf, &mut memory));
+    listing_lines::print_tally(replay(&mut buf, &mut memory));
 }

@@ -1,11 +1,11 @@
--- `lists::reader::next` meets its contract: what a step gives is handed on, and the buffer stays as long. The measure is the number
+-- `listing_lines::reader::next` meets its contract: what a step gives is handed on, and the buffer stays as long. The measure is the number
 -- of steps that are left. Assumes nothing.
 use lib.ListN.{length}
 use mathlib.Core.Path.{_≡_}
 use borrow.Author.Needs.{needs}
 use native.Mathlib.Omega.{arith}
-use Rattle.lists.proofs.reader.next.Statement.{statement}
-use Rattle.lists.proofs.reader.next.Tie as tie
+use Rattle.listing_lines.proofs.reader.next.Statement.{statement}
+use Rattle.listing_lines.proofs.reader.next.Tie as tie
 
 abbrev Inv-loop : tie.InvT-loop
 Inv-loop buf₀ reader₀ steps₀ buf reader steps = length buf ≡ length buf₀
