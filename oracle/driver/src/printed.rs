@@ -7,8 +7,8 @@ use crate::session::Sessions;
 use crate::text::{unshown, Registers, Words};
 use std::io::{BufRead, Result, Write};
 
-/// The most bytes of a line that is no comment.
-const MOST: usize = 131_072;
+/// So many bytes are too many for a line that is no comment.
+const TOO_LONG: usize = 131_072;
 
 #[derive(Clone, Copy, PartialEq)]
 pub enum Verdict {
@@ -19,7 +19,7 @@ pub enum Verdict {
 
 /// Which lines are none: too long, their call is none, or an edit whose arguments aren't all there.
 fn is_no_line(line: &str) -> bool {
-    if line.len() > MOST {
+    if line.len() >= TOO_LONG {
         return true;
     }
     let call = line.split(" => ").next().unwrap_or("");
@@ -58,7 +58,7 @@ pub fn of_call(line: &str, sessions: &mut Sessions) -> Verdict {
 
 /// What is said of a line `input => output`. One without the arrow, or whose input is no bytes, is none.
 pub fn of_play(line: &str) -> Verdict {
-    if line.len() > MOST {
+    if line.len() >= TOO_LONG {
         return Verdict::NoLine;
     }
     let Some((input, given)) = line.split_once(" => ") else {
