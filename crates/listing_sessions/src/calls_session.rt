@@ -1,9 +1,7 @@
 // The lines of a session: `session s CALL => ok kept KEPT ahead AHEAD E`, where a call is
 // `open TARGET WORDS`, `edit NAME ARGUMENTS`, `back`, `forward`, `show`, `damage SLOT WORD`, or
 // `len WORDS` and one of those, with a step memory of another length. One session is open at a time.
-// The calls that alter nothing are in looks.rt.
-use crate::looks::look;
-use crate::words;
+// The calls that alter nothing are in the crate listing_looks.
 use listing::text::Name;
 use listing::text::Outcome;
 use listing::text::Place;
@@ -19,6 +17,8 @@ use listing_edits::edit_at;
 use listing_edits::join_at;
 use listing_envelopes::records::envelope_at;
 use listing_envelopes::records::says_envelope;
+use listing_looks::looks::look;
+use listing_looks::words;
 use listing_points::answers::answers_refusal;
 use points::refusal::Answer;
 use session::Session;

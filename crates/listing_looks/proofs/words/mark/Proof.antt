@@ -1,12 +1,12 @@
--- `listing_sessions::words::mark` ends: the measure is the number of words that are left.
+-- `listing_looks::words::mark` ends: the measure is the number of words that are left.
 -- Assumes nothing.
 use Prim.Native.Nat.{_-_, _≤_}
 use borrow.Author.Needs.{needs}
 use native.Mathlib.Omega.{arith}
 use lib.ListN.{length, length-set}
 use mathlib.Core.Path.{_≡_}
-use Rattle.listing_sessions.proofs.words.mark.Statement.{statement}
-use Rattle.listing_sessions.proofs.words.mark.Tie as tie
+use Rattle.listing_looks.proofs.words.mark.Statement.{statement}
+use Rattle.listing_looks.proofs.words.mark.Tie as tie
 
 abbrev Inv-loop : tie.InvT-loop
 Inv-loop memory₀ i₀ memory i = (i ≤ length memory) × (length memory ≡ length memory₀)

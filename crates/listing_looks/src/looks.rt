@@ -109,7 +109,7 @@ fn slot(s: &[u8], at: usize, memory: &[u64]) -> Outcome {
     answers_stored(s, next, state::read::read_state(&memory[from..to]))
 }
 
-pub(crate) fn look(s: &[u8], name: Name, session: Session, memory: &[u64]) -> Outcome {
+pub fn look(s: &[u8], name: Name, session: Session, memory: &[u64]) -> Outcome {
     let at = name.to;
     match name.among(
         s,

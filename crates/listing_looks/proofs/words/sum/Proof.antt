@@ -1,10 +1,10 @@
--- `listing_sessions::words::sum` ends: the measure is the number of words that are left.
+-- `listing_looks::words::sum` ends: the measure is the number of words that are left.
 -- Assumes nothing.
 use Prim.Native.Nat.{_-_, _≤_}
 use borrow.Author.Needs.{needs}
 use lib.ListN.{length}
-use Rattle.listing_sessions.proofs.words.sum.Statement.{statement}
-use Rattle.listing_sessions.proofs.words.sum.Tie as tie
+use Rattle.listing_looks.proofs.words.sum.Statement.{statement}
+use Rattle.listing_looks.proofs.words.sum.Tie as tie
 
 abbrev Inv-loop : tie.InvT-loop
 Inv-loop memory sum₀ i₀ sum i = i ≤ length memory

@@ -2,7 +2,7 @@
 ghost use Prim.Native.Nat.{_<_};
 
 // Before the opening the word i holds 2^64 - 1 - i.
-pub(crate) fn mark(memory: &mut [u64]) {
+pub fn mark(memory: &mut [u64]) {
     let mut i: usize = 0;
     while i < memory.len() {
         memory[i] = u64::MAX - i as u64;
@@ -22,7 +22,7 @@ fn sum_with(sum: u64, word: u64) -> u64 {
     reduced(reduced(sum) * 1000003 + reduced(word))
 }
 
-pub(crate) fn sum(memory: &[u64]) -> u64 {
+pub fn sum(memory: &[u64]) -> u64 {
     let mut sum: u64 = 0;
     let mut i: usize = 0;
     while i < memory.len() {
