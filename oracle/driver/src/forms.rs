@@ -1,5 +1,6 @@
 //! What a line may call, by request: the operations and a session's calls, each with the request from
-//! which on it holds. Reading, random calls and wrong lines all go by these tables.
+//! which on it holds. Reading, random calls and wrong lines all go by these tables; what a call answers
+//! stands in calls.rs and domain.rs, a session's in session.rs.
 
 /// How many requests have landed.
 pub const LANDED: u32 = 0;
@@ -78,25 +79,26 @@ const OPERATIONS: &[Operation] = &[
     ("fmin", "GG", 'n', 0),
 ];
 
-/// A call of a session: its word, how often random scripts have it, and the requests from which on and
-/// before which it holds.
-type Call = (&'static str, u64, u32, u32);
+/// A call of a session: its word, the kinds of its arguments (an edit's and a lookup's are the operation's, a
+/// length's the call's that follows), how often random scripts have it, and the requests from which on
+/// and before which it holds.
+type Call = (&'static str, &'static str, u64, u32, u32);
 
 const CALLS: &[Call] = &[
-    ("open", 0, 0, EVER), // where a script starts
-    ("edit", 54, 0, EVER),
-    ("back", 25, 0, EVER),
-    ("forward", 17, 0, EVER),
-    ("len", 2, 0, EVER),
-    ("show", 1, 0, EVER),
-    ("damage", 2, 0, EVER),
-    ("memory", 12, 0, EVER),
-    ("slot", 14, 0, EVER),
-    ("words", 6, 0, EVER),
-    ("value_at", 6, 0, EVER),
-    ("value_at_sample", 6, 0, EVER),
-    ("render", 7, 0, EVER),
-    ("to_buffer", 6, 0, EVER),
+    ("open", "NN", 0, 0, EVER), // where a script starts
+    ("edit", "", 54, 0, EVER),
+    ("back", "", 25, 0, EVER),
+    ("forward", "", 17, 0, EVER),
+    ("len", "N", 2, 0, EVER),
+    ("show", "", 1, 0, EVER),
+    ("damage", "NN", 2, 0, EVER),
+    ("memory", "", 12, 0, EVER),
+    ("slot", "N", 14, 0, EVER),
+    ("words", "NN", 6, 0, EVER),
+    ("value_at", "", 6, 0, EVER),
+    ("value_at_sample", "", 6, 0, EVER),
+    ("render", "", 7, 0, EVER),
+    ("to_buffer", "", 6, 0, EVER),
 ];
 
 /// The operations that hold.
@@ -116,17 +118,22 @@ pub fn session_edits() -> Vec<&'static str> {
 }
 
 fn calls() -> impl Iterator<Item = &'static Call> {
-    CALLS.iter().filter(|c| (c.2..c.3).contains(&LANDED))
+    CALLS.iter().filter(|c| (c.3..c.4).contains(&LANDED))
 }
 
 /// A session's calls, each with how often random scripts have it.
 pub fn weighted_calls() -> Vec<(&'static str, u64)> {
-    calls().map(|c| (c.0, c.1)).collect()
+    calls().map(|c| (c.0, c.2)).collect()
+}
+
+/// The kinds of the arguments of a session's call, if it has such a call.
+pub fn call_kinds(word: &str) -> Option<&'static str> {
+    calls().find(|c| c.0 == word).map(|c| c.1)
 }
 
 /// Whether a session has such a call.
 pub fn is_call(word: &str) -> bool {
-    calls().any(|c| c.0 == word)
+    call_kinds(word).is_some()
 }
 
 /// Whether a session's call is an operation on its envelope that alters nothing.

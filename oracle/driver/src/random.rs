@@ -2,7 +2,7 @@
 use crate::domain::MOST;
 use crate::edges;
 use crate::edits;
-use crate::forms::{is_lookup, session_edits, signature, weighted_calls};
+use crate::forms::{call_kinds, is_lookup, session_edits, signature, weighted_calls};
 use crate::records::{curve_of, AutomationPoint, CurveType, Envelope};
 use crate::session::Session;
 use crate::sheets;
@@ -228,12 +228,15 @@ impl Random {
     pub fn call(&mut self, op: &str) -> Vec<Arg> {
         let (kinds, group) = signature(op).unwrap_or_else(|| panic!("no operation {op}"));
         match group {
-            'n' => return edges::arguments(self, op),
-            's' => return vec![Arg::S(sheets::sheet(self))],
-            'e' | 'c' | 'm' => return edits::arguments(self, op),
-            _ => {}
+            'n' => edges::arguments(self, op),
+            's' => vec![Arg::S(sheets::sheet(self))],
+            'e' | 'c' | 'm' => edits::arguments(self, op),
+            _ => self.arguments_after(op, kinds, vec![]),
         }
-        let mut a = vec![];
+    }
+
+    /// The arguments that are given, and after them some of these kinds.
+    fn arguments_after(&mut self, op: &str, kinds: &str, mut a: Vec<Arg>) -> Vec<Arg> {
         for kind in kinds.chars() {
             let x = self.argument(op, kind, &a);
             a.push(x);
@@ -274,12 +277,7 @@ impl Random {
     /// The arguments of a lookup or a run of a session, without the first envelope.
     pub fn session_lookup(&mut self, op: &str, e: &Envelope) -> Vec<Arg> {
         let (kinds, _) = signature(op).unwrap();
-        let mut a = vec![Arg::E(e.clone())];
-        for kind in kinds.chars().skip(1) {
-            let x = self.argument(op, kind, &a);
-            a.push(x);
-        }
-        a[1..].to_vec()
+        self.arguments_after(op, &kinds[1..], vec![Arg::E(e.clone())])[1..].to_vec()
     }
 
     /// The word of a session's call, each as often as the table says.
@@ -325,7 +323,10 @@ impl Random {
             }
             "damage" => edit,
             word if is_lookup(word) => (word.into(), self.session_lookup(word, &s.envelope())),
-            word => (word.into(), vec![]),
+            word => (
+                word.into(),
+                self.arguments_after(word, call_kinds(word).unwrap(), vec![]),
+            ),
         }
     }
 

@@ -32,8 +32,6 @@ pub fn reply(call_text: &str, raw: bool, registers: &Registers, sessions: &mut S
 
 fn operation(op: &str, words: &[&str], raw: bool, registers: &Registers) -> Read<Answer> {
     let (kinds, _) = signature(op).ok_or(format!("no operation {op}"))?;
-    let mut words = Words::new(words, registers);
-    let a: Vec<Arg> = kinds.chars().map(|k| words.argument(k)).collect::<Read<_>>()?;
-    words.end()?;
+    let a = Words::new(words, registers).arguments(kinds)?;
     Ok(call(op, &a, raw))
 }

@@ -1,6 +1,6 @@
 //! Sessions by document 01's rule: the only Rust in this part is that of the edits, lookups and runs.
 use crate::calls::call;
-use crate::forms::{is_call, is_lookup, signature};
+use crate::forms::{call_kinds, is_call, is_lookup, signature};
 use crate::records::Envelope;
 use crate::rules::hold;
 use crate::state::{before_opening, packed, sum, STATE};
@@ -181,10 +181,7 @@ impl Session {
     fn arguments(&self, op: &str, mut words: Words) -> Read<Vec<Arg>> {
         let (kinds, _) = signature(op).unwrap();
         let mut a = vec![Arg::E(self.envelope())];
-        for k in kinds.chars().skip(1) {
-            a.push(words.argument(k)?);
-        }
-        words.end()?;
+        a.extend(words.arguments(&kinds[1..])?);
         Ok(a)
     }
 
@@ -196,26 +193,17 @@ impl Session {
         if what == "edit" {
             return self.edit(other, words);
         }
-        let mut a = [0; 2];
-        let count = match what {
-            "damage" | "words" => 2,
-            "slot" => 1,
-            _ => 0,
-        };
-        for x in &mut a[..count] {
-            *x = words.decimal()?;
-        }
-        words.end()?;
-        let refusal = match what {
-            "damage" => self.damage(a[0], a[1]).map(|_| None)?,
-            "show" => None,
-            "memory" => return Ok(self.sum_of_all()),
-            "slot" => return self.in_slot(a[0]),
-            "words" => return self.sum_of(a[0], a[1]),
-            "back" | "forward" if other => Some(11),
-            "back" => self.back(),
-            "forward" => self.forward(),
-            _ => return Err(format!("no call {what}")),
+        let kinds = call_kinds(what).ok_or(format!("no call {what}"))?;
+        let refusal = match (what, &words.arguments(kinds)?[..]) {
+            ("damage", [Arg::N(slot), Arg::N(word)]) => self.damage(*slot, *word).map(|_| None)?,
+            ("show", []) => None,
+            ("memory", []) => return Ok(self.sum_of_all()),
+            ("slot", [Arg::N(slot)]) => return self.in_slot(*slot),
+            ("words", [Arg::N(from), Arg::N(count)]) => return self.sum_of(*from, *count),
+            ("back" | "forward", []) if other => Some(11),
+            ("back", []) => self.back(),
+            ("forward", []) => self.forward(),
+            _ => panic!("driver: session {what}"),
         };
         Ok(refusal.map_or_else(|| self.answer(), |n| format!("refuse {n}")))
     }

@@ -141,6 +141,13 @@ impl<'a> Words<'a> {
         Ok(e)
     }
 
+    /// Arguments of these kinds, and no word after them.
+    pub fn arguments(&mut self, kinds: &str) -> Read<Vec<Arg>> {
+        let a = kinds.chars().map(|k| self.argument(k)).collect::<Read<_>>()?;
+        self.end()?;
+        Ok(a)
+    }
+
     pub fn argument(&mut self, kind: char) -> Read<Arg> {
         Ok(match kind {
             'D' | 'T' => Arg::D(self.double()?),

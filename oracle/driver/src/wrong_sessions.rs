@@ -1,17 +1,21 @@
 //! Wrong lines of sessions. The call of each line is run, so the answer that would be right is known;
-//! after a line whose call can't be read comes an opening.
+//! after a line whose call can't be read comes an opening. Calls that don't hold by the table are left out, and
+//! each that holds has a wrong line.
 use crate::calls::Answer;
-use crate::forms::{is_lookup, weighted_calls};
+use crate::forms::{is_call, is_lookup, weighted_calls};
 use crate::random::Random;
 use crate::records::{AutomationPoint, CurveType, Envelope};
 use crate::session::{session, Sessions};
 use crate::text::{arguments, Arg, Registers};
 use crate::wrong::{another_letter, chosen, lines_of, malformed, wrong_answers};
+use std::collections::BTreeSet;
 use std::io::{Result, Write};
 
+/// `told` are the words of the calls that have a wrong line.
 struct Script<'a, W: Write> {
     out: &'a mut W,
     sessions: Sessions,
+    told: BTreeSet<String>,
 }
 
 /// Three slots and some words after them.
@@ -34,6 +38,15 @@ fn add(p: AutomationPoint) -> String {
     edit("add_point", &[Arg::P(p)])
 }
 
+/// The word of a call.
+fn word(call: &str) -> &str {
+    call.split(' ').next().unwrap()
+}
+
+fn holds(call: &str) -> bool {
+    is_call(word(call))
+}
+
 impl<W: Write> Script<'_, W> {
     /// Runs a call and gives its answer.
     fn run(&mut self, call: &str) -> String {
@@ -46,6 +59,7 @@ impl<W: Write> Script<'_, W> {
     fn wrong(&mut self, call: &str, k: usize) -> Result<bool> {
         let right = self.run(call);
         let wrong = wrong_answers(&right, &[self.run("show")]);
+        self.told.insert(word(call).into());
         writeln!(self.out, "session s {call} => {}", wrong[k % wrong.len()])?;
         Ok(k + 1 < wrong.len())
     }
@@ -55,7 +69,7 @@ impl<W: Write> Script<'_, W> {
         let mut k = 0;
         loop {
             let mut more = false;
-            for call in calls {
+            for call in calls.iter().filter(|call| holds(call)) {
                 more |= self.wrong(call, k)?;
             }
             if !more {
@@ -129,6 +143,9 @@ impl<W: Write> Script<'_, W> {
         self.all(&[&edit("scale", &[Arg::F(f32::MAX)])])?;
         self.all(&[&edit("clamp_values", &[Arg::F(1.0), Arg::F(0.0)])])?;
         self.all(&[&edit("shift", &[Arg::D(1e300)])])?;
+        if !holds("damage") {
+            return Ok(());
+        }
         self.all(&["damage 0 1"])?;
         self.all(&["back"])
     }
@@ -144,6 +161,7 @@ impl<W: Write> Script<'_, W> {
                 let text = self.run(&call);
                 (format!("session s {call}"), a, Answer { text, envelope: None })
             });
+            self.told.insert(op.into());
             for line in lines_of(&cases) {
                 writeln!(self.out, "{line}")?;
             }
@@ -172,9 +190,9 @@ impl<W: Write> Script<'_, W> {
             "len 3100 back",
         ];
         self.start()?;
-        for call in calls {
+        for call in calls.into_iter().filter(|call| holds(call)) {
             let right = self.run(call);
-            let word = call.split(' ').next().unwrap();
+            let word = word(call);
             let mut lines = malformed(call, &right);
             lines.push(format!(
                 "{}{} => {right}",
@@ -197,10 +215,15 @@ pub fn write(out: &mut impl Write, r: &mut Random) -> Result<()> {
     let mut script = Script {
         out,
         sessions: Sessions::new(),
+        told: BTreeSet::new(),
     };
     script.edits_and_steps()?;
     script.looks()?;
     script.refusals()?;
     script.lookups(r)?;
-    script.malformed()
+    script.malformed()?;
+    for (call, _) in weighted_calls() {
+        assert!(script.told.contains(call), "no wrong line of a session's {call}");
+    }
+    Ok(())
 }
