@@ -269,7 +269,7 @@ pub fn says_single(s: &[u8], at: usize, y: f32) -> Place {
         }
         return Place::Nowhere;
     };
-    if x == y {
+    if (x == 0.0) & (y == 0.0) {
         return Place::At(end);
     }
     Place::Nowhere

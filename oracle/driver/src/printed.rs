@@ -25,6 +25,8 @@ fn is_no_line(line: &str) -> bool {
     let call = line.split(" => ").next().unwrap_or("");
     let words: Vec<&str> = call.split(' ').collect();
     match words[..] {
+        // the replay has one session open, `s`
+        ["session", name, ..] if name != "s" => true,
         ["session", _, "len", _, ref rest @ ..] => !rest.first().is_some_and(|word| is_call(word)),
         ["session", ref rest @ ..] => !rest.get(1).is_some_and(|word| is_call(word)),
         [op, ref rest @ ..] => match signature(op) {

@@ -4,7 +4,7 @@ use crate::calls::{call, Answer};
 use crate::forms::{operations, signature};
 use crate::printed::{self, is_bits, is_nan, Verdict};
 use crate::random::Random;
-use crate::records::{controls, Envelope};
+use crate::records::{controls, curve_of, AutomationPoint, CurveType, Envelope};
 use crate::session::Sessions;
 use crate::text::{arguments, Arg};
 use std::collections::{BTreeMap, BTreeSet};
@@ -25,10 +25,14 @@ const LONGEST: usize = 2000;
 fn others(field: &str) -> Vec<String> {
     let number = field.trim_end_matches('~');
     if field == "-" {
-        return vec!["0".repeat(8), "0".repeat(16)];
+        return vec!["0".repeat(8), "0".repeat(16), "x".into()];
     }
     if is_bits(number) {
         let mut all = vec![flipped(number) + &field[number.len()..]];
+        if number == field && is_nan(number) && number.len() == 8 {
+            // only a zero is marked
+            all.push(format!("{number}~"));
+        }
         if number == field && number[1..].bytes().all(|b| b == b'0') {
             // a zero of the other sign
             match &number[..1] {
@@ -41,6 +45,7 @@ fn others(field: &str) -> Vec<String> {
     }
     let wide = |n: i128| vec![format!("{n:0w$}", w = field.len())];
     match field.parse::<i128>() {
+        Ok(0) => [wide(1), vec![String::new()]].concat(),
         Ok(1) => wide(0),
         Ok(n) if n < 0 => vec![(n + 1).to_string()],
         Ok(n) => wide(n + 1),
@@ -73,7 +78,7 @@ pub fn fields_wrong(text: &str) -> Vec<String> {
     some_wrong(text, |_| true)
 }
 
-/// A NaN or a marked zero where a number is due.
+/// A NaN or a marked zero where a number is due, and that number with a mark.
 fn forgiving(right: &str) -> Vec<String> {
     let Some((before, number)) = right.rsplit_once(' ').filter(|parts| is_bits(parts.1)) else {
         return vec![];
@@ -82,8 +87,8 @@ fn forgiving(right: &str) -> Vec<String> {
         return vec![];
     }
     let mut all = match number.len() {
-        8 => vec!["7FC00000", "00000000~"],
-        _ => vec!["7FF8000000000000"],
+        8 => vec!["7FC00000".into(), "00000000~".into(), format!("{number}~")],
+        _ => vec!["7FF8000000000000".to_string()],
     };
     all.retain(|wrong| !printed::same(wrong, number) && !printed::same(number, wrong));
     all.iter().map(|wrong| format!("{before} {wrong}")).collect()
@@ -107,15 +112,17 @@ fn some_wrong(text: &str, such: fn(&str) -> bool) -> Vec<String> {
 /// A refusal with another number; one with a line also with another line.
 fn other_refusals(answer: &str) -> Vec<String> {
     let numbers: Vec<u64> = answer.split(' ').skip(1).map(|n| n.parse().unwrap()).collect();
-    let next = numbers[0] % 13 + 1;
-    match numbers[..] {
-        [n, line] => vec![
-            format!("refuse {next} {line}"),
-            format!("refuse {n} {}", line + 1),
-            format!("refuse {n} {}", line - 1),
-        ],
-        _ => vec![format!("refuse {next}")],
+    // the next one, and one with the same last digit
+    let others = [numbers[0] % 13 + 1, (numbers[0] + 10) % 20];
+    let mut all: Vec<String> = match numbers[..] {
+        [_, line] => others.map(|n| format!("refuse {n} {line}")).into(),
+        _ => others.map(|n| format!("refuse {n}")).into(),
+    };
+    if let [n, line] = numbers[..] {
+        all.push(format!("refuse {n} {}", line + 1));
+        all.push(format!("refuse {n} {}", line - 1));
     }
+    all
 }
 
 /// Wrong answers in the place of the right one; `answers` are some that other calls have.
@@ -133,6 +140,7 @@ pub fn wrong_answers(right: &str, answers: &[String]) -> Vec<String> {
     };
     all.push(right.rsplit_once(' ').unwrap().0.into());
     all.push(format!("{right} 0"));
+    all.push(format!("{right}x"));
     assert!(all.iter().all(|wrong| !printed::same(right, wrong)), "{right}");
     all
 }
@@ -144,6 +152,21 @@ pub fn malformed(call: &str, right: &str) -> Vec<String> {
         all.push(format!("{cut} => {right}"));
     }
     all
+}
+
+/// The call with each opening brace, and each word after the envelopes, as a letter. A switch and a sheet's bytes
+/// are read all the same.
+fn unread(op: &str, call: &str) -> Vec<String> {
+    if signature(op).is_some_and(|(kinds, _)| kinds.contains(['B', 'S'])) {
+        return vec![];
+    }
+    let words: Vec<&str> = call.split(' ').collect();
+    let tail = words.iter().rposition(|w| *w == "}").unwrap_or(0);
+    let spoilt = |k: usize| [&words[..k], &["x"], &words[k + 1..]].concat().join(" ");
+    (1..words.len())
+        .filter(|&k| words[k] == "{" || k > tail)
+        .map(spoilt)
+        .collect()
 }
 
 // ---- the calls that are chosen
@@ -263,6 +286,7 @@ fn of_operation(r: &mut Random, op: &str) -> Vec<String> {
     let mut all = lines_of(&cases);
     let Case { call, right } = &cases[0];
     all.extend(malformed(call, right));
+    all.extend(unread(op, call).iter().map(|call| format!("{call} => {right}")));
     let name = another_letter(op);
     assert!(signature(&name).is_none());
     all.push(format!("{name}{} => {right}", &call[op.len()..]));
@@ -275,6 +299,126 @@ fn of_operation(r: &mut Random, op: &str) -> Vec<String> {
     all
 }
 
+/// A right line with a part of its answer replaced.
+fn replaced(op: &str, a: &[Arg], part: &str, other: &str) -> String {
+    let right = call(op, a, false).text;
+    assert!(right.contains(part), "{right}");
+    format!("{op}{} => {}", arguments(a), right.replacen(part, other, 1))
+}
+
+/// Lines wrong in one thing each that no rule above comes to: a byte that is no digit, where a careless reading takes it
+/// for one; a byte that is no space; none for a number; a target past 32 bits; another curve with the same
+/// last digit; one control for the other; a byte of a sheet.
+fn replaced_parts() -> Vec<String> {
+    let mut e = Envelope::new(7);
+    e.step_size = Some(0.375);
+    e.points.push(AutomationPoint {
+        time: 0.0,
+        sample_position: Some(1),
+        value: 1.0,
+        curve: CurveType::Bezier(0.25, 0.75),
+    });
+    let mut plain = e.clone();
+    plain.points[0].curve = curve_of(11, 0.0, 0.0).unwrap();
+    let kept = |e: &Envelope| vec![Arg::E(e.clone()), Arg::B(true)];
+    let mut free = e.clone();
+    free.step_size = None;
+    let walk = [Arg::E(free), Arg::D(1.0), Arg::D(1.0), Arg::N(1)];
+    let sheet = [Arg::E(Envelope::new(7)), Arg::N(200)];
+    let digits = ["3f8", "3G8", "3.8", "3:8", "3@8", "3/8"];
+    let mut all: Vec<String> = digits
+        .iter()
+        .map(|other| replaced("roundf", &[Arg::F(1.0)], "3F8", other))
+        .collect();
+    all.push(replaced("roundf", &[Arg::F(1.0)], " 3F8", "_3F8"));
+    all.push(replaced("set_enabled", &kept(&e), "0000000000000001", "-"));
+    all.push(replaced("set_enabled", &kept(&e), "3EC00000", "-"));
+    all.push(replaced("set_enabled", &kept(&e), "3F400000", "3E800000"));
+    all.push(replaced("set_enabled", &kept(&e), "{ 7", "{ 4294967303"));
+    all.push(replaced("set_enabled", &kept(&plain), " 11 ", " 01 "));
+    all.push(replaced("walk", &walk, "3F800000/", "-/"));
+    all.push(replaced("walk", &walk, "3F800000/", "3F800000|"));
+    for (part, other) in [
+        (" target", " uarget"),
+        (" target", "_target"),
+        (" enabled", "|enabled"),
+        ("|", " "),
+        ("cp2|", "cp2x"),
+    ] {
+        all.push(replaced("sheet", &sheet, part, other));
+    }
+    all
+}
+
+/// Lines whose call can't be run: curves that are none, bytes that are none, and more than the replay has room for.
+fn not_run() -> Vec<String> {
+    let e = || Arg::E(Envelope::new(7));
+    let one_more = Arg::N(1025);
+    let mut all: Vec<String> = [
+        (
+            "render",
+            vec![
+                e(),
+                Arg::D(1.0),
+                Arg::N(0),
+                Arg::N(0),
+                Arg::N(0),
+                one_more.clone(),
+            ],
+        ),
+        (
+            "to_buffer",
+            vec![e(), Arg::D(1.0), Arg::D(0.0), Arg::N(0), one_more.clone()],
+        ),
+        ("peaks", vec![e(), one_more.clone(), Arg::N(0)]),
+        ("peaks", vec![e(), Arg::N(0), one_more.clone()]),
+        ("sheet", vec![e(), Arg::N(20481)]),
+    ]
+    .into_iter()
+    .map(|(op, a)| format!("{op}{} => refuse 1", arguments(&a)))
+    .collect();
+    all.push(format!(
+        "merge_points{} 321 {} => refuse 1",
+        arguments(&[e()]),
+        "0".repeat(16)
+    ));
+    let linear = [Arg::C(CurveType::Linear), Arg::F(0.0), Arg::F(1.0), Arg::F(0.5)];
+    let right = call("interpolate", &linear, false).text;
+    for code in ["06", "22"] {
+        let other = arguments(&linear).replacen("00", code, 1);
+        all.push(format!("interpolate{other} => {right}"));
+    }
+    all.push("read_sheet".into());
+    all.push("read_sheet \\G0 => refuse 9 1".into());
+    all.push("read_sheet \\0G => refuse 9 1".into());
+    all
+}
+
+/// Answers as long as they can be, each with its last number wrong.
+fn long_answers() -> Vec<String> {
+    let mut e = Envelope::new(7);
+    e.points.extend((0..256).map(|k| AutomationPoint {
+        time: k as f64,
+        sample_position: None,
+        value: (k % 2) as f32,
+        curve: CurveType::Linear,
+    }));
+    let e = || Arg::E(e.clone());
+    let whole = [0, 1024, 0, 1024].map(Arg::N);
+    let calls = [
+        ("render", [vec![e(), Arg::D(4.0)], whole.to_vec()].concat()),
+        ("peaks", vec![e(), Arg::N(256), Arg::N(256)]),
+        ("scale", vec![e(), Arg::F(2.0)]),
+        ("sheet", vec![e(), Arg::N(20480)]),
+        ("walk", vec![e(), Arg::D(4.0), Arg::D(255.0), Arg::N(1020)]),
+    ];
+    let wrong = |(op, a): (&str, Vec<Arg>)| {
+        let last = some_wrong(&call(op, &a, false).text, is_bits).pop().unwrap();
+        format!("{op}{} => {last}", arguments(&a))
+    };
+    calls.into_iter().map(wrong).collect()
+}
+
 /// Writes the wrong lines of a list of calls. One of the lines is too long.
 pub fn write(out: &mut impl Write, seed: u64) -> Result<()> {
     let mut r = Random(seed);
@@ -282,6 +426,13 @@ pub fn write(out: &mut impl Write, seed: u64) -> Result<()> {
         for line in of_operation(&mut r, op) {
             writeln!(out, "{line}")?;
         }
+    }
+    for line in [replaced_parts(), not_run(), long_answers()].concat() {
+        assert!(
+            printed::of_call(&line, &mut Sessions::new()) == Verdict::Differs,
+            "{line}"
+        );
+        writeln!(out, "{line}")?;
     }
     writeln!(out, "roundf {}", "0".repeat(LONG - "roundf ".len()))?;
     crate::wrong_sessions::write(out, &mut r)

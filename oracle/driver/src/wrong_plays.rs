@@ -17,6 +17,10 @@ fn wrong_outputs(right: &str) -> Vec<String> {
         all.push(right.rsplit_once(' ').unwrap().0.into());
         all.push(format!("{right} 0"));
     } else {
+        // another first byte, and what stands between the fields
+        all.push(format!("x{}", &right[1..]));
+        all.push(right.replacen('|', " ", 1));
+        all.push(right.replacen(' ', "|", 1));
         all.push(format!("{right}|"));
         all.push(format!("{right}3 3F400000|"));
         let lines: Vec<&str> = right.split_inclusive('|').collect();
@@ -66,6 +70,11 @@ pub fn write(out: &mut impl Write, seed: u64) -> Result<()> {
         all.push(format!("{input} =>{right}"));
         all.push(format!("{input} = {right}"));
     }
+    // inputs that are no bytes: a careless reading takes each for one byte or none, which is refused so
+    for bad in ["\\G0", "\\0G", "\\"] {
+        all.push(format!("{bad} => refusal line|9 1|"));
+    }
+    all.push("=> refusal line|9 1|".into());
     let middle = all.len() / 2;
     all.insert(middle, "0".repeat(LONG));
     for line in all {

@@ -172,6 +172,45 @@ impl<W: Write> Script<'_, W> {
         Ok(())
     }
 
+    /// The counts one less and moved to each other; first arguments that are none; calls past the room that the replay
+    /// has, past the step memory or past 32 bits, and a slot that has no state. After an opening that the
+    /// replay refuses comes one that it takes.
+    fn past(&mut self) -> Result<()> {
+        self.start()?;
+        let right = self.run("show");
+        for other in ["kept 2 ahead 0", "kept 2 ahead 1"] {
+            let wrong = right.replace("kept 3 ahead 0", other);
+            assert!(wrong != right, "{right}");
+            writeln!(self.out, "session s show => {wrong}")?;
+        }
+        writeln!(self.out, "session t show => {right}")?;
+        for call in [
+            "open x 3100",
+            "len x back",
+            "damage x 1",
+            "slot x",
+            "words x 1",
+            &edit("wobble", &[Arg::E(Envelope::new(7))]),
+            "render 3FF0000000000000 0 0 0 1025",
+            "to_buffer 3FF0000000000000 0000000000000000 0 1025",
+            "damage 0 1028",
+            "damage 19 0",
+            "slot 18",
+            "slot 19",
+            "words 20481 1",
+            "words 20479 2",
+            "len 20481 back",
+            "open 7 20481",
+            "open 4294967303 3100",
+        ]
+        .into_iter()
+        .filter(|call| holds(call))
+        {
+            writeln!(self.out, "session s {call} => {right}")?;
+        }
+        self.start()
+    }
+
     /// Lines whose call can't be read, or that have no answer.
     fn malformed(&mut self) -> Result<()> {
         let scale = edit("scale", &[Arg::F(3.0)]);
@@ -222,6 +261,7 @@ pub fn write(out: &mut impl Write, r: &mut Random) -> Result<()> {
     script.refusals()?;
     script.lookups(r)?;
     script.malformed()?;
+    script.past()?;
     for (call, _) in weighted_calls() {
         assert!(script.told.contains(call), "no wrong line of a session's {call}");
     }
