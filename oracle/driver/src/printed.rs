@@ -17,7 +17,8 @@ pub enum Verdict {
     NoLine,
 }
 
-/// Which lines are none: too long, their call is none, or an edit whose arguments aren't all there.
+/// Which lines are none: too long, of another session, their call is none, or an edit whose arguments aren't
+/// all there.
 fn is_no_line(line: &str) -> bool {
     if line.len() >= TOO_LONG {
         return true;

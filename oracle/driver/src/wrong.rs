@@ -299,6 +299,15 @@ fn of_operation(r: &mut Random, op: &str) -> Vec<String> {
     all
 }
 
+pub fn point(time: f64, position: Option<u64>, value: f32, curve: CurveType) -> AutomationPoint {
+    AutomationPoint {
+        time,
+        sample_position: position,
+        value,
+        curve,
+    }
+}
+
 /// A right line with a part of its answer replaced.
 fn replaced(op: &str, a: &[Arg], part: &str, other: &str) -> String {
     let right = call(op, a, false).text;
@@ -312,12 +321,8 @@ fn replaced(op: &str, a: &[Arg], part: &str, other: &str) -> String {
 fn replaced_parts() -> Vec<String> {
     let mut e = Envelope::new(7);
     e.step_size = Some(0.375);
-    e.points.push(AutomationPoint {
-        time: 0.0,
-        sample_position: Some(1),
-        value: 1.0,
-        curve: CurveType::Bezier(0.25, 0.75),
-    });
+    e.points
+        .push(point(0.0, Some(1), 1.0, CurveType::Bezier(0.25, 0.75)));
     let mut plain = e.clone();
     plain.points[0].curve = curve_of(11, 0.0, 0.0).unwrap();
     let kept = |e: &Envelope| vec![Arg::E(e.clone()), Arg::B(true)];
@@ -397,12 +402,8 @@ fn not_run() -> Vec<String> {
 /// Answers as long as they can be, each with its last number wrong.
 fn long_answers() -> Vec<String> {
     let mut e = Envelope::new(7);
-    e.points.extend((0..256).map(|k| AutomationPoint {
-        time: k as f64,
-        sample_position: None,
-        value: (k % 2) as f32,
-        curve: CurveType::Linear,
-    }));
+    let sawtooth = |k| point(k as f64, None, (k % 2) as f32, CurveType::Linear);
+    e.points.extend((0..256).map(sawtooth));
     let e = || Arg::E(e.clone());
     let whole = [0, 1024, 0, 1024].map(Arg::N);
     let calls = [

@@ -7,7 +7,7 @@ use crate::random::Random;
 use crate::records::{AutomationPoint, CurveType, Envelope};
 use crate::session::{session, Sessions};
 use crate::text::{arguments, Arg, Registers};
-use crate::wrong::{another_letter, chosen, lines_of, malformed, wrong_answers};
+use crate::wrong::{another_letter, chosen, lines_of, malformed, point, wrong_answers};
 use std::collections::BTreeSet;
 use std::io::{Result, Write};
 
@@ -20,15 +20,6 @@ struct Script<'a, W: Write> {
 
 /// Three slots and some words after them.
 const OPEN: &str = "open 7 3100";
-
-fn point(time: f64, position: Option<u64>, value: f32, curve: CurveType) -> AutomationPoint {
-    AutomationPoint {
-        time,
-        sample_position: position,
-        value,
-        curve,
-    }
-}
 
 fn edit(op: &str, a: &[Arg]) -> String {
     format!("edit {op}{}", arguments(a))
@@ -172,10 +163,8 @@ impl<W: Write> Script<'_, W> {
         Ok(())
     }
 
-    /// The counts one less and moved to each other; first arguments that are none; calls past the room that the replay
-    /// has, past the step memory or past 32 bits, and a slot that has no state. After an opening that the
-    /// replay refuses comes one that it takes.
-    fn past(&mut self) -> Result<()> {
+    /// The count of kept one less, alone and moved to those ahead; and another session.
+    fn counts(&mut self) -> Result<()> {
         self.start()?;
         let right = self.run("show");
         for other in ["kept 2 ahead 0", "kept 2 ahead 1"] {
@@ -183,7 +172,13 @@ impl<W: Write> Script<'_, W> {
             assert!(wrong != right, "{right}");
             writeln!(self.out, "session s show => {wrong}")?;
         }
-        writeln!(self.out, "session t show => {right}")?;
+        writeln!(self.out, "session t show => {right}")
+    }
+
+    /// Calls whose first argument is none, that pass the room that the replay has, the step memory or 32 bits, and a
+    /// slot that has no state. After an opening that the replay refuses comes one that it takes.
+    fn not_run(&mut self) -> Result<()> {
+        let right = self.run("show");
         for call in [
             "open x 3100",
             "len x back",
@@ -261,7 +256,8 @@ pub fn write(out: &mut impl Write, r: &mut Random) -> Result<()> {
     script.refusals()?;
     script.lookups(r)?;
     script.malformed()?;
-    script.past()?;
+    script.counts()?;
+    script.not_run()?;
     for (call, _) in weighted_calls() {
         assert!(script.told.contains(call), "no wrong line of a session's {call}");
     }
