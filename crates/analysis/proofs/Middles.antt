@@ -9,8 +9,9 @@ use lib.ListN.{length, take, drop, getD, set, length-append, length-map}
 use lib.Seq.{take-take, drop-cons, set-at, append-snoc}
 use lib.Dec.{leb}
 use lib.Ieee.{Float}
-use Rattle.points.specs.Laws.{take-min}
-use Rattle.points.specs.Middles.{middles, middles-yes, middles-two}
+use Rattle.points.proofs.Laws.{take-min}
+use Rattle.points.specs.Middles.{middles}
+use Rattle.points.proofs.MiddleLaws.{middles-yes, middles-two}
 use Rattle.points.specs.Points.{listOf}
 use Rattle.points.specs.Refusal.{gives, refuses}
 use Rattle.points.specs.declared.AutomationPoint.{AutomationPoint}
@@ -68,7 +69,8 @@ module _ {A : Type 0} (q : A → A → A → Bool) where
     pub middles-all : (i : ℕ) → 2 ≤ i → i ≤ max 2 n → n ≤ i → middles q (take i l) ≡ middles q (take count l)
     middles-all i p w r = middles-end l i n p w r ∙ ap (middles q) used-all
 
-    pub room-left : (i k : ℕ) (d : A) → 2 ≤ i → i < n → q (getD l (i - 2) d) (getD l (i - 1) d) (getD l i d) ≡ true → k ≡ length (middles q (take i l)) → k < length (middles q (take count l))
+    pub room-left : (i k : ℕ) (d : A) → 2 ≤ i → i < n → q (getD l (i - 2) d) (getD l (i - 1) d) (getD l i d) ≡ true → k ≡ length (middles q (take i l))
+        → k < length (middles q (take count l))
     room-left i k d p h y e =
         omega (arith, middles-next l i d p (omega arith) y, middles-room l (i + 1) n (omega arith), ap (λ (m : List A). length (middles q m)) used-all)
 
@@ -96,6 +98,10 @@ module _ (q : AutomationPoint → AutomationPoint → AutomationPoint → Bool) 
 
     pub find-filled : (leb n (length times) && leb n (length values)) ≡ true
         → findMiddles q ps limits times values
-        ≡ record { said = gives n; times = map timeOf (middles q (listOf ps)) ++ drop (length (middles q (listOf ps))) times; values = map valueOf (middles q (listOf ps)) ++ drop (length (middles q (listOf ps))) values }
+        ≡ record {
+          said = gives n;
+          times = map timeOf (middles q (listOf ps)) ++ drop (length (middles q (listOf ps))) times;
+          values = map valueOf (middles q (listOf ps)) ++ drop (length (middles q (listOf ps))) values;
+        }
     unfolding findMiddles
     find-filled h = rw (v, ← e, h)

@@ -14,7 +14,7 @@ use lib.Ieee.{Float, le}
 use borrow.Author.Tests.{ltb-false, lt-ltb, le-ltb, leb-true, leb-false, eqb-true, eqb-false}
 use Rattle.numbers.specs.Bounds.{finite, maxNum, minNum}
 use Rattle.numbers.specs.Order.{orderKey}
-use Rattle.points.specs.Middles.{keep-cons}
+use Rattle.points.proofs.MiddleLaws.{keep-cons}
 use Rattle.points.specs.Points.{listOf, timeKey}
 use Rattle.points.specs.Refusal.{Said, gives, refuses}
 use Rattle.points.specs.declared.AutomationPoint.{AutomationPoint}
@@ -23,8 +23,9 @@ use Rattle.lookup.specs.Limits.{constrained}
 use Rattle.lookup.specs.Lookup.{pointAt, between, rawAt, keyFrom, sampleKey, betweenSamples, rawAtSample, heard, valueAt, valueAtSample, told, constrainedAnswer}
 use Rattle.points.specs.Search.{placeBy}
 use Rattle.lookup.specs.Keys.{around}
-use Rattle.lookup.specs.LookupLaws.{heard-on, raw-one, raw-first, raw-last, raw-around, sample-one, sample-first, sample-last, sample-around, at-place}
-use Rattle.lookup.specs.Runs.{run, run-cut, run-one}
+use Rattle.lookup.proofs.LookupLaws.{heard-on, raw-one, raw-first, raw-last, raw-around, sample-one, sample-first, sample-last, sample-around, at-place}
+use Rattle.lookup.specs.Runs.{run}
+use Rattle.lookup.proofs.RunLaws.{run-cut, run-one}
 use Rattle.analysis.specs.Analysis.{givenValues, rangeOf, rawInside, slopeOf}
 use Rattle.analysis.specs.Ranges.{noValues, widen, addLookup, asRange, slopeSaid}
 use Rattle.lookup.specs.declared.Limits.{Limits}
@@ -68,7 +69,8 @@ given-more f b n =
     ∙ ap (λ (k : ℕ). addLookup (foldl widen b (givenValues (run f 0 n))) (gives (f k))) (zero-add n)
 
 -- a turn of a loop of lookups
-pub lookup-turn : (f : ℕ → Option Float) (n : ℕ) (b new : Bounds) (v : Said (Option Float)) → b ≡ foldl widen noValues (givenValues (run f 0 n)) → new ≡ addLookup b v → v ≡ gives (f n)
+pub lookup-turn : (f : ℕ → Option Float) (n : ℕ) (b new : Bounds) (v : Said (Option Float)) → b ≡ foldl widen noValues (givenValues (run f 0 n)) → new ≡ addLookup b v
+    → v ≡ gives (f n)
     → new ≡ foldl widen noValues (givenValues (run f 0 (n + 1)))
 lookup-turn f n b new v e h w = h ∙ ap₂ addLookup e w ∙ sym (given-more f noValues n)
 
@@ -128,8 +130,10 @@ module _ (ps : Points) (f : ps .count ≤ length (ps .places)) (w : 1 ≤ ps .co
           let b = neither (ps .count) (le time (pointAt (ps .places) 0 .time)) w h in
           value-gives limits (pointAt (ps .places) (ps .count - 1) .value) v (rawAt (listOf ps) time) e (raw-last _ _ (ps .places) (ps .count) time f (b .0) (b .1) l)
 
-      pub time-inner : le (pointAt (ps .places) (ps .count - 1) .time) time ≡ false → ps .count ≤ 256 → (j before at : ℕ) → placeBy timeKey (orderKey time) (listOf ps) ≡ j → before ≡ j - 1 → at ≡ min j 255
-          → (answer new : Lookup) → told answer ≡ gives (around timeKey (orderKey time) (between time) (ps .count) j (pointAt (ps .places) before) (pointAt (ps .places) at)) → new ≡ constrainedAnswer limits answer
+      pub time-inner : le (pointAt (ps .places) (ps .count - 1) .time) time ≡ false → ps .count ≤ 256 → (j before at : ℕ) → placeBy timeKey (orderKey time) (listOf ps) ≡ j
+          → before ≡ j - 1 → at ≡ min j 255
+          → (answer new : Lookup) → told answer ≡ gives (around timeKey (orderKey time) (between time) (ps .count) j (pointAt (ps .places) before) (pointAt (ps .places) at))
+          → new ≡ constrainedAnswer limits answer
           → told new ≡ gives (valueAt ps true limits time)
       time-inner l c j before at e p q answer new t n =
           let b = neither (ps .count) (le time (pointAt (ps .places) 0 .time)) w h in
@@ -141,7 +145,8 @@ module _ (ps : Points) (f : ps .count ≤ length (ps .places)) (w : 1 ≤ ps .co
         → gives (some v) ≡ gives (valueAtSample ps true limits sample)
     sample-early h v e =
         value-gives limits (pointAt (ps .places) 0 .value) v (rawAtSample (listOf ps) sample) e
-        (early (ps .count) (leb sample start) w h (sample-one _ _ (ps .places) (ps .count) sample f) (λ m t. sample-first _ _ (ps .places) (ps .count) sample f m (omega (arith, leb-true sample start t))))
+        (early (ps .count) (leb sample start) w h (sample-one _ _ (ps .places) (ps .count) sample f)
+        (λ m t. sample-first _ _ (ps .places) (ps .count) sample f m (omega (arith, leb-true sample start t))))
 
     module _ (h : (eqb (ps .count) 1 || leb sample start) ≡ false) (end : ℕ) (z : end ≡ sampleKey (pointAt (ps .places) (ps .count - 1))) where
       past-start : keyFrom (pointAt (ps .places) 0 .«sample_position») 0 < sample
@@ -153,11 +158,15 @@ module _ (ps : Points) (f : ps .count ≤ length (ps .places)) (w : 1 ≤ ps .co
           (sample-last _ _ (ps .places) (ps .count) sample f (neither (ps .count) (leb sample start) w h .0) past-start (omega arith))
 
       pub sample-within : sample < end → ps .count ≤ 256 → (j before at : ℕ) → placeBy sampleKey sample (listOf ps) ≡ j → before ≡ j - 1 → at ≡ min j 255
-          → (answer new : Lookup) → told answer ≡ gives (around sampleKey sample (betweenSamples sample) (ps .count) j (pointAt (ps .places) before) (pointAt (ps .places) at)) → new ≡ constrainedAnswer limits answer
+          → (answer new : Lookup) → told answer ≡ gives (around sampleKey sample (betweenSamples sample) (ps .count) j (pointAt (ps .places) before) (pointAt (ps .places) at))
+          → new ≡ constrainedAnswer limits answer
           → told new ≡ gives (valueAtSample ps true limits sample)
       sample-within l c j before at e p q answer new t n =
           answer-gives limits answer new (rawAtSample (listOf ps) sample) n
-          (t ∙ ap gives (sample-around _ _ (ps .places) (ps .count) sample f (neither (ps .count) (leb sample start) w h .0) past-start (omega arith) j e _ _ (ap (pointAt (ps .places)) p) (at-place (ps .places) j at (ps .count) q c)))
+          (t
+          ∙ ap gives
+          (sample-around _ _ (ps .places) (ps .count) sample f (neither (ps .count) (leb sample start) w h .0) past-start (omega arith) j e _ _ (ap (pointAt (ps .places)) p)
+          (at-place (ps .places) j at (ps .count) q c)))
 
 -- ---- the points inside
 

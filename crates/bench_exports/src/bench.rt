@@ -1,5 +1,4 @@
 // The Bench's edits, by their numbers here, each so many times on one envelope. The other one of a combination has the same points, later by x.
-ghost use mathlib.Core.Path.{_≡_};
 use crate::made::curve_of;
 use crate::made::made;
 use crate::made::point;

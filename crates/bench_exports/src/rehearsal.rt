@@ -1,5 +1,4 @@
 // A session's calls, each so many times, over the lent step memory.
-ghost use mathlib.Core.Path.{_≡_};
 use crate::made::made;
 use envelope::AutomationEnvelope;
 use envelope::edit::Edit;

@@ -1,5 +1,4 @@
 // The sheet, read and written so many times.
-ghost use mathlib.Core.Path.{_≡_};
 use crate::made::number;
 use crate::made::shown;
 use points::refusal::Answer;

@@ -18,7 +18,7 @@ use Rattle.lookup.specs.Limits.{constrained}
 use Rattle.points.specs.Refusal.{gives}
 use Rattle.lookup.specs.Keys.{around}
 use Rattle.lookup.specs.Lookup.{pointAt, between, rawAt, heard, told, constrainedAnswer}
-use Rattle.lookup.specs.LookupLaws.{heard-on, raw-none, raw-one, raw-first, raw-last, raw-around}
+use Rattle.lookup.proofs.LookupLaws.{heard-on, raw-none, raw-one, raw-first, raw-last, raw-around}
 use Rattle.lookup.specs.declared.Lookup.{Lookup}
 use Rattle.lookup.specs.declared.Lookup.the-variants.{Silent, Value, Refused}
 use Rattle.combine.specs.Combine.{sideAt}

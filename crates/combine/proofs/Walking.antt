@@ -15,9 +15,10 @@ use Rattle.numbers.specs.Order.{orderKey}
 use Rattle.points.specs.Point.{anyPoint, finitePoint, pointWith}
 use Rattle.curve.specs.declared.CurveType.the-variants.{Linear}
 use Rattle.points.specs.Points.{every, rising, timeKey, listOf, holding, validPoints}
-use Rattle.points.specs.Laws.{and-both, every-append, every-one}
-use Rattle.points.specs.Search.{placeBy, place-at, rising-at, lower-up-to}
-use Rattle.points.specs.ValidLaws.{valid-count, valid-rising}
+use Rattle.points.proofs.Laws.{and-both, every-append, every-one}
+use Rattle.points.specs.Search.{placeBy}
+use Rattle.points.proofs.SearchLaws.{place-at, rising-at, lower-up-to}
+use Rattle.points.proofs.ValidLaws.{valid-count, valid-rising}
 use Rattle.points.specs.declared.AutomationPoint.{AutomationPoint}
 use Rattle.points.specs.declared.Points.{Points}
 use Rattle.points.specs.declared.refusal.Refusal.the-variants.{NotValid, NotFinite, TooManyPoints}
@@ -25,9 +26,9 @@ use Rattle.settle.specs.Settle.{Proposal, plain, refused, accepted}
 use Rattle.settle.proofs.Ends.{pushed}
 use Rattle.settle.proofs.Judging.{one, argument-three, result-three, five, accepts}
 use Rattle.lookup.specs.Lookup.{pointAt}
-use Rattle.lookup.specs.LookupLaws.{at-place}
+use Rattle.lookup.proofs.LookupLaws.{at-place}
 use Rattle.combine.specs.Combine.{finiteOperation, applied, mergeFrom, mergeTimes, timeOf, timesOf, validSide, sideAt, combinedPoint, combinedList, combinedPoints}
-use Rattle.combine.specs.Combined.{combined-rises}
+use Rattle.combine.proofs.Combined.{combined-rises}
 use Rattle.combine.specs.Walk.{endsOf, sideWith, nearAt, nextOf, walked}
 use Rattle.combine.specs.declared.Operation.{Operation}
 use Rattle.combine.specs.declared.Side.{Side}
@@ -50,11 +51,13 @@ module _ (P Q : List Float) where
   unfolding mergeTimes mergeFrom
   m-less p q t = rw (p, q, t)
 
-  m-same : {a b : Float} {xs ys : List Float} → P ≡ a ∷ xs → Q ≡ b ∷ ys → ltb (orderKey a) (orderKey b) ≡ false → eqb (orderKey a) (orderKey b) ≡ true → mergeTimes P Q ≡ a ∷ mergeTimes xs ys
+  m-same : {a b : Float} {xs ys : List Float} → P ≡ a ∷ xs → Q ≡ b ∷ ys → ltb (orderKey a) (orderKey b) ≡ false → eqb (orderKey a) (orderKey b) ≡ true
+      → mergeTimes P Q ≡ a ∷ mergeTimes xs ys
   unfolding mergeTimes mergeFrom
   m-same p q t s = rw (p, q, t, s)
 
-  m-more : {a b : Float} {xs ys : List Float} → P ≡ a ∷ xs → Q ≡ b ∷ ys → ltb (orderKey a) (orderKey b) ≡ false → eqb (orderKey a) (orderKey b) ≡ false → mergeTimes P Q ≡ b ∷ mergeTimes P ys
+  m-more : {a b : Float} {xs ys : List Float} → P ≡ a ∷ xs → Q ≡ b ∷ ys → ltb (orderKey a) (orderKey b) ≡ false → eqb (orderKey a) (orderKey b) ≡ false
+      → mergeTimes P Q ≡ b ∷ mergeTimes P ys
   unfolding mergeTimes mergeFrom
   m-more p q t s = rw (p, q, t, s)
 
@@ -207,7 +210,8 @@ module _ (a b : Side) (i j : ℕ) (fa : a .points .count ≤ length (a .points .
       step-right y (λ t. omega arith) (m-more _ _ (some-left a fa i x) (some-left b fb j y) ew ez)
 
   -- what the code reads past an end doesn't matter
-  same-next : (q t : AutomationPoint) → (i < n → q ≡ pointAt P i) → (j < m → t ≡ pointAt Q j) → nextOf n m i j (q .time) (t .time) ≡ nextOf n m i j (pointAt P i .time) (pointAt Q j .time)
+  same-next : (q t : AutomationPoint) → (i < n → q ≡ pointAt P i) → (j < m → t ≡ pointAt Q j)
+      → nextOf n m i j (q .time) (t .time) ≡ nextOf n m i j (pointAt P i .time) (pointAt Q j .time)
   unfolding nextOf
   same-next q t hq ht = go (leb n i) (leb m j) refl refl
     where

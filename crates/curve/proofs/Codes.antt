@@ -10,7 +10,7 @@ use lib.Ieee.Bits.{is-true}
 use mir.Val.{hasKey}
 use borrow.Author.Tests.{ltb-true, ltb-false, ne-eqb}
 use Rattle.curve.specs.Curve.{code, isLinear, curves, curveOf}
-use Rattle.curve.specs.Laws.{passes-at, linear-is}
+use Rattle.curve.proofs.Laws.{passes-at, linear-is}
 use Rattle.curve.specs.declared.CurveType.the-variants.{Linear}
 
 -- n is none of the keys, the last of which stands first

@@ -6,7 +6,8 @@ use types.Run.{OneOf, miss}
 use denote.Enum.Declared.{tagOf}
 use Rattle.curve.proofs.CurveType.{the-type}
 use Rattle.curve.specs.declared.CurveType.{CurveType}
-use Rattle.curve.specs.declared.CurveType.the-variants.{Linear, Exponential, Logarithmic, SCurve, Stepped, Bezier, Bounce, Back, Circular, QuadIn, QuadOut, QuadInOut, CubicIn, CubicOut, CubicInOut, QuartIn, QuartOut, QuartInOut, QuintIn, QuintOut, QuintInOut}
+use Rattle.curve.specs.declared.CurveType.the-variants.{Linear, Exponential, Logarithmic, SCurve, Stepped, Bezier, Bounce, Back, Circular, QuadIn, QuadOut, QuadInOut, CubicIn, CubicOut}
+use Rattle.curve.specs.declared.CurveType.the-variants.{CubicInOut, QuartIn, QuartOut, QuartInOut, QuintIn, QuintOut, QuintInOut}
 use Rattle.curve.specs.Curve.{controls, noControls}
 
 -- every tag but Bezier's

@@ -1,4 +1,3 @@
 pub mod F32
 pub mod Curve
-pub mod Laws
 pub mod Examples

@@ -9,7 +9,7 @@ use Rattle.numbers.specs.Bounds.{finite}
 use Rattle.points.specs.Refusal.{refuses, gives}
 use Rattle.lookup.specs.Lookup.{getValueAt, getValueAtSample}
 use Rattle.render.specs.Render.{declined, runInto, render, sampleCount, toBuffer}
-use Rattle.render.specs.Pieces as cut
+use Rattle.render.proofs.PieceLaws as cut
 use Rattle.render.specs.Pieces.{total}
 use Rattle.envelope.specs.Envelope.{validEnvelope}
 use Rattle.envelope.specs.Calls.{valueAtOf, valueAtSampleOf, samplesOf, renderOf, piecesOf, toBufferOf}

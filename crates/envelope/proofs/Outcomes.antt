@@ -9,8 +9,8 @@ use lib.ListN.{length, length-take}
 use Rattle.points.specs.Checks.{firstFailing, unlessRefused}
 use Rattle.points.specs.Refusal.{number, said}
 use Rattle.points.specs.Points.{listOf, holding, validPoints}
-use Rattle.points.specs.Laws.{and-right}
-use Rattle.points.specs.ValidLaws.{valid-count, valid-finite, valid-rising}
+use Rattle.points.proofs.Laws.{and-right}
+use Rattle.points.proofs.ValidLaws.{valid-count, valid-finite, valid-rising}
 use Rattle.points.specs.declared.refusal.Refusal.{Refusal}
 use Rattle.settle.specs.Settle.{Proposal, plain, causes, refused, judged}
 use Rattle.settle.specs.Settle as points
@@ -19,7 +19,7 @@ use Rattle.settle.proofs.Judging.{argument-three, accepts}
 use Rattle.lookup.specs.Limits.{finiteLimits}
 use Rattle.envelope.specs.Envelope.{limitsOf, validEnvelope}
 use Rattle.envelope.specs.Edit.{EditTold, declined, outcome, withPoints, anew, edited, renewed, setting}
-use Rattle.envelope.specs.EditLaws.{accepted, outcome-one}
+use Rattle.envelope.proofs.EditLaws.{accepted, outcome-one}
 use Rattle.envelope.specs.declared.AutomationEnvelope.{AutomationEnvelope}
 
 -- ---- what became of the points

@@ -28,7 +28,8 @@ use Rattle.envelope.specs.Envelope.{new, limitsOf, validEnvelope}
 use Rattle.envelope.specs.declared.AutomationEnvelope.{AutomationEnvelope}
 use Rattle.envelope.specs.declared.Edited.{Edited}
 use Rattle.envelope.specs.declared.edit.PointsEdit.{PointsEdit}
-use Rattle.envelope.specs.declared.edit.PointsEdit.the-variants.{AddPoint, RemovePointAt, ShiftPoints, ScaleTime, Trim, Reverse, InvertValues, QuantizeTime, Simplify, Normalize, Scale, Offset, ClampValues, ApplyFadeIn, ApplyFadeOut, ApplyFades, ApplyGate, ApplyCompression}
+use Rattle.envelope.specs.declared.edit.PointsEdit.the-variants.{AddPoint, RemovePointAt, ShiftPoints, ScaleTime, Trim, Reverse, InvertValues, QuantizeTime, Simplify, Normalize, Scale}
+use Rattle.envelope.specs.declared.edit.PointsEdit.the-variants.{Offset, ClampValues, ApplyFadeIn, ApplyFadeOut, ApplyFades, ApplyGate, ApplyCompression}
 use Rattle.envelope.specs.declared.edit.Replacement.{Replacement}
 use Rattle.envelope.specs.declared.edit.Replacement.the-variants.{FadeIn, FadeOut, Pulse, Ramp}
 use Rattle.envelope.specs.declared.edit.Edit.{Edit}

@@ -3,9 +3,3 @@ pub mod Envelope
 pub mod Calls
 pub mod Edit
 pub mod Typed
--- Laws that the crates above cite too.
-pub mod EditLaws
-pub mod TypedLists
-pub mod TypedLaws
-pub mod TypedLookup
-pub mod JoinLaws

@@ -54,6 +54,7 @@ starts-back [] l e = refl
 starts-back (b ∷ w) [] e = let z : _≡_ {A = ℕ} 0 1 = cc in absurd (omega arith)
 starts-back (b ∷ w) (x ∷ l) e = on (eqb x b) refl (startsWith w l) refl e (λ q. starts-back w l q)
   where
-    on : (t : Bool) → eqb x b ≡ t → (u : Bool) → startsWith w l ≡ u → (t && u) ≡ true → (startsWith w l ≡ true → l ≡ w ++ drop (length w) l) → x ∷ l ≡ b ∷ (w ++ drop (length w) l)
+    on : (t : Bool) → eqb x b ≡ t → (u : Bool) → startsWith w l ≡ u → (t && u) ≡ true → (startsWith w l ≡ true → l ≡ w ++ drop (length w) l)
+        → x ∷ l ≡ b ∷ (w ++ drop (length w) l)
     on true p u q a f = let k : x ≡ b = eqb-true x b p in let m : l ≡ w ++ drop (length w) l = f (q ∙ a) in cc
     on false p u q a f = let z : _≡_ {A = ℕ} 0 1 = cc in absurd (omega arith)

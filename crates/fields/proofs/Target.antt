@@ -182,7 +182,8 @@ pub write-target : (l : List ℕ) (v : ℕ) (rest : List ℕ) → targetForm l �
 unfolding targetForm
 write-target l v rest e = on (eqb (nextDigit l) 0) refl e
   where
-    on : (t : Bool) → eqb (nextDigit l) 0 ≡ t → cond t (ended 32 0 (tail l)) (cond (ltb (nextDigit l) 10) (then (decimals 0 l) (λ v rest. ended 32 v rest)) bad) ≡ got v rest → l ≡ decimalText 32 v ++ rest
+    on : (t : Bool) → eqb (nextDigit l) 0 ≡ t → cond t (ended 32 0 (tail l)) (cond (ltb (nextDigit l) 10) (then (decimals 0 l) (λ v rest. ended 32 v rest)) bad) ≡ got v rest
+        → l ≡ decimalText 32 v ++ rest
     on true t q = write-zero l v rest (eqb-true (nextDigit l) 0 t) q
     on false t q =
         uncond (ltb (nextDigit l) 10) q

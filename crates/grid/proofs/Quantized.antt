@@ -13,7 +13,7 @@ use borrow.Author.Tests.{ltb-false, le-ltb, lt-ltb}
 use Rattle.numbers.specs.Whole.{roundAway}
 use Rattle.numbers.specs.Bounds.{finite}
 use Rattle.numbers.specs.Order.{before, orderKey}
-use Rattle.numbers.specs.OrderLaws.{before-key}
+use Rattle.numbers.proofs.OrderLaws.{before-key}
 use Rattle.numbers.proofs.Compare.{finite-number}
 use Rattle.grid.specs.Grid.{quantizedTime, KeepsOrder}
 use Rattle.grid.proofs.Rounds.{Rounds, keeps-order, gives-number}
@@ -95,7 +95,8 @@ module _ (f : Format) (n : ℕ) (d : ℤ) where
 
 -- ---- one after another
 
-quantized-order : (n : ℕ) (d : ℤ) (x y : Float) → isNan x ≡ false → isNan y ≡ false → before y x ≡ false → before (quantizedTime (fin false (suc n) d) y) (quantizedTime (fin false (suc n) d) x) ≡ false
+quantized-order : (n : ℕ) (d : ℤ) (x y : Float) → isNan x ≡ false → isNan y ≡ false → before y x ≡ false
+    → before (quantizedTime (fin false (suc n) d) y) (quantizedTime (fin false (suc n) d) x) ≡ false
 quantized-order n d x y p q h =
     let D = dividing binary64 n d in
     let R = rounding binary64 in

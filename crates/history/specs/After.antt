@@ -33,7 +33,8 @@ Outside d h i = (k : ℕ) → h .mark - h .kept ≤ k → k < length (h .edits) 
 abbrev pub placeOf : ℕ → Hist → ℕ
 placeOf d h = cond (eqb d 0) 0 (h .mark % d)
 
--- "After the list, every run of samples is refused exactly when the table says so": by 3, 13 and 8; "else its samples are that envelope's, and whatever pieces it is cut into, they leave the buffer that it leaves"
+-- "After the list, every run of samples is refused exactly when the table says so": by 3, 13 and 8; "else its samples are that envelope's, and whatever pieces
+-- it is cut into, they leave the buffer that it leaves"
 pub record Runs (e : AutomationEnvelope) (s : Session) : Type 0 where
   pub run : (rate : Float) (first count place : ℕ) (buffer : List Float)
       → sessionRender s rate first count place buffer ≡ cond (finite rate) (runInto (samplesOf e rate) first count place buffer) (declined 3 buffer)

@@ -2,13 +2,5 @@
 pub mod Rule
 pub mod After
 -- The theorem, that every list has its run, and 01's examples.
-pub mod History
-pub mod Run
 pub mod Examples
 pub mod Table
--- Laws that the theorem cites.
-pub mod Entries
-pub mod Steps
-pub mod Edits
-pub mod Moves
-pub mod Played

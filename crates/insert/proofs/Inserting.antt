@@ -11,9 +11,10 @@ use lib.Seq.{getD-take, set-append-left, length-take-le, take-append-seam, take-
 use borrow.Author.Tests.{ltb-true, ltb-false, lt-ltb, le-leb, lt-leb, eqb-true, eqb-false, eq-eqb, ne-eqb, not-true, not-false}
 use Rattle.points.specs.Point.{unused, anyPoint}
 use Rattle.points.specs.Points.{every, rising, risingBy, timeKey, listOf, holding}
-use Rattle.points.specs.Laws.{and-left, and-right, and-both as and-yes}
-use Rattle.points.specs.ValidLaws.{listOf-holding}
-use Rattle.points.specs.Search.{placeBy, place-bound, Searching, search-end}
+use Rattle.points.proofs.Laws.{and-left, and-right, and-both as and-yes}
+use Rattle.points.proofs.ValidLaws.{listOf-holding}
+use Rattle.points.specs.Search.{placeBy}
+use Rattle.points.proofs.SearchLaws.{place-bound, Searching, search-end}
 use Rattle.points.specs.declared.AutomationPoint.{AutomationPoint}
 use Rattle.points.specs.declared.Points.{Points}
 use Rattle.settle.proofs.Lists.{fold-more}
@@ -152,7 +153,8 @@ module _ (p : AutomationPoint) where
   first-cons b l false false e f r ih =
       rw (e, f) (and-yes (lt-ltb k (timeKey b) (omega (arith, ltb-false (timeKey b) k e, eqb-false (timeKey b) k f))) r)
 
-  after-cons : (a b : AutomationPoint) (l : List AutomationPoint) (x y : Bool) → ltb (timeKey b) k ≡ x → eqb (timeKey b) k ≡ y → rising (a ∷ (b ∷ l)) ≡ true → ltb (timeKey a) k ≡ true
+  after-cons : (a b : AutomationPoint) (l : List AutomationPoint) (x y : Bool) → ltb (timeKey b) k ≡ x → eqb (timeKey b) k ≡ y → rising (a ∷ (b ∷ l)) ≡ true
+      → ltb (timeKey a) k ≡ true
       → rising (insertPoint p (b ∷ l)) ≡ true → rising (a ∷ insertPoint p (b ∷ l)) ≡ true
   unfolding insertPoint risingBy
   after-cons a b l true y e f r g ih = rw e (and-yes (and-left (ltb (timeKey a) (timeKey b)) (rising (b ∷ l)) r) (rw e at ih))
@@ -250,7 +252,8 @@ sorted-places ps s =
 
 -- a turn of the loop that shifts: the point before j goes to j
 pub shift-turn : (ps₀ ps : Points) (j n : ℕ) → 0 < j → j ≤ n → n < length (ps₀ .places) → ps ≡ record { count = ps₀ .count; places = shifted j n (ps₀ .places) }
-    → _≡_ {A = Points} (record { count = ps .count; places = set (ps .places) j (getD (ps .places) (j - 1) anyPoint) }) (record { count = ps₀ .count; places = shifted (j - 1) n (ps₀ .places) })
+    → _≡_ {A = Points} (record { count = ps .count; places = set (ps .places) j (getD (ps .places) (j - 1) anyPoint) })
+    (record { count = ps₀ .count; places = shifted (j - 1) n (ps₀ .places) })
 shift-turn ps₀ ps j n p h b e =
     ap (λ (x : Points). record { count = x .count; places = set (x .places) j (getD (x .places) (j - 1) anyPoint) }) e
     ∙ ap (λ (l : List AutomationPoint). record { count = ps₀ .count; places = l }) (shift-more j n (ps₀ .places) anyPoint p h b)
@@ -277,7 +280,10 @@ module _ (ps : Points) (p : AutomationPoint) (i : ℕ) (s : Sorted ps) (len : le
   add-same h e =
       let n : length (set l i p) ≡ length l = length-set l i p in
       ap (λ (x : Points). record { count = x .count; places = set (x .places) i p }) (sym (s .holds))
-      ∙ (λ j. record { count = sym n j; places = (set-append-left l (replicate (256 - length l) unused) i p (omega (arith, long)) ∙ ap (λ (m : ℕ). set l i p ++ replicate (256 - m) unused) (sym n)) j })
+      ∙ (λ j. record {
+        count = sym n j;
+        places = (set-append-left l (replicate (256 - length l) unused) i p (omega (arith, long)) ∙ ap (λ (m : ℕ). set l i p ++ replicate (256 - m) unused) (sym n)) j;
+      })
       ∙ ap holding (sym (same-list h e))
 
   pub same-few : i < ps .count → timeKey (getD (ps .places) i anyPoint) ≡ timeKey p → length (insertPoint p l) ≤ 256
@@ -352,7 +358,8 @@ module _ (ps₀ new ps : Points) (m i : ℕ) (f : Filling ps₀ new m ps i) wher
       }
 
   -- a turn: the search for the time of the next point has ended at lo
-  module _ (more : i < m) (key lo hi : ℕ) (fresh : Bool) (k : key ≡ keyOf new i) (s : Searching timeKey anyPoint key (ps .places) (ps .count) lo hi) (end : hi ≤ lo) (there : Standing ps key lo fresh) where
+  module _ (more : i < m) (key lo hi : ℕ) (fresh : Bool) (k : key ≡ keyOf new i) (s : Searching timeKey anyPoint key (ps .places) (ps .count) lo hi) (end : hi ≤ lo)
+      (there : Standing ps key lo fresh) where
     abbrev p : AutomationPoint
     p = getD (new .places) i anyPoint
 
@@ -406,6 +413,14 @@ module _ (ps₀ new ps : Points) (m i : ℕ) (f : Filling ps₀ new m ps i) wher
         let rest : all ≡ insertAll (insertAll (listOf ps₀) (take (i + 1) (listOf new))) (drop (i + 1) (listOf new)) =
         ap (insertAll (listOf ps₀)) (sym (take-append-drop (i + 1) (listOf new))) ∙ foldl-append (λ l q. insertPoint q l) (listOf ps₀) (take (i + 1) (listOf new)) (drop (i + 1) (listOf new)) in
         record {
-          fits = sym (lt-leb (length all) 256 (omega (arith, new-long ps p lo (f .sorted) len at (apart b), ap length so-far, ap length rest, all-long (insertAll (listOf ps₀) (take (i + 1) (listOf new))) (drop (i + 1) (listOf new)))));
+          fits = sym
+              (lt-leb (length all) 256
+              (omega (
+                arith,
+                new-long ps p lo (f .sorted) len at (apart b),
+                ap length so-far,
+                ap length rest,
+                all-long (insertAll (listOf ps₀) (take (i + 1) (listOf new))) (drop (i + 1) (listOf new)),
+              )));
           made = λ e. absurd (false≢true e);
         }

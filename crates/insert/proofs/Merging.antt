@@ -10,15 +10,15 @@ use lib.Ieee.Fits.{nan-fits, inf-fits, add-fits}
 use lib.ListN.{length}
 use borrow.Author.Tests.{eqb-true, eq-eqb, ne-eqb, lt-ltb, le-ltb, le-leb}
 use Rattle.numbers.specs.Bounds.{finite}
-use Rattle.numbers.specs.OrderLaws.{key-same}
+use Rattle.numbers.proofs.OrderLaws.{key-same}
 use Rattle.curve.specs.Curve.{finiteControls, controls}
 use Rattle.curve.specs.F32.{f0, f1}
 use Rattle.curve.specs.declared.CurveType.{CurveType}
 use Rattle.curve.specs.declared.CurveType.the-variants.{Linear}
 use Rattle.points.specs.Point.{finitePoint, pointWith}
 use Rattle.points.specs.Points.{every, rising, timeKey, listOf, holding, validPoints}
-use Rattle.points.specs.Laws.{and-left, and-right, and-true, and-both as both}
-use Rattle.points.specs.ValidLaws.{holding-listOf, valid-count, valid-finite, valid-rising}
+use Rattle.points.proofs.Laws.{and-left, and-right, and-true, and-both as both}
+use Rattle.points.proofs.ValidLaws.{holding-listOf, valid-count, valid-finite, valid-rising}
 use Rattle.points.specs.declared.AutomationPoint.{AutomationPoint}
 use Rattle.points.specs.declared.Points.{Points}
 use Rattle.points.specs.declared.refusal.Refusal.the-variants.{NotValid, NotFinite, TooManyPoints}
@@ -61,7 +61,8 @@ module _ (ps : Points) (l : List AutomationPoint) where
   bad-result f = result-three (refused ps) (accepted (holding l)) (plain true l) refl refl refl f
 
 -- new points that hold l, where the arguments are finite and every number of l is
-pub made-new : (ps new : Points) (ok : Bool) (l : List AutomationPoint) → validPoints ps ≡ true → (ok && every finitePoint l) ≡ true → rising l ≡ true → length l ≤ 256 → new ≡ holding l
+pub made-new : (ps new : Points) (ok : Bool) (l : List AutomationPoint) → validPoints ps ≡ true → (ok && every finitePoint l) ≡ true → rising l ≡ true → length l ≤ 256
+    → new ≡ holding l
     → accepted new ≡ editPoints ps ok l
 made-new ps new ok l v f r h n =
     ap accepted n ∙ room ps l (and-right ok (every finitePoint l) f) r (le-leb (length l) 256 h) ∙ settled ps ok l v (and-left ok (every finitePoint l) f)
@@ -115,7 +116,8 @@ module _ (q : AutomationPoint) (f : T (fits binary64 (q .time))) where
   bad-stays [] h = absurd (false≢true (sym h))
   bad-stays (x ∷ l) h = stays-cons x l (insertPoint q l) (ltb (timeKey x) (timeKey q)) (eqb (timeKey x) (timeKey q)) (fine x) refl refl h (bad-stays l)
 
-new-cons : (q x : AutomationPoint) (l m : List AutomationPoint) (b c : Bool) → fine q ≡ false → every fine m ≡ false → every fine (cond b (x ∷ m) (cond c (q ∷ l) (q ∷ (x ∷ l)))) ≡ false
+new-cons : (q x : AutomationPoint) (l m : List AutomationPoint) (b c : Bool) → fine q ≡ false → every fine m ≡ false
+    → every fine (cond b (x ∷ m) (cond c (q ∷ l) (q ∷ (x ∷ l)))) ≡ false
 unfolding every
 new-cons q x l m true c g h = and-no (fine x) h
 new-cons q x l m false true g h = ap (λ (t : Bool). t && every fine l) g
@@ -158,7 +160,8 @@ unfolding every
 points-fine [] h = refl
 points-fine (q ∷ l) h =
     let here = and-left (finitePoint q) (every finitePoint l) h in
-    λ i. and-left (finite (q .time)) (finite (q .value)) (and-left (finite (q .time) && finite (q .value)) (finiteControls (q .curve)) here) i && points-fine l (and-right (finitePoint q) (every finitePoint l) h) i
+    λ i. and-left (finite (q .time)) (finite (q .value)) (and-left (finite (q .time) && finite (q .value)) (finiteControls (q .curve)) here) i && points-fine l
+    (and-right (finitePoint q) (every finitePoint l) h) i
 
 unfine : (l : List AutomationPoint) → every fine l ≡ false → every finitePoint l ≡ false
 unfine l h = go (every finitePoint l) refl
@@ -239,7 +242,8 @@ unfolding every finite finiteControls controls ofBits
 two-fine time start end c t s e g = both (both s refl) (both (both (both t e) g) refl)
 
 pub ramp-fine : (duration start end : Float) (c : CurveType)
-    → (finite duration && finite start && finite end && finiteControls c) ≡ ((finite duration && finite start && finite end && finiteControls c) && every finitePoint (rampList duration start end c))
+    → (finite duration && finite start && finite end && finiteControls c)
+    ≡ ((finite duration && finite start && finite end && finiteControls c) && every finitePoint (rampList duration start end c))
 unfolding every
 ramp-fine duration start end c =
     let d = finite duration in
@@ -248,7 +252,8 @@ ramp-fine duration start end c =
     let g = finiteControls c in
     implied (d && s && e && g) (every finitePoint (rampList duration start end c))
     (λ h. every-all finitePoint [] (pointWith zero64 start Linear ∷ (pointWith duration end c ∷ [])) refl
-    (two-fine duration start end c (and-left d s (and-left (d && s) e (and-left (d && s && e) g h))) (and-right d s (and-left (d && s) e (and-left (d && s && e) g h))) (and-right (d && s) e (and-left (d && s && e) g h)) (and-right (d && s && e) g h)))
+    (two-fine duration start end c (and-left d s (and-left (d && s) e (and-left (d && s && e) g h))) (and-right d s (and-left (d && s) e (and-left (d && s && e) g h)))
+    (and-right (d && s) e (and-left (d && s && e) g h)) (and-right (d && s && e) g h)))
 
 -- a point whose value and controls are finite isn't finite: then its time isn't
 lost : (p : AutomationPoint) → finite (p .value) ≡ true → finiteControls (p .curve) ≡ true → finitePoint p ≡ false → fine p ≡ false

@@ -10,8 +10,8 @@ use lib.Ieee.{Float}
 use borrow.Author.Tests.{le-leb, leb-true}
 use Rattle.points.specs.Point.{finitePoint}
 use Rattle.points.specs.Points.{every, risingBy, rising, timeKey, listOf, holding, validPoints}
-use Rattle.points.specs.Laws.{and-true, and-false, and-left, and-right, every-append, every-one}
-use Rattle.points.specs.ValidLaws.{listOf-holding, holding-valid}
+use Rattle.points.proofs.Laws.{and-true, and-false, and-left, and-right, every-append, every-one}
+use Rattle.points.proofs.ValidLaws.{listOf-holding, holding-valid}
 use Rattle.points.specs.declared.AutomationPoint.{AutomationPoint}
 use Rattle.points.specs.declared.Points.{Points}
 use Rattle.settle.specs.Settle.{plain, refused, accepted, editPoints}
@@ -75,7 +75,8 @@ too-long l h = ap (λ (b : Bool). b && every finitePoint l && rising l) h
 not-finite : (l ps : List AutomationPoint) (p : AutomationPoint) → finitePoint p ≡ false → validList (l ++ (p ∷ ps)) ≡ false
 unfolding validList every
 not-finite l ps p h =
-    let none : every finitePoint (l ++ (p ∷ ps)) ≡ false = every-append finitePoint l (p ∷ ps) ∙ ap (λ (b : Bool). every finitePoint l && (b && every finitePoint ps)) h ∙ and-false (every finitePoint l) in
+    let none : every finitePoint (l ++ (p ∷ ps))
+    ≡ false = every-append finitePoint l (p ∷ ps) ∙ ap (λ (b : Bool). every finitePoint l && (b && every finitePoint ps)) h ∙ and-false (every finitePoint l) in
     ap (λ (b : Bool). leb (length (l ++ (p ∷ ps))) 256 && b && rising (l ++ (p ∷ ps))) none ∙ ap (λ (b : Bool). b && rising (l ++ (p ∷ ps))) (and-false (leb (length (l ++ (p ∷ ps))) 256))
 
 not-rising : (l ps : List AutomationPoint) (p : AutomationPoint) → rising (l ++ (p ∷ [])) ≡ false → validList (l ++ (p ∷ ps)) ≡ false
@@ -92,7 +93,8 @@ step-gathered : (m : Merging) (p : AutomationPoint) (ps : Points) → addedTo m 
 unfolding mergeStep
 step-gathered m p ps h = ap (λ (e : EditedPoints). e .points) h
 
-step-good : (m : Merging) (p : AutomationPoint) (a b : Bool) → m .good ≡ true → (not (m .begun) || ltb (m .last) (timeKey p)) ≡ a → isAccepted (addedTo m p .answer) ≡ b → mergeStep m p .good ≡ (a && b)
+step-good : (m : Merging) (p : AutomationPoint) (a b : Bool) → m .good ≡ true → (not (m .begun) || ltb (m .last) (timeKey p)) ≡ a → isAccepted (addedTo m p .answer) ≡ b
+    → mergeStep m p .good ≡ (a && b)
 unfolding mergeStep
 step-good m p a b ok x y = λ i. (ok i && x i) && y i
 
@@ -168,11 +170,14 @@ folded e ps d = go (validList ps) refl
     r : Merging
     r = foldOf (mergeStart e (length ps) d) ps
 
-    go : (v : Bool) → validList ps ≡ v → cond (r .good) (joinOf (Merge (r .offset)) (r .before) (withPoints (new 0) (r .gathered))) (declined (r .before) 1) ≡ cond v (joinOf (Merge d) e (withPoints (new 0) (holding ps))) (declined e 1)
+    go : (v : Bool) → validList ps ≡ v
+        → cond (r .good) (joinOf (Merge (r .offset)) (r .before) (withPoints (new 0) (r .gathered))) (declined (r .before) 1)
+        ≡ cond v (joinOf (Merge d) e (withPoints (new 0) (holding ps))) (declined e 1)
     go true h =
         let ok = begins e ps d .0 ∙ h in
         let held = begins e ps d .1 ok in
-        λ i. cond (ok i) (joinOf (Merge (fold-offset (mergeStart e (length ps) d) ps i)) (fold-before (mergeStart e (length ps) d) ps i) (withPoints (new 0) (held i))) (declined (fold-before (mergeStart e (length ps) d) ps i) 1)
+        λ i. cond (ok i) (joinOf (Merge (fold-offset (mergeStart e (length ps) d) ps i)) (fold-before (mergeStart e (length ps) d) ps i) (withPoints (new 0) (held i)))
+        (declined (fold-before (mergeStart e (length ps) d) ps i) 1)
     go false h =
         rw (begins e ps d .0 ∙ h) (ap (λ (x : AutomationEnvelope). declined x 1) (fold-before (mergeStart e (length ps) d) ps))
 

@@ -24,7 +24,8 @@ drop-min s at = go (leb at (length s)) refl
   where
     go : (t : Bool) → leb at (length s) ≡ t → drop (min at (length s)) s ≡ drop at s
     go true e = let k : at ≤ length s = leb-true at (length s) e in let z : min at (length s) ≡ at = omega arith in rw z
-    go false e = let z : length s ≤ at = omega (arith, leb-false at (length s) e) in let w : min at (length s) ≡ length s = omega arith in rw w (drop-of-length-le s {i = length s} (omega arith) ∙ sym (drop-of-length-le s z))
+    go false e = let z : length s ≤ at = omega (arith, leb-false at (length s) e) in let w : min at (length s)
+        ≡ length s = omega arith in rw w (drop-of-length-le s {i = length s} (omega arith) ∙ sym (drop-of-length-le s z))
 
 pub held-lines : (s : List ℕ) (ps : Points) (at w : ℕ) (x : Lines Points) → w ≡ min at (length s) → lines ps (drop at s) ≡ x
     → (linesBy Accepted 0 ps (drop w s) ≡ x) × (record { answer = Accepted; line = 0; points = ps; next = w } ≡ pointLinesHeld s Accepted x)

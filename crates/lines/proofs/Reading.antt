@@ -9,7 +9,7 @@ use borrow.Author.Tests.{lt-ltb, le-ltb, leb-true, leb-false}
 use lib.Dec.{ltb, leb}
 use lib.ListN.{length, drop, take, set, replicate, length-set, length-replicate, take-append-drop}
 use lib.Seq.{drop-drop, length-take-le, take-suc-set, drop-set-lt}
-use Rattle.points.specs.Laws.{and-true, and-left, and-right}
+use Rattle.points.proofs.Laws.{and-true, and-left, and-right}
 use Rattle.points.specs.Point.{unused}
 use Rattle.points.specs.Points.{holding, timeKey, rising, risingBy}
 use Rattle.points.specs.declared.AutomationPoint.{AutomationPoint}
@@ -74,7 +74,8 @@ module _ (program : Bool) (before : List AutomationPoint) (l : List ℕ) where
   lines-full e = rw e (either (isEmpty l || cutShort program l) (length before + 4))
 
   pub lines-next : (room : ℕ) → pointsEnd program l ≡ false
-      → pointLines program (suc room) before l ≡ onward (length before + 4) (pointLine l) (λ p rest. cond (rising (before ++ (p ∷ []))) (pointLines program room (before ++ (p ∷ [])) rest) (stop 6 (length before + 4)))
+      → pointLines program (suc room) before l
+      ≡ onward (length before + 4) (pointLine l) (λ p rest. cond (rising (before ++ (p ∷ []))) (pointLines program room (before ++ (p ∷ [])) rest) (stop 6 (length before + 4)))
   unfolding pointLines
   lines-next room e = rw e
 
@@ -123,13 +124,17 @@ module _ {program : Bool} {l₀ s : List ℕ} {ps : List AutomationPoint} {count
         sym (r .same ∙ ap (λ (m : ℕ). pointLines program m (take count ps) (drop at s)) z ∙ lines-full program (take count ps) (drop at s) h ∙ rw (← k, taken))
 
     module _ (less : count < 256) where
-      opened : pointLines program 256 [] l₀ ≡ onward (count + 4) (pointLine (drop at s)) (λ p rest. cond (rising (take count ps ++ (p ∷ []))) (pointLines program (256 - (count + 1)) (take count ps ++ (p ∷ [])) rest) (stop 6 (count + 4)))
+      opened : pointLines program 256 [] l₀
+          ≡ onward (count + 4) (pointLine (drop at s))
+          (λ p rest. cond (rising (take count ps ++ (p ∷ []))) (pointLines program (256 - (count + 1)) (take count ps ++ (p ∷ [])) rest) (stop 6 (count + 4)))
       opened =
           let z : 256 - count ≡ suc (256 - (count + 1)) = omega arith in
           r .same
           ∙ ap (λ (k : ℕ). pointLines program k (take count ps) (drop at s)) z
           ∙ lines-next program (take count ps) (drop at s) (256 - (count + 1)) h
-          ∙ ap (λ (k : ℕ). onward (k + 4) (pointLine (drop at s)) (λ p rest. cond (rising (take count ps ++ (p ∷ []))) (pointLines program (256 - (count + 1)) (take count ps ++ (p ∷ [])) rest) (stop 6 (k + 4)))) taken
+          ∙ ap
+          (λ (k : ℕ). onward (k + 4) (pointLine (drop at s))
+          (λ p rest. cond (rising (take count ps ++ (p ∷ []))) (pointLines program (256 - (count + 1)) (take count ps ++ (p ∷ [])) rest) (stop 6 (k + 4)))) taken
 
       pub refuses : (n : ℕ) → pointLine (drop at s) ≡ refused n → stop n (count + 4) ≡ pointLines program 256 [] l₀
       refuses n e = sym (opened ∙ rw e)

@@ -1,6 +1,5 @@
 // Our answer held against the line's, which stands after ` => `: `ok ..` or `refuse N`. `at` is the
 // place after the call.
-ghost use mathlib.Core.Path.{_≡_};
 use listing::text::Outcome;
 use listing::text::Place;
 use listing::text::Word;

@@ -12,7 +12,7 @@ use Rattle.points.specs.Points.{validPoints}
 use Rattle.points.specs.declared.Points.{Points}
 use Rattle.points.proofs.Good.{places}
 use Rattle.points.proofs.Points.{the-type}
-use Rattle.points.specs.ValidLaws.{valid-count}
+use Rattle.points.proofs.ValidLaws.{valid-count}
 
 -- a valid list's points are among the 256 places
 pub inside : (ps : Points) (vs : List Val) → Is (row the-type) ps vs → validPoints ps ≡ true → ps .count ≤ length (ps .places)

@@ -31,7 +31,8 @@ pointAt l i = getD l i anyPoint
 abbrev pub lastPoint : List AutomationPoint → AutomationPoint
 lastPoint l = pointAt l (length l - 1)
 
--- a search for the key k among n points ended at i, p being the point before and q the one at it: "at an inner point's own time .. both ends are that point"; before the first and past the last there is none
+-- a search for the key k among n points ended at i, p being the point before and q the one at it: "at an inner point's own time .. both ends are that point";
+-- before the first and past the last there is none
 abbrev pub around : {A : Type 0} → (AutomationPoint → ℕ) → ℕ → (AutomationPoint → AutomationPoint → A) → ℕ → ℕ → AutomationPoint → AutomationPoint → Option A
 around key k give n i p q = cond (ltb i n) (cond (eqb (key q) k) (some (give q q)) (cond (ltb 0 i) (some (give p q)) none)) none
 
@@ -40,7 +41,8 @@ unfoldable pub surrounded : {A : Type 0} → (AutomationPoint → ℕ) → ℕ �
 unfolding placeBy
 surrounded key k give l = let i = placeBy key k l in around key k give (length l) i (pointAt l (i - 1)) (pointAt l i)
 
--- both lookups, where `end` is what a point gives by itself: "empty is silent; one point gives its value"; of more points the first where `early` holds of it, the last where `late` does, else what is found between
+-- both lookups, where `end` is what a point gives by itself: "empty is silent; one point gives its value"; of more points the first where `early` holds of it,
+-- the last where `late` does, else what is found between
 abbrev pub found : {A : Type 0} → (AutomationPoint → A) → (AutomationPoint → Bool) → (AutomationPoint → Bool) → Option A → List AutomationPoint → Option A
 found end early late inner [] = none
 found end early late inner (p ∷ []) = some (end p)

@@ -9,7 +9,7 @@ use lib.Ieee.Bits.{ofBits-toBits, nanBits-is, nanBits-above}
 use lib.Ieee.Compare.{differs-from-itself}
 use borrow.Author.Tests.{lt-ltb, le-ltb, eq-eqb, ne-eqb, eqb-true}
 use Rattle.numbers.specs.Bounds.{finite}
-use Rattle.numbers.specs.Tests.{yes, no, nan-test}
+use Rattle.numbers.proofs.Tests.{yes, no, nan-test}
 use Rattle.numbers.proofs.Compare.{finite-number}
 
 -- ---- the NaN's patterns

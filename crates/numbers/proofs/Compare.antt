@@ -12,8 +12,8 @@ use lib.Ieee.Fits.{up-pos, down-pos}
 use borrow.Author.Tests.{ltb-true, ltb-false, lt-ltb, le-ltb, eq-eqb, ne-eqb}
 use Rattle.numbers.specs.Bounds.{finite}
 use Rattle.numbers.specs.Order.{negative, before, orderKey}
-use Rattle.numbers.specs.OrderLaws.{before-key, key-same, number-key}
-use Rattle.numbers.specs.Units.{flat}
+use Rattle.numbers.proofs.OrderLaws.{before-key, key-same, number-key}
+use Rattle.numbers.proofs.Units.{flat}
 
 -- ---- as numbers
 

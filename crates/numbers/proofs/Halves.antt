@@ -2,7 +2,8 @@
 use mathlib.Core.Path.{_≡_, refl, sym, ap, _∙_, subst}
 use mathlib.Core.Bool.{Bool, true, false, not, cond, true≢false}
 use Prim.Native.Nat.{ℕ, zero, suc, _+_, _-_, _*_, _/_, _^_, _≤_, _<_, min, zero-le, suc-le-suc}
-use native.Mathlib.Nat.{le-trans, le-of-lt, zero-mul, le-of-eq, lt-of-lt-of-le, lt-of-le-of-lt, zero-lt-suc, one-mul, mul-one, mul-comm, mul-assoc, mul-left-comm, mul-right-comm, mul-pos, mul-le-mul-left, mul-le-mul-right, mul-lt-mul-of-pos-right, lt-of-mul-lt-mul-right, pow-succ', add-div-right, div-div-eq-div-mul, div-lt-iff-lt-mul}
+use native.Mathlib.Nat.{le-trans, le-of-lt, zero-mul, le-of-eq, lt-of-lt-of-le, lt-of-le-of-lt, zero-lt-suc, one-mul, mul-one, mul-comm, mul-assoc, mul-left-comm, mul-right-comm, mul-pos}
+use native.Mathlib.Nat.{mul-le-mul-left, mul-le-mul-right, mul-lt-mul-of-pos-right, lt-of-mul-lt-mul-right, pow-succ', add-div-right, div-div-eq-div-mul, div-lt-iff-lt-mul}
 use native.Mathlib.Omega.{arith}
 use lib.IntN.{ℤ, pos, negsuc}
 use lib.Dec.{T, T-not, ltb, ltb→lt, lt→ltb, nltb→le, eqb→eq, lit≤}
@@ -13,7 +14,7 @@ use lib.Ieee.Exact.{HasValue, round-exact}
 use lib.Ieee.Back.{round-whole, whole-unique}
 use lib.Ieee.Nearest.{div-same}
 use lib.Ieee.Scale.{round-same}
-use Rattle.numbers.specs.Units.{says, place, flat}
+use Rattle.numbers.proofs.Units.{says, place, flat}
 use Rattle.numbers.specs.Whole.{roundAway}
 use Rattle.numbers.proofs.Rounded.{twice}
 
@@ -78,7 +79,8 @@ module _ (f : Format) (m : ℕ) (e : ℤ) (F : T (fits f (fin false (suc m) e)))
       let p = prec f in
       let A = suc m * 2 ^ j in
       let under : A < 2 ^ (p - 1) * 2 ^ l = cross N d A (2 ^ l) (2 ^ (p - 1)) (pow-pos l) at small in
-      let both : suc m * 2 ^ suc j < 2 ^ suc (p - 1 + l) = double A (2 ^ (p - 1) * 2 ^ l) (suc m * 2 ^ suc j) (2 ^ suc (p - 1 + l)) (ap (λ (x : ℕ). suc m * x) (pow-succ' 2 j) ∙ mul-left-comm (suc m) 2 (2 ^ j)) (pow-succ' 2 (p - 1 + l) ∙ ap (λ (x : ℕ). 2 * x) (pow-add 2 (p - 1) l)) under in
+      let both : suc m * 2 ^ suc j < 2 ^ suc (p - 1 + l) = double A (2 ^ (p - 1) * 2 ^ l) (suc m * 2 ^ suc j) (2 ^ suc (p - 1 + l))
+      (ap (λ (x : ℕ). suc m * x) (pow-succ' 2 j) ∙ mul-left-comm (suc m) 2 (2 ^ j)) (pow-succ' 2 (p - 1 + l) ∙ ap (λ (x : ℕ). 2 * x) (pow-add 2 (p - 1) l)) under in
       lt-of-lt-of-le both (pow-mono (fit p l (emax f) (two f) (reach f)))
     where
       double : (a b c d : ℕ) → c ≡ 2 * a → d ≡ 2 * b → a < b → c < d
@@ -161,7 +163,10 @@ two-le : (a : ℕ) → 2 ≤ 2 ^ suc a
 two-le a = pow-mono {i = 1} {j = suc a} (suc-le-suc zero-le)
 
 few : (m d P : ℕ) → m < P → 2 ≤ d → (2 * (m * 1) + d) / (2 * d) ≤ P
-few m d P h k = le-of-lt (div-lt-iff-lt-mul (twice-pos d k) .1 (go m d P (P * d) (P * (2 * d)) h (mul-le-mul-left P k) (le-trans (le-of-eq (sym (one-mul d))) (mul-le-mul-right d (lt-of-le-of-lt zero-le h))) (mul-left-comm P 2 d)))
+few m d P h k =
+    le-of-lt
+    (div-lt-iff-lt-mul (twice-pos d k) .1
+    (go m d P (P * d) (P * (2 * d)) h (mul-le-mul-left P k) (le-trans (le-of-eq (sym (one-mul d))) (mul-le-mul-right d (lt-of-le-of-lt zero-le h))) (mul-left-comm P 2 d)))
   where
     twice-pos : (d : ℕ) → 2 ≤ d → 0 < 2 * d
     twice-pos d h = omega arith
@@ -176,7 +181,9 @@ whole-exact f s m a F =
     let k = says f s (suc m) (pos a) F in
     let shifted : M * 2 ^ low f ≡ suc m * 2 ^ (a + low f) = mul-assoc (suc m) (2 ^ a) (2 ^ low f) ∙ ap (λ (x : ℕ). suc m * x) (sym (pow-add 2 a (low f))) in
     let room : suc m * 2 ^ (a + low f) < 2 ^ (low f + suc (emax f)) =
-    lt-of-le-of-lt (le-of-eq (sym shifted)) (lt-of-lt-of-le (mul-lt-mul-of-pos-right (subst (λ (x : ℕ). M < x) (mul-one (2 ^ suc (emax f))) (k .2)) (pow-pos (low f))) (le-of-eq (mul-comm (2 ^ suc (emax f)) (2 ^ low f) ∙ sym (pow-add 2 (low f) (suc (emax f)))))) in
+    lt-of-le-of-lt (le-of-eq (sym shifted))
+    (lt-of-lt-of-le (mul-lt-mul-of-pos-right (subst (λ (x : ℕ). M < x) (mul-one (2 ^ suc (emax f))) (k .2)) (pow-pos (low f)))
+    (le-of-eq (mul-comm (2 ^ suc (emax f)) (2 ^ low f) ∙ sym (pow-add 2 (low f) (suc (emax f)))))) in
     round-exact f s M 1 (suc m) (a + low f) (zero-lt-suc 0) (k .0) room (shifted ∙ sym (mul-one (suc m * 2 ^ (a + low f))))
 
 halved : (n : ℕ) → (2 * n + 1) / 2 ≡ n
@@ -207,7 +214,9 @@ stays f (fin false (suc m) (pos a)) F p q = whole-stays f m a F
 stays f (fin false (suc m) (negsuc a)) F p q =
     let h = 2 ^ (prec f - 1) in
     let lo : h * 2 ≤ h * 2 ^ suc a = mul-le-mul-left h (pow-mono {i = 1} {j = suc a} (suc-le-suc zero-le)) in
-    absurd (clash (suc m) h (h * 2 ^ suc a) (2 ^ prec f) (twice f ∙ mul-comm 2 h) (says f false (suc m) (negsuc a) F .0) lo (tidy (suc m) h (2 ^ suc a) (nltb→le (suc m * 1 * 1) (1 * h * 2 ^ suc a) q)))
+    absurd
+    (clash (suc m) h (h * 2 ^ suc a) (2 ^ prec f) (twice f ∙ mul-comm 2 h) (says f false (suc m) (negsuc a) F .0) lo
+    (tidy (suc m) h (2 ^ suc a) (nltb→le (suc m * 1 * 1) (1 * h * 2 ^ suc a) q)))
   where
     tidy : (m h u : ℕ) → 1 * h * u ≤ m * 1 * 1 → h * u ≤ m
     tidy m h u k = subst (λ (x : ℕ). x * u ≤ m) (one-mul h) (subst (λ (x : ℕ). 1 * h * u ≤ x) (mul-one (m * 1) ∙ mul-one m) k)
@@ -271,11 +280,13 @@ neither f nan F p q = unfold roundAway in refl
 neither f (inf true) F p q = absurd q
 neither f (inf false) F p q = absurd p
 neither f (fin s zero e) F p q = subst (λ (z : ℤ). fin s 0 z ≡ roundAway f (fin s 0 z)) (sym (flat e (eqb→eq (up e * down e) 1 F))) (zero-stays f s)
-neither f (fin true (suc m) e) F p q = absurd (T-not (ltb 0 (suc m * up e * 1 + 0 * 1 * down e)) q (lt→ltb 0 (suc m * up e * 1 + 0 * 1 * down e) (go (suc m * up e) (down e) (mul-pos (zero-lt-suc m) (up-pos e)))))
+neither f (fin true (suc m) e) F p q = absurd
+    (T-not (ltb 0 (suc m * up e * 1 + 0 * 1 * down e)) q (lt→ltb 0 (suc m * up e * 1 + 0 * 1 * down e) (go (suc m * up e) (down e) (mul-pos (zero-lt-suc m) (up-pos e)))))
   where
     go : (n d : ℕ) → 0 < n → 0 < n * 1 + 0 * 1 * d
     go n d h = omega arith
-neither f (fin false (suc m) e) F p q = absurd (T-not (ltb (0 * 1 * down e) (suc m * up e * 1)) p (lt→ltb (0 * 1 * down e) (suc m * up e * 1) (go (suc m * up e) (down e) (mul-pos (zero-lt-suc m) (up-pos e)))))
+neither f (fin false (suc m) e) F p q = absurd
+    (T-not (ltb (0 * 1 * down e) (suc m * up e * 1)) p (lt→ltb (0 * 1 * down e) (suc m * up e * 1) (go (suc m * up e) (down e) (mul-pos (zero-lt-suc m) (up-pos e)))))
   where
     go : (n d : ℕ) → 0 < n → 0 * 1 * d < n * 1
     go n d h = omega arith

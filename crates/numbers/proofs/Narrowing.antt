@@ -131,7 +131,8 @@ module _ (s : Bool) (t : ℕ) (h : t < 2 ^ 52) where
   huge (suc j) l r n = go (eq-or-lt-of-le (le-of-suc-le-suc r))
     where
       go : (suc j ≡ 2047) ⊎ (suc j < 2047) → sign s + 2139095040 ≡ toBits binary32 (narrow (ofFields binary64 s (suc j) t))
-      go (inl e) = subst (λ (x : ℕ). sign s + 2139095040 ≡ toBits binary32 (narrow (ofFields binary64 s x t))) (sym e) (sym (at-inf (subst (λ (x : ℕ). T (not (isNan (ofFields binary64 s x t)))) e n)))
+      go (inl e) = subst (λ (x : ℕ). sign s + 2139095040 ≡ toBits binary32 (narrow (ofFields binary64 s x t))) (sym e)
+          (sym (at-inf (subst (λ (x : ℕ). T (not (isNan (ofFields binary64 s x t)))) e n)))
       go (inr g) = sym (over j g (le-of-suc-le-suc l))
 
   pub medium : (e : ℕ) → 897 ≤ e → e < 1151 → sign s + ((e - 897) * 2 ^ 23 + closest D (2 ^ 29)) ≡ toBits binary32 (narrow (ofFields binary64 s e t))
@@ -173,7 +174,8 @@ t-lt b = mod-lt b (pow-pos 52)
 -- ---- a normal result above zero: the pattern itself is rounded
 -- the pattern of the field 897 + j, whose digits with the leading one are q * 2 ^ 29 + r
 carry : (j q r : ℕ) → r < 536870912
-    → (((896 + j) * 8388608 + q) * 536870912 + r + 268435455 + (((896 + j) * 8388608 + q) * 536870912 + r) / 536870912 % 2) / 536870912 - 7516192768 ≡ j * 8388608 + (q + (r + 268435455 + q % 2) / 536870912)
+    → (((896 + j) * 8388608 + q) * 536870912 + r + 268435455 + (((896 + j) * 8388608 + q) * 536870912 + r) / 536870912 % 2) / 536870912 - 7516192768
+    ≡ j * 8388608 + (q + (r + 268435455 + q % 2) / 536870912)
 carry j q r h =
     ap (λ (x : ℕ). (((896 + j) * 8388608 + q) * 536870912 + r + 268435455 + x % 2) / 536870912 - 7516192768) (whole ((896 + j) * 8388608 + q) r h)
     ∙ ap (λ (x : ℕ). (((896 + j) * 8388608 + q) * 536870912 + r + 268435455 + x) / 536870912 - 7516192768) (parity j q)
@@ -212,5 +214,6 @@ plain b lo hi =
     small : (b : ℕ) → b < 5183643171103440896 → (b / 4503599627370496 < 2048) × (b / 4503599627370496 < 1151) × (b < 9223372036854775808)
     small b h = (omega arith, omega arith, omega arith)
 
-    split : (b e t D : ℕ) → e ≡ b / 4503599627370496 → t ≡ b % 4503599627370496 → D ≡ 4503599627370496 + t → 897 ≤ e → b ≡ ((896 + (e - 897)) * 8388608 + D / 536870912) * 536870912 + D % 536870912
+    split : (b e t D : ℕ) → e ≡ b / 4503599627370496 → t ≡ b % 4503599627370496 → D ≡ 4503599627370496 + t → 897 ≤ e
+        → b ≡ ((896 + (e - 897)) * 8388608 + D / 536870912) * 536870912 + D % 536870912
     split b e t D p q r l = omega arith

@@ -2,7 +2,7 @@
 use mathlib.Core.Path.{_≡_, refl, sym, _∙_, ap}
 use mathlib.Core.Bool.{Bool, true, false, _||_, cond, true≢false}
 use lib.Ieee.{Float, ne, isNan}
-use Rattle.numbers.specs.Tests.{nan-test}
+use Rattle.numbers.proofs.Tests.{nan-test}
 
 module _ (a b : Float) (l : Bool) where
   second : (n : Bool) → (n || l) ≡ true → b ≡ cond n b (cond l b a)

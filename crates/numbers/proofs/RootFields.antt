@@ -16,7 +16,7 @@ use lib.Ieee.Digits.{size-lt}
 use borrow.Author.Tests.{leb-false, ne-eqb}
 use Rattle.numbers.specs.Order.{negative}
 use Rattle.numbers.specs.Root.{root, rootUnits, sqrt}
-use Rattle.numbers.specs.Tests.{yes, no}
+use Rattle.numbers.proofs.Tests.{yes, no}
 use Rattle.numbers.proofs.Compare.{lt-right}
 use Rattle.numbers.proofs.Halves.{zero-over}
 use Rattle.numbers.proofs.Signs.{negative-bits}
@@ -168,7 +168,8 @@ at-mid t j h =
     same : (j : ℕ) → j + 149 ≡ suc j + 148
     same j = omega arith
 
-pub normal : (b : ℕ) (o : T (lt nought (ofBits binary32 b))) → b / 2 ^ 23 < 255 → (b / 2 ^ 23 ≡ 0 → ⊥) → rootUnits binary32 ((2 ^ 23 + b % 2 ^ 23) * 2 ^ (b / 2 ^ 23 + 148)) ≡ sqrt binary32 (ofBits binary32 b)
+pub normal : (b : ℕ) (o : T (lt nought (ofBits binary32 b))) → b / 2 ^ 23 < 255 → (b / 2 ^ 23 ≡ 0 → ⊥)
+    → rootUnits binary32 ((2 ^ 23 + b % 2 ^ 23) * 2 ^ (b / 2 ^ 23 + 148)) ≡ sqrt binary32 (ofBits binary32 b)
 normal b o h n = go (b / 2 ^ 23) h n ∙ ap (sqrt binary32) (sym (read b o))
   where
     go : (e : ℕ) → e < 255 → (e ≡ 0 → ⊥) → rootUnits binary32 ((2 ^ 23 + b % 2 ^ 23) * 2 ^ (e + 148)) ≡ sqrt binary32 (ofFields binary32 false e (b % 2 ^ 23))
@@ -191,7 +192,9 @@ root-small f v k e =
     root-lt (root w) (2 ^ p)
     (lt-of-le-of-lt (root-cut w .0)
     (div-lt-iff-lt-mul (mul-pos (pow-pos k) (pow-pos k)) .1
-    (lt-of-lt-of-le (size-lt v) (le-trans (pow-mono (go (size v) p k e)) (le-of-eq (pow-add 2 (p + p) (k + k) ∙ ap (λ (x : ℕ). x * 2 ^ (k + k)) (pow-add 2 p p) ∙ ap (λ (x : ℕ). 2 ^ p * 2 ^ p * x) (pow-add 2 k k)))))))
+    (lt-of-lt-of-le (size-lt v)
+    (le-trans (pow-mono (go (size v) p k e))
+    (le-of-eq (pow-add 2 (p + p) (k + k) ∙ ap (λ (x : ℕ). x * 2 ^ (k + k)) (pow-add 2 p p) ∙ ap (λ (x : ℕ). 2 ^ p * 2 ^ p * x) (pow-add 2 k k)))))))
   where
     go : (z p k : ℕ) → k ≡ (z + 1) / 2 - p → z ≤ p + p + (k + k)
     go z p k e = omega arith
@@ -252,4 +255,5 @@ no-root f (fin s zero e) h k =
     or-r true b t = tt
     or-r false b t = t
 no-root f (fin true (suc m) e) h k = refl
-no-root f (fin false (suc m) e) h k = absurd (T-not (ltb (0 * 1 * down e) (suc m * up e * 1)) h (lt→ltb (0 * 1 * down e) (suc m * up e * 1) (some (suc m * up e) (down e) (mul-pos (zero-lt-suc m) (up-pos e)))))
+no-root f (fin false (suc m) e) h k = absurd
+    (T-not (ltb (0 * 1 * down e) (suc m * up e * 1)) h (lt→ltb (0 * 1 * down e) (suc m * up e * 1) (some (suc m * up e) (down e) (mul-pos (zero-lt-suc m) (up-pos e)))))

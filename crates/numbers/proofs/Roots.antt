@@ -2,7 +2,8 @@
 use mathlib.Core.Path.{_≡_, refl, sym, ap, _∙_, subst}
 use mathlib.Core.Bool.{Bool, true, false, true≢false}
 use Prim.Native.Nat.{ℕ, zero, suc, _+_, _-_, _*_, _/_, _^_, _≤_, _<_, compare}
-use native.Mathlib.Nat.{le-trans, le-of-eq, le-of-lt, le-of-suc-le-suc, lt-of-le-of-lt, lt-of-lt-of-le, lt-irrefl, zero-add, zero-mul, mul-comm, mul-assoc, mul-pos, mul-le-mul, mul-le-mul-left, mul-lt-mul-of-pos-right, div-one, mul-div-cancel}
+use native.Mathlib.Nat.{le-trans, le-of-eq, le-of-lt, le-of-suc-le-suc, lt-of-le-of-lt, lt-of-lt-of-le, lt-irrefl, zero-add, zero-mul, mul-comm, mul-assoc, mul-pos, mul-le-mul, mul-le-mul-left}
+use native.Mathlib.Nat.{mul-lt-mul-of-pos-right, div-one, mul-div-cancel}
 use native.Mathlib.Numerals.{add-one}
 use native.Mathlib.Omega.{arith}
 use lib.Dec.{leb}
@@ -127,8 +128,10 @@ unfolding sqrt
 sqrt-val f nan a p h = absurd h
 sqrt-val f (inf s) a p h = absurd h
 sqrt-val f (fin true m e) a p h = absurd (true≢false (h .0))
-sqrt-val f (fin false zero e) a p h = absurd (lt-irrefl 0 (subst (λ (z : ℕ). 0 < z) (sym (h .1) ∙ ap (λ (z : ℕ). z * 2 ^ low f) (zero-mul (up e)) ∙ zero-mul (2 ^ low f)) (mul-pos p (down-pos e))))
+sqrt-val f (fin false zero e) a p h = absurd
+    (lt-irrefl 0 (subst (λ (z : ℕ). 0 < z) (sym (h .1) ∙ ap (λ (z : ℕ). z * 2 ^ low f) (zero-mul (up e)) ∙ zero-mul (2 ^ low f)) (mul-pos p (down-pos e))))
 sqrt-val f (fin false (suc m) e) a p h =
     let L = 2 ^ low f in
-    ap (λ (z : ℕ). rootUnits f (z / down e)) (sym (mul-assoc (suc m * up e) L L) ∙ ap (λ (z : ℕ). z * L) (h .1) ∙ mul-assoc a (down e) L ∙ ap (λ (z : ℕ). a * z) (mul-comm (down e) L) ∙ sym (mul-assoc a L (down e)))
+    ap (λ (z : ℕ). rootUnits f (z / down e))
+    (sym (mul-assoc (suc m * up e) L L) ∙ ap (λ (z : ℕ). z * L) (h .1) ∙ mul-assoc a (down e) L ∙ ap (λ (z : ℕ). a * z) (mul-comm (down e) L) ∙ sym (mul-assoc a L (down e)))
     ∙ ap (rootUnits f) (mul-div-cancel (a * L) (down-pos e))

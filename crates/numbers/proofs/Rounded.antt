@@ -4,7 +4,8 @@ use mathlib.Core.Path.{_≡_, refl, sym, ap, _∙_, subst}
 use mathlib.Core.Logic.{_⊎_, inl, inr}
 use mathlib.Core.Bool.{Bool, true, false, not, cond}
 use Prim.Native.Nat.{ℕ, zero, suc, _+_, _-_, _*_, _/_, _^_, _≤_, _<_}
-use native.Mathlib.Nat.{le-trans, le-of-eq, le-antisymm, lt-of-lt-of-le, lt-of-le-of-lt, lt-of-not-le, lt-irrefl, eq-zero-or-pos, eq-or-lt-of-le, add-comm, add-assoc, mul-comm, mul-assoc, mul-le-mul-left, mul-le-mul-right, mul-pos, suc-mul, le-of-mul-le-mul-right, pow-succ', div-one, div-lt-iff-lt-mul, le-div-iff-mul-le, mul-div-cancel}
+use native.Mathlib.Nat.{le-trans, le-of-eq, le-antisymm, lt-of-lt-of-le, lt-of-le-of-lt, lt-of-not-le, lt-irrefl, eq-zero-or-pos, eq-or-lt-of-le, add-comm, add-assoc, mul-comm, mul-assoc}
+use native.Mathlib.Nat.{mul-le-mul-left, mul-le-mul-right, mul-pos, suc-mul, le-of-mul-le-mul-right, pow-succ', div-one, div-lt-iff-lt-mul, le-div-iff-mul-le, mul-div-cancel}
 use native.Mathlib.Omega.{arith}
 use lib.Dec.{T, ltb}
 use borrow.Author.Tests.{ltb-true, ltb-false, le-ltb}
@@ -15,7 +16,7 @@ use lib.Ieee.Fits.{round-is, down-pos, two, reach, two-le-pos}
 use lib.Ieee.Exact.{HasValue, units-val}
 use lib.Ieee.Nearest.{closest, closest-same}
 use lib.Ieee.Bits.{toBits-lt, ofBits-toBits, nanBits-is}
-use Rattle.numbers.specs.Units.{pow-le-back}
+use Rattle.numbers.proofs.Units.{pow-le-back}
 use Rattle.numbers.proofs.Closest.{closest-le, closest-ge}
 
 pub pow-lt-back : (i p : ℕ) → 2 ^ i < 2 ^ p → i < p
@@ -37,7 +38,8 @@ halve a b h = omega arith
 size-lower : (w x y z D : ℕ) → 2 ^ w ≤ 2 * D → suc z + y ≡ w + x → z < size (D * 2 ^ x / 2 ^ y)
 size-lower w x y z D h e =
     let big : 2 ^ (w + x) ≤ 2 * (D * 2 ^ x) = le-trans (le-of-eq (pow-add 2 w x)) (le-trans (mul-le-mul-right (2 ^ x) h) (le-of-eq (mul-assoc 2 D (2 ^ x)))) in
-    let two-z : 2 * (2 ^ z * 2 ^ y) ≡ 2 ^ (w + x) = sym (mul-assoc 2 (2 ^ z) (2 ^ y)) ∙ ap (λ (n : ℕ). n * 2 ^ y) (sym (pow-succ' 2 z)) ∙ sym (pow-add 2 (suc z) y) ∙ ap (λ (n : ℕ). 2 ^ n) e in
+    let two-z : 2 * (2 ^ z * 2 ^ y)
+    ≡ 2 ^ (w + x) = sym (mul-assoc 2 (2 ^ z) (2 ^ y)) ∙ ap (λ (n : ℕ). n * 2 ^ y) (sym (pow-succ' 2 z)) ∙ sym (pow-add 2 (suc z) y) ∙ ap (λ (n : ℕ). 2 ^ n) e in
     let at : 2 ^ z ≤ D * 2 ^ x / 2 ^ y = le-div-iff-mul-le (pow-pos y) .1 (halve (2 ^ z * 2 ^ y) (D * 2 ^ x) (le-trans (le-of-eq two-z) big)) in
     pow-lt-back z (size (D * 2 ^ x / 2 ^ y)) (lt-of-le-of-lt at (size-lt (D * 2 ^ x / 2 ^ y)))
 
@@ -158,7 +160,8 @@ pub packed : (f : Format) (s : Bool) (q k : ℕ) → q ≤ 2 ^ prec f → (0 < k
 packed f s q k h l r = go (ltb (q * 2 ^ k) (2 ^ (low f + suc (emax f)))) refl
   where
     fine : q * 2 ^ k < 2 ^ (low f + suc (emax f)) → (q ≡ 2 ^ prec f) ⊎ (q < 2 ^ prec f) → toBits f (units f s q k) ≡ cond s (top f) 0 + (k * hid f + q)
-    fine t (inl e) = subst (λ (x : ℕ). toBits f (units f s x k) ≡ cond s (top f) 0 + (k * hid f + x)) (sym e) (written-up f s (units f s (2 ^ prec f) k) k (units-val f s (2 ^ prec f) k (subst (λ (x : ℕ). x * 2 ^ k < 2 ^ (low f + suc (emax f))) e t)))
+    fine t (inl e) = subst (λ (x : ℕ). toBits f (units f s x k) ≡ cond s (top f) 0 + (k * hid f + x)) (sym e)
+        (written-up f s (units f s (2 ^ prec f) k) k (units-val f s (2 ^ prec f) k (subst (λ (x : ℕ). x * 2 ^ k < 2 ^ (low f + suc (emax f))) e t)))
     fine t (inr g) = written f s (units f s q k) q k g l (units-val f s q k t)
 
     past : 2 ^ (low f + suc (emax f)) ≤ q * 2 ^ k → toBits f (units f s q k) ≡ cond s (top f) 0 + (k * hid f + q)
@@ -182,7 +185,9 @@ module _ (f : Format) (s : Bool) (w D a b d k : ℕ) (h : D < 2 ^ w) (ke : k ≡
   -- and all of them where digits are dropped
   kept-ge : 0 < k → hid f ≤ closest D (2 ^ d)
   kept-ge g =
-      let full : 2 * (hid f * 2 ^ d) ≡ 2 ^ w = sym (mul-assoc 2 (hid f) (2 ^ d)) ∙ ap (λ (x : ℕ). x * 2 ^ d) (sym (twice f)) ∙ sym (pow-add 2 (prec f) d) ∙ ap (λ (x : ℕ). 2 ^ x) (just w (a + low f) b (prec f) d k ke e g) in
+      let full : 2 * (hid f * 2 ^ d)
+      ≡ 2 ^ w = sym (mul-assoc 2 (hid f) (2 ^ d)) ∙ ap (λ (x : ℕ). x * 2 ^ d) (sym (twice f)) ∙ sym (pow-add 2 (prec f) d)
+      ∙ ap (λ (x : ℕ). 2 ^ x) (just w (a + low f) b (prec f) d k ke e g) in
       closest-ge D (2 ^ d) (hid f) (pow-pos d) (halve (hid f * 2 ^ d) D (le-trans (le-of-eq full) (l g)))
     where
       just : (w x b p d k : ℕ) → k ≡ w + x - (b + p) → d + x ≡ b + k → 0 < k → p + d ≡ w

@@ -2,7 +2,8 @@
 use mathlib.Core.Path.{_≡_, refl, sym, ap, _∙_, subst}
 use mathlib.Core.Bool.{Bool, true, false, not, cond}
 use Prim.Native.Nat.{ℕ, zero, suc, _+_, _*_, _/_, _^_, _≤_, _<_, zero-le}
-use native.Mathlib.Nat.{le-trans, le-of-eq, le-antisymm, lt-of-le-of-lt, lt-of-lt-of-le, lt-of-not-le, not-le-of-lt, mul-le-mul, mul-one, one-mul, mul-assoc, mul-comm, mul-left-comm, mul-add, add-mul, pow-succ', div-lt-iff-lt-mul}
+use native.Mathlib.Nat.{le-trans, le-of-eq, le-antisymm, lt-of-le-of-lt, lt-of-lt-of-le, lt-of-not-le, not-le-of-lt, mul-le-mul, mul-one, one-mul, mul-assoc, mul-comm, mul-left-comm, mul-add}
+use native.Mathlib.Nat.{add-mul, pow-succ', div-lt-iff-lt-mul}
 use native.Mathlib.Numerals.{add-one}
 use native.Mathlib.Omega.{arith}
 use lib.Dec.{T, leb, leb→le, nleb→lt}

@@ -12,7 +12,8 @@ use lib.Seq.{take-at}
 use Rattle.numbers.specs.Bounds.{finite}
 use Rattle.points.specs.Refusal.{Said, refuses, gives}
 use Rattle.render.specs.Render.{written, Rendered, declined, mostSamples, runInto}
-use Rattle.lookup.specs.Runs.{run, run-long}
+use Rattle.lookup.specs.Runs.{run}
+use Rattle.lookup.proofs.RunLaws.{run-long}
 use Rattle.envelope.specs.Envelope.{validEnvelope}
 use Rattle.envelope.specs.Calls.{samplesOf, renderOf}
 use Rattle.envelope.proofs.CallLaws.{render-is}
@@ -49,7 +50,9 @@ module _ (p : Play) (room : List Float) (long : 1024 ≤ length room) where
   refused-block k out q = go (validEnvelope (p .envelope)) (finite (p .rate)) (leb (p .next + blockCount p) mostSamples) (sym (ap (λ (x : Rendered). x .said) rendered-is) ∙ q)
     where
       go : (v f t : Bool) → cond v (cond f (cond t (record { said = gives tt; buffer = written 0 samples room }) (declined 13 room)) (declined 3 room)) (declined 1 room) .said ≡ refuses k
-          → cond v (cond f (cond t (record { said = gives (length (blockText p)); play = after p; bytes = over (blockText p) out }) (declines 13 p out)) (declines 3 p out)) (declines 1 p out) ≡ declines k p out
+          → cond v (cond f (cond t (record { said = gives (length (blockText p)); play = after p; bytes = over (blockText p) out }) (declines 13 p out)) (declines 3 p out))
+          (declines 1 p out)
+          ≡ declines k p out
       go true true true e = never (sym e)
       go true true false e = let z : 13 ≡ k = cc in rw z
       go true false t e = let z : 3 ≡ k = cc in rw z
@@ -139,15 +142,20 @@ moved p out n = go (validEnvelope (p .envelope)) (finite (p .rate)) (leb (p .nex
     no q = let z : _≡_ {A = ℕ} 0 1 = cc in absurd (omega arith)
 
     go : (v f t : Bool)
-        → gives n ≡ cond v (cond f (cond t (record { said = gives (length (blockText p)); play = after p; bytes = over (blockText p) out }) (declines 13 p out)) (declines 3 p out)) (declines 1 p out) .said
+        → gives n
+        ≡ cond v (cond f (cond t (record { said = gives (length (blockText p)); play = after p; bytes = over (blockText p) out }) (declines 13 p out)) (declines 3 p out))
+        (declines 1 p out) .said
         → (n ≤ 20480)
-        × (cond v (cond f (cond t (record { said = gives (length (blockText p)); play = after p; bytes = over (blockText p) out }) (declines 13 p out)) (declines 3 p out)) (declines 1 p out) .play ≡ after p)
+        × (cond v (cond f (cond t (record { said = gives (length (blockText p)); play = after p; bytes = over (blockText p) out }) (declines 13 p out)) (declines 3 p out))
+        (declines 1 p out) .play
+        ≡ after p)
     go true true true q = let k : n ≡ length (blockText p) = cc in (omega (arith, block-length p), refl)
     go true true false q = no q
     go true false t q = no q
     go false f t q = no q
 
-pub moves-on : (p : Play) (out : List ℕ) (n : ℕ) (r : Play) → gives n ≡ nextBlock p out .said → r ≡ nextBlock p out .play → p .next < p .count → (r .count ≡ p .count) × (p .next < r .next)
+pub moves-on : (p : Play) (out : List ℕ) (n : ℕ) (r : Play) → gives n ≡ nextBlock p out .said → r ≡ nextBlock p out .play → p .next < p .count
+    → (r .count ≡ p .count) × (p .next < r .next)
 moves-on p out n r q e h =
     let m = e ∙ moved p out n q .1 in
     (ap (λ (x : Play). x .count) m, rw m (omega arith))

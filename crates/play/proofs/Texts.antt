@@ -16,7 +16,7 @@ use Rattle.fields.proofs.Places.{places-le}
 use Rattle.fields.proofs.Stores.{put-all}
 use Rattle.play.specs.Play.{sampleLine, sampleLines, refusalNames, refusalText}
 use Rattle.play.specs.Blocks.{firstText, firstPlay, Opens}
-use Rattle.play.specs.OutputLaws.{lines-append}
+use Rattle.play.proofs.OutputLaws.{lines-append}
 use Rattle.play.specs.declared.Opened.{Opened}
 
 -- ---- lengths
@@ -85,7 +85,8 @@ module _ (first i : ℕ) (xs : List Float) (d : Float) (h : i < length xs) where
 
 -- ---- the first bytes
 
-pub opens : (i : Input) {out m : List ℕ} {n : ℕ} {r : Opened} → Put out 0 (firstText i) m n → length (firstText i) ≤ length out → r .bytes ≡ n → r .play ≡ firstPlay i → Opens i out r m
+pub opens : (i : Input) {out m : List ℕ} {n : ℕ} {r : Opened} → Put out 0 (firstText i) m n → length (firstText i) ≤ length out → r .bytes ≡ n → r .play ≡ firstPlay i
+    → Opens i out r m
 opens i {out} {m} {n} p h b q = record { bytes = b ∙ p .next ∙ zero-add (length (firstText i)); play = q; lent = put-all out (firstText i) m n p h }
 
 pub first-length : (i : Input) → length (firstText i) ≤ 35

@@ -9,7 +9,8 @@ use Rattle.points.specs.Checks.{Check, orElse, firstFailing, unlessRefus
 use Rattle.points.specs.Points.{every}
 use Rattle.points.specs.Refusal.{number}
 use Rattle.points.specs.declared.refusal.Refusal.{Refusal}
-use Rattle.points.specs.declared.refusal.Refusal.the-variants.{NotValid, SheetCurve, NotFinite, BoundsCross, TooManyPoints, TimesDontRise, KeysDontRise, NoRoom, SheetForm, NoStep, MemoryLength, StoredState, TooManySamples}
+use Rattle.points.specs.declared.refusal.Refusal.the-variants.{NotValid, SheetCurve, NotFinite, BoundsCross, TooManyPoints, TimesDontRise, KeysDontRise, NoRoom, SheetForm, NoStep}
+use Rattle.points.specs.declared.refusal.Refusal.the-variants.{MemoryLength, StoredState, TooManySamples}
 
 -- ---- the first check
 

@@ -5,7 +5,3 @@ pub mod Point
 pub mod Points
 pub mod Search
 pub mod Middles
--- Laws that the crates above cite too.
-pub mod Laws
-pub mod ValidLaws
-pub mod FloatLaws

@@ -1,7 +1,8 @@
 -- 01, "What the player declines": the refusals by their numbers, and an answer in 01's terms.
 use Prim.Native.Nat.{ℕ}
 use Rattle.points.specs.declared.refusal.Refusal.{Refusal}
-use Rattle.points.specs.declared.refusal.Refusal.the-variants.{NotValid, SheetCurve, NotFinite, BoundsCross, TooManyPoints, TimesDontRise, KeysDontRise, NoRoom, SheetForm, NoStep, MemoryLength, StoredState, TooManySamples}
+use Rattle.points.specs.declared.refusal.Refusal.the-variants.{NotValid, SheetCurve, NotFinite, BoundsCross, TooManyPoints, TimesDontRise, KeysDontRise, NoRoom, SheetForm, NoStep}
+use Rattle.points.specs.declared.refusal.Refusal.the-variants.{MemoryLength, StoredState, TooManySamples}
 use Rattle.points.specs.declared.refusal.Answer.{Answer}
 use Rattle.points.specs.declared.refusal.Answer.the-variants.{Accepted, Refused}
 use Rattle.points.specs.declared.refusal.Compared.{Compared}

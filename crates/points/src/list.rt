@@ -2,7 +2,7 @@
 ghost use mathlib.Core.Path.{_≡_};
 ghost use mathlib.Core.List.{[]};
 ghost use Prim.Native.Nat.{min};
-ghost use Rattle.points.specs.Point.{finitePoint, isUnused, matching};
+ghost use Rattle.points.specs.Point.{finitePoint, matching};
 ghost use Rattle.points.specs.Points.{listOf, holding, every, everyPair, rising, validPoints};
 use crate::AutomationPoint;
 use crate::Points;

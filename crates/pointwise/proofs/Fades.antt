@@ -5,7 +5,7 @@ use mathlib.Core.List.{List, map}
 use lib.Ieee.{Float, binary64, sub, le}
 use Rattle.curve.specs.declared.CurveType.{CurveType}
 use Rattle.points.specs.Points.{listOf, holding}
-use Rattle.points.specs.ValidLaws.{listOf-holding}
+use Rattle.points.proofs.ValidLaws.{listOf-holding}
 use Rattle.points.specs.declared.AutomationPoint.{AutomationPoint}
 use Rattle.points.specs.declared.Points.{Points}
 use Rattle.pointwise.specs.Places.{mappedIn, fadedInPlaces}

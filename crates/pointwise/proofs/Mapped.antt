@@ -11,8 +11,8 @@ use lib.Dec.{leb}
 use lib.ListN.{length, take, drop, getD, set, replicate, length-map, drop-of-length-le}
 use Rattle.points.specs.Point.{unused, anyPoint}
 use Rattle.points.specs.Points.{listOf, holding, validPoints}
-use Rattle.points.specs.Laws.{take-min}
-use Rattle.points.specs.ValidLaws.{listOf-holding, restOf-holding, holding-listOf}
+use Rattle.points.proofs.Laws.{take-min}
+use Rattle.points.proofs.ValidLaws.{listOf-holding, restOf-holding, holding-listOf}
 use Rattle.points.specs.declared.AutomationPoint.{AutomationPoint}
 use Rattle.points.specs.declared.Points.{Points}
 use Rattle.settle.specs.Settle.{editPoints}
@@ -89,7 +89,8 @@ pub map-turn : (f : AutomationPoint → AutomationPoint) (ps₀ ps : Points) (i 
 map-turn f ps₀ ps i q h inv res =
     let r : q ≡ f (getD (ps₀ .places) i anyPoint) = res ∙ ap (λ (x : Points). f (getD (x .places) i anyPoint)) inv ∙ ap f (map-read f (ps₀ .places) i anyPoint) in
     ap (λ (x : Points). record { count = x .count; places = set (x .places) i q }) inv
-    ∙ ap (λ (l : List AutomationPoint). record { count = ps₀ .count; places = l }) (ap (λ (y : AutomationPoint). set (mapUpTo f i (ps₀ .places)) i y) r ∙ map-more f (ps₀ .places) i anyPoint h)
+    ∙ ap (λ (l : List AutomationPoint). record { count = ps₀ .count; places = l })
+    (ap (λ (y : AutomationPoint). set (mapUpTo f i (ps₀ .places)) i y) r ∙ map-more f (ps₀ .places) i anyPoint h)
 
 -- where that loop ends
 pub map-end : (f : AutomationPoint → AutomationPoint) (ps₀ ps : Points) (i : ℕ) → length (ps₀ .places) ≡ 256 → i ≡ min (ps₀ .count) 256

@@ -1,8 +1,7 @@
 // The edits of 000 that change each point by itself. Source: envelope.rs (000).
 ghost use mathlib.Core.Path.{_≡_};
 ghost use mathlib.Core.Bool.{_&&_};
-ghost use mathlib.Core.List.{map, _++_};
-ghost use lib.ListN.{take, drop};
+ghost use mathlib.Core.List.{map};
 ghost use Rattle.numbers.specs.Bounds.{finite};
 ghost use Rattle.curve.specs.Curve.{finiteControls};
 ghost use Rattle.points.specs.Point.{finitePoint};

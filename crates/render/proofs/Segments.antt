@@ -17,22 +17,23 @@ use borrow.Author.Tests.{eqb-true, eqb-false, not-false}
 use Rattle.numbers.specs.Order.{orderKey}
 use Rattle.numbers.specs.Bounds.{finite}
 use Rattle.curve.specs.Curve.{interpolated, finiteControls}
-use Rattle.points.specs.Laws.{and-left, and-right}
+use Rattle.points.proofs.Laws.{and-left, and-right}
 use Rattle.points.specs.Point.{anyPoint, finitePoint}
 use Rattle.points.specs.Points.{every, rising, timeKey}
 use Rattle.points.specs.declared.AutomationPoint.{AutomationPoint}
 use Rattle.lookup.specs.Limits.{constrained}
 use Rattle.lookup.specs.Lookup.{pointAt, fraction, between, rawAt, heard}
 use Rattle.points.specs.Search.{placeBy}
-use Rattle.lookup.specs.LookupLaws.{raw-first, raw-last, raw-at-point, raw-between, raw-past}
-use Rattle.lookup.specs.Runs.{run, run-same}
-use Rattle.points.specs.Search.{place-at, place-before, place-from, place-bound, place-between, rising-at, key-take}
+use Rattle.lookup.proofs.LookupLaws.{raw-first, raw-last, raw-at-point, raw-between, raw-past}
+use Rattle.lookup.specs.Runs.{run}
+use Rattle.lookup.proofs.RunLaws.{run-same}
+use Rattle.points.proofs.SearchLaws.{place-at, place-before, place-from, place-bound, place-between, rising-at, key-take}
 use Rattle.render.specs.Render.{timeOf}
 use Rattle.render.specs.Writer.{segmentOf, segmentAround, segmentAt, inside, outsideAt, Stretch}
 use Rattle.lookup.specs.declared.Limits.{Limits}
 use Rattle.render.specs.declared.Segment.{Segment}
 use Rattle.render.specs.declared.Ends.{Ends}
-use Rattle.numbers.specs.OrderLaws.{number-key}
+use Rattle.numbers.proofs.OrderLaws.{number-key}
 use Rattle.numbers.proofs.BitLaws.{nan-is}
 use Rattle.numbers.proofs.Compare.{lt-left, lt-right, finite-number, le-not, lt-key, lt-around}
 
@@ -64,7 +65,8 @@ module _ (ps : List AutomationPoint) (n : ℕ) (f : n ≤ length ps) (w : 2 ≤ 
       let len : length (take n ps) ≡ n = length-take-le n ps f in
       let p = pointAt ps j in
       finite-number (p .time)
-      (and-left (finite (p .time)) (finite (p .value)) (and-left _ (finiteControls (p .curve)) (ap finitePoint (sym (getD-take n ps j anyPoint h)) ∙ every-at finitePoint (take n ps) j anyPoint v (omega arith))))
+      (and-left (finite (p .time)) (finite (p .value))
+      (and-left _ (finiteControls (p .curve)) (ap finitePoint (sym (getD-take n ps j anyPoint h)) ∙ every-at finitePoint (take n ps) j anyPoint v (omega arith))))
 
   -- an earlier time has a lower key, or is the same
   key-le : (i j : ℕ) → i ≤ j → j < n → orderKey (pointAt ps i .time) ≤ orderKey (pointAt ps j .time)
@@ -128,7 +130,8 @@ module _ (ps : List AutomationPoint) (n : ℕ) (f : n ≤ length ps) (w : 2 ≤ 
         let k = lt-key time y g (fit i) b in
         let o : orderKey time ≤ orderKey time = omega arith in
         let a₀ = lt-around (pointAt ps 0 .time) x time time (fit 0) (fit (i - 1)) g g (number-at 0 (omega arith)) (lt-right x time a) (key-le 0 (i - 1) (omega arith) (omega arith)) a o in
-        let b₁ = lt-around time time y (pointAt ps (n - 1) .time) g g (fit i) (fit (n - 1)) (lt-left time y b) (number-at (n - 1) (omega arith)) o b (key-le i (n - 1) (omega arith) (omega arith)) in
+        let b₁ = lt-around time time y (pointAt ps (n - 1) .time) g g (fit i) (fit (n - 1)) (lt-left time y b) (number-at (n - 1) (omega arith)) o b
+        (key-le i (n - 1) (omega arith) (omega arith)) in
         raw-between _ _ ps n time f w (not-first a₀) (not-last b₁) i (place-between timeKey anyPoint (orderKey time) ps n i r f p q j (omega arith)) q (λ t. omega arith) p
 
     pub raw-held : (i k : ℕ) → 0 < i → i < n → inside (segmentAround k (pointAt ps (i - 1)) (pointAt ps i)) time ≡ true

@@ -12,23 +12,24 @@ use mir.Val.{Val}
 use denote.Laws.{Is}
 use denote.Struct.Declared.{row}
 use Rattle.numbers.specs.Order.{orderKey}
-use Rattle.points.specs.Laws.{and-left, and-right}
+use Rattle.points.proofs.Laws.{and-left, and-right}
 use Rattle.points.specs.Points.{listOf, validPoints, timeKey}
 use Rattle.points.specs.declared.Points.{Points}
 use Rattle.points.proofs.Points.{the-type}
 use Rattle.lookup.specs.Limits.{constrained}
 use Rattle.lookup.specs.Lookup.{pointAt}
 use Rattle.points.specs.Search.{placeBy}
-use Rattle.lookup.specs.LookupLaws.{raw-none, raw-one, valid-count, valid-finite, valid-rising}
+use Rattle.lookup.proofs.LookupLaws.{raw-none, raw-one, valid-count, valid-finite, valid-rising}
 use Rattle.render.specs.Render.{timeOf, sampleOr}
-use Rattle.lookup.specs.Runs.{run, run-same, run-constant}
+use Rattle.lookup.specs.Runs.{run}
+use Rattle.lookup.proofs.RunLaws.{run-same, run-constant}
 use Rattle.render.specs.Writer.{segmentAround, outsideAt, Stretch}
 use Rattle.lookup.specs.declared.Limits.{Limits}
 use Rattle.render.specs.declared.Segment.{Segment}
 use Rattle.lookup.proofs.Good.{inside as among}
 use Rattle.render.proofs.Fits.{times-fit}
 use Rattle.lookup.specs.Keys.{keysOf, EndsAt}
-use Rattle.lookup.specs.KeyLaws.{keys-place}
+use Rattle.lookup.proofs.KeyLaws.{keys-place}
 use Rattle.render.proofs.Segments.{sampleOf, place-inside, raw-outside, stretch-samples}
 
 module _ (ps : Points) (vs : List Val) (g : Is (row the-type) ps vs) (v : validPoints ps ≡ true) (w : 2 ≤ ps .count) where

@@ -44,6 +44,7 @@ unfolding toBuffer runInto validPoints every risingBy finite finiteControls cont
 thirteen = refl
 
 -- no points are silent, and the walk over them advances
-pub silent-step : nextSample (holding []) true free (record { «sample_rate» = t1; «current_sample» = 1; «total_samples» = 3 }) ≡ record { said = gives none; walk = record { «sample_rate» = t1; «current_sample» = 2; «total_samples» = 3 } }
+pub silent-step : nextSample (holding []) true free (record { «sample_rate» = t1; «current_sample» = 1; «total_samples» = 3 })
+    ≡ record { said = gives none; walk = record { «sample_rate» = t1; «current_sample» = 2; «total_samples» = 3 } }
 unfolding nextSample validPoints every risingBy foundAt code finite ofBits
 silent-step = refl

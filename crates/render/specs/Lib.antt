@@ -1,6 +1,5 @@
 -- 01, "Rendering", over the points, the switch and the limits of an envelope.
 pub mod Render
-pub mod RenderLaws
 pub mod Pieces
 pub mod Writer
 pub mod Examples

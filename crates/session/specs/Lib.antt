@@ -2,8 +2,3 @@
 pub mod Session
 pub mod Calls
 pub mod Play
--- Laws of these definitions.
-pub mod Slots
-pub mod One
-pub mod Ways
-pub mod Refusals

@@ -8,7 +8,7 @@ use lib.ListN.{length, set, length-append, length-take}
 use Rattle.points.specs.Checks.{gate}
 use Rattle.points.specs.Point.{unused}
 use Rattle.points.specs.Points.{listOf, holding, validPoints}
-use Rattle.points.specs.ValidLaws.{listOf-holding, holding-listOf}
+use Rattle.points.proofs.ValidLaws.{listOf-holding, holding-listOf}
 use Rattle.points.specs.declared.AutomationPoint.{AutomationPoint}
 use Rattle.points.specs.declared.Points.{Points}
 use Rattle.settle.specs.Settle.{plain, causes, refused, accepted, editPoints}

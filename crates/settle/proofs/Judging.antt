@@ -10,7 +10,7 @@ use Rattle.points.specs.Checks.{firstFailing, gate}
 use Rattle.points.specs.Point.{finitePoint}
 use Rattle.points.specs.Points.{every, rising, holding, validPoints}
 use Rattle.points.specs.Refusal.{number}
-use Rattle.points.specs.ValidLaws.{holding-valid}
+use Rattle.points.proofs.ValidLaws.{holding-valid}
 use Rattle.points.specs.declared.Points.{Points}
 use Rattle.points.specs.declared.refusal.Refusal.{Refusal}
 use Rattle.points.specs.declared.refusal.Refusal.the-variants.{NotValid, NotFinite, BoundsCross, TooManyPoints, TimesDontRise}

@@ -10,7 +10,7 @@ use lib.ListN.{length, take, getD, set}
 use lib.Seq.{lt-length-set, take-set-le, getD-set-same, getD-set-other}
 use Rattle.points.specs.Point.{finitePoint, anyPoint}
 use Rattle.points.specs.Points.{every, risingBy, timeKey, rising, listOf, validPoints}
-use Rattle.points.specs.Laws.{and-both, and-true, every-more, rising-next, rising-one}
+use Rattle.points.proofs.Laws.{and-both, and-true, every-more, rising-next, rising-one}
 use Rattle.points.specs.declared.AutomationPoint.{AutomationPoint}
 use Rattle.points.specs.declared.Points.{Points}
 use Rattle.points.specs.declared.refusal.Refusal.the-variants.{NotValid, NotFinite, TimesDontRise}

@@ -11,7 +11,7 @@ use denote.Shadow.{shadow}
 use denote.Laws.{Is}
 use denote.Struct.Declared.{row}
 use Rattle.points.specs.Points.{every, listOf}
-use Rattle.points.specs.Laws.{and-both}
+use Rattle.points.proofs.Laws.{and-both}
 use Rattle.points.specs.declared.AutomationPoint.{AutomationPoint}
 use Rattle.points.specs.declared.Points.{Points}
 use Rattle.points.proofs.AutomationPoint.{the-field}

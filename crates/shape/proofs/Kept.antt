@@ -13,8 +13,9 @@ use lib.Seq.{take-suc, getD-take}
 use borrow.Author.Tests.{eqb-true, eq-eqb, ne-eqb, not-true}
 use Rattle.points.specs.Point.{anyPoint}
 use Rattle.points.specs.Points.{every, timeKey, listOf, holding}
-use Rattle.points.specs.Laws.{and-left, and-right}
-use Rattle.points.specs.Middles.{middles, keep-cons, middles-yes, middles-no}
+use Rattle.points.proofs.Laws.{and-left, and-right}
+use Rattle.points.specs.Middles.{middles}
+use Rattle.points.proofs.MiddleLaws.{keep-cons, middles-yes, middles-no}
 use Rattle.points.specs.declared.AutomationPoint.{AutomationPoint}
 use Rattle.points.specs.declared.Points.{Points}
 use Rattle.settle.proofs.Ends.{pushed}
@@ -82,7 +83,8 @@ module _ {A : Type 0} where
   remove-nil q = refl
 
   -- the first: it goes
-  pub remove-here : (q : A → Bool) (l : List A) (i : ℕ) (d : A) → i < length l → (noneOf q (take i l) && q (getD l i d)) ≡ true → removeFirst q (take (i + 1) l) ≡ removeFirst q (take i l)
+  pub remove-here : (q : A → Bool) (l : List A) (i : ℕ) (d : A) → i < length l → (noneOf q (take i l) && q (getD l i d)) ≡ true
+      → removeFirst q (take (i + 1) l) ≡ removeFirst q (take i l)
   remove-here q l i d h y =
       let n = and-left (noneOf q (take i l)) (q (getD l i d)) y in
       let p = and-right (noneOf q (take i l)) (q (getD l i d)) y in
@@ -208,7 +210,9 @@ module _ (ps : Points) (n i : ℕ) (len : length (ps .places) ≡ 256) (used : n
     pub middles-push : out .count < 256 → q (at (i - 2)) (at (i - 1)) (at i) ≡ true → with out (at (i - 1)) ≡ holding (take 1 l ++ middles q (take (i + 1) l))
     middles-push b y =
         pushed out (take 1 l ++ middles q (take i l)) (at (i - 1)) (omega (arith, ap (λ (x : Points). x .count) e)) e
-        ∙ ap holding (ap (λ (x : AutomationPoint). (take 1 l ++ middles q (take i l)) ++ (x ∷ [])) (read (i - 1) (omega arith)) ∙ append-assoc (take 1 l) (middles q (take i l)) (getD l (i - 1) anyPoint ∷ [])
+        ∙ ap holding
+        (ap (λ (x : AutomationPoint). (take 1 l ++ middles q (take i l)) ++ (x ∷ [])) (read (i - 1) (omega arith)) ∙ append-assoc (take 1 l) (middles q (take i l))
+        (getD l (i - 1) anyPoint ∷ [])
         ∙ ap (λ (k : List AutomationPoint). take 1 l ++ k) (sym (middles-yes q l i anyPoint p (omega (arith, long)) (sym three ∙ y))))
 
     pub middles-pass : q (at (i - 2)) (at (i - 1)) (at i) ≡ false → out ≡ holding (take 1 l ++ middles q (take (i + 1) l))

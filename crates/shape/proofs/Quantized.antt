@@ -9,11 +9,11 @@ use borrow.Author.Tests.{ltb-true, eqb-true, eqb-false, ne-eqb, lt-ltb}
 use lib.Dec.{T, ltb, eqb}
 use lib.Ieee.{Float, le}
 use Rattle.numbers.specs.Bounds.{finite}
-use Rattle.numbers.specs.Tests.{yes}
+use Rattle.numbers.proofs.Tests.{yes}
 use Rattle.points.specs.Point.{finitePoint}
 use Rattle.points.specs.Points.{every, risingBy, rising, timeKey, listOf, holding, validPoints}
-use Rattle.points.specs.Laws.{and-left, and-right, and-both}
-use Rattle.points.specs.ValidLaws.{valid-finite, valid-rising}
+use Rattle.points.proofs.Laws.{and-left, and-right, and-both}
+use Rattle.points.proofs.ValidLaws.{valid-finite, valid-rising}
 use Rattle.points.specs.declared.AutomationPoint.{AutomationPoint}
 use Rattle.points.specs.declared.Points.{Points}
 use Rattle.settle.specs.Settle.{editPoints}
@@ -73,7 +73,8 @@ after-firsts p (q ∷ l) (next a o) =
 
 -- ---- what is kept rises
 
-rising-cons : (b : Bool) (p q : AutomationPoint) (k l : List AutomationPoint) → (b ≡ true → rising (p ∷ k) ≡ true) → (b ≡ false → ltb (timeKey p) (timeKey q) ≡ true) → rising (q ∷ l) ≡ true
+rising-cons : (b : Bool) (p q : AutomationPoint) (k l : List AutomationPoint) → (b ≡ true → rising (p ∷ k) ≡ true) → (b ≡ false → ltb (timeKey p) (timeKey q) ≡ true)
+    → rising (q ∷ l) ≡ true
     → rising (p ∷ cond b k (q ∷ l)) ≡ true
 unfolding risingBy
 rising-cons true p q k l f g h = f refl
@@ -102,14 +103,16 @@ module _ (grid : Float) (g : finite grid ≡ true) (a : le grid zero64 ≡ false
   unfolding every
   first-fits p l f = yes (and-left (timeFits p) _ f)
 
-  onward : (p : AutomationPoint) (l : List AutomationPoint) → every finitePoint (p ∷ l) ≡ true → every timeFits (p ∷ l) ≡ true → rising (p ∷ l) ≡ true → Onward (timeKey (to p)) (map to l)
+  onward : (p : AutomationPoint) (l : List AutomationPoint) → every finitePoint (p ∷ l) ≡ true → every timeFits (p ∷ l) ≡ true → rising (p ∷ l) ≡ true
+      → Onward (timeKey (to p)) (map to l)
   unfolding every risingBy
   onward p [] f t r = end
   onward p (q ∷ l) f t r =
       let f₁ = and-right (finitePoint p) _ f in
       let t₁ = and-right (timeFits p) _ t in
       next
-      (quantized-keeps-order grid (p .time) (q .time) g a (first-fits p (q ∷ l) t) (first-fits q l t₁) (first-finite p (q ∷ l) f) (first-finite q l f₁) (le-of-lt (ltb-true (timeKey p) (timeKey q) (and-left (ltb (timeKey p) (timeKey q)) _ r))))
+      (quantized-keeps-order grid (p .time) (q .time) g a (first-fits p (q ∷ l) t) (first-fits q l t₁) (first-finite p (q ∷ l) f) (first-finite q l f₁)
+      (le-of-lt (ltb-true (timeKey p) (timeKey q) (and-left (ltb (timeKey p) (timeKey q)) _ r))))
       (onward q l f₁ t₁ (and-right (ltb (timeKey p) (timeKey q)) _ r))
 
   repeats-firsts : (l : List AutomationPoint) → every finitePoint l ≡ true → every timeFits l ≡ true → rising l ≡ true → withoutRepeats (map to l) ≡ firsts (map to l)
@@ -132,7 +135,8 @@ quantized-stays grid l h = rw h
 -- on one above it
 pub ends-quantized : {r : EditedPoints} (ps new : Points) (grid : Float) {ok : Bool} → r ≡ finished ps ok new → ok ≡ finite grid → le grid zero64 ≡ false
     → every timeFits (listOf ps) ≡ true
-    → (validPoints ps ≡ true → new ≡ holding (withoutRepeats (map (changed (Quantize grid)) (listOf ps)))) → r ≡ editPoints ps (finite grid) (firsts (map (changed (Quantize grid)) (listOf ps)))
+    → (validPoints ps ≡ true → new ≡ holding (withoutRepeats (map (changed (Quantize grid)) (listOf ps))))
+    → r ≡ editPoints ps (finite grid) (firsts (map (changed (Quantize grid)) (listOf ps)))
 ends-quantized ps new grid f o a t made =
     ends-valid ps new (firsts (map (changed (Quantize grid)) (listOf ps))) f o
     (λ v g. made v ∙ ap holding (repeats-firsts grid (sym o ∙ g) a (listOf ps) (valid-finite ps v) t (valid-rising ps v)))

@@ -84,7 +84,8 @@ starts-dashes : (rest : List ℕ) → startsWith dashes (dashes ++ rest) ≡ tru
 unfolding startsWith
 starts-dashes rest = refl
 
-read-controls : (code a b : ℕ) (rest : List ℕ) → a < 16 ^ 8 → b < 16 ^ 8 → ((code ≡ 5 → ⊥) → (a ≡ 0) × (b ≡ 0)) → controlsForm code (controlsText code a b ++ rest) ≡ got (a, b) rest
+read-controls : (code a b : ℕ) (rest : List ℕ) → a < 16 ^ 8 → b < 16 ^ 8 → ((code ≡ 5 → ⊥) → (a ≡ 0) × (b ≡ 0))
+    → controlsForm code (controlsText code a b ++ rest) ≡ got (a, b) rest
 unfolding controlsForm
 read-controls code a b rest h k plain = on (eqb code 5) refl
   where

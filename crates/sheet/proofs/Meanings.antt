@@ -8,13 +8,13 @@ use lib.Ieee.{Float, Format, binary32, binary64, ofBits, toBits, fits, top}
 use lib.Ieee.Bits.{ofBits-toBits, toBits-ofBits, nanBits-is, toBits-lt}
 use borrow.Author.Tests.{ltb-true, eqb-true, eqb-false}
 use Rattle.numbers.specs.Bounds.{finite}
-use Rattle.numbers.specs.Tests.{yes}
+use Rattle.numbers.proofs.Tests.{yes}
 use Rattle.numbers.proofs.BitLaws.{finite-no-nan}
 use Rattle.curve.specs.Curve.{code, controls, curveOf, known, finiteControls}
-use Rattle.curve.specs.Laws.{code-lt, code-known, curveOf-code, code-curveOf, plain-controls}
+use Rattle.curve.proofs.Laws.{code-lt, code-known, curveOf-code, code-curveOf, plain-controls}
 use Rattle.curve.specs.declared.Controls.{Controls}
 use Rattle.curve.specs.declared.CurveType.{CurveType}
-use Rattle.points.specs.Laws.{and-left, and-right}
+use Rattle.points.proofs.Laws.{and-left, and-right}
 use Rattle.points.specs.Point.{finitePoint}
 use Rattle.points.specs.Refusal.{Said, refuses, gives}
 use Rattle.points.specs.declared.AutomationPoint.{AutomationPoint}
@@ -260,7 +260,8 @@ unfolding curveOf controls ofBits toBits
 controls-back r fine k a b e f = on (eqb (r .curve) 5) refl
   where
     on : (t : Bool) → eqb (r .curve) 5 ≡ t → (toBits binary32 (controls (curveOf (r .curve) a b) .cp1) ≡ r .cp1) × (toBits binary32 (controls (curveOf (r .curve) a b) .cp2) ≡ r .cp2)
-    on true t = let five = eqb-true (r .curve) 5 t in (ap (λ (n : ℕ). toBits binary32 (controls (curveOf n a b) .cp1)) five ∙ e, ap (λ (n : ℕ). toBits binary32 (controls (curveOf n a b) .cp2)) five ∙ f)
+    on true t = let five = eqb-true
+        (r .curve) 5 t in (ap (λ (n : ℕ). toBits binary32 (controls (curveOf n a b) .cp1)) five ∙ e, ap (λ (n : ℕ). toBits binary32 (controls (curveOf n a b) .cp2)) five ∙ f)
     on false t =
         let other = eqb-false (r .curve) 5 t in
         let z = fine .plain other in
@@ -282,7 +283,13 @@ rawOf time place value curve a b = record { time = time; position = place; value
 
 -- what the numbers of a point's line say that mean a point
 record Meant (r : RawPoint) (p : AutomationPoint) : Type 0 where
-  is : record { time = ofBits binary64 (r .time); «sample_position» = positionOf (r .position); value = ofBits binary32 (r .value); curve = curveOf (r .curve) (ofBits binary32 (r .cp1)) (ofBits binary32 (r .cp2)) } ≡ p
+  is : record {
+    time = ofBits binary64 (r .time);
+    «sample_position» = positionOf (r .position);
+    value = ofBits binary32 (r .value);
+    curve = curveOf (r .curve) (ofBits binary32 (r .cp1)) (ofBits binary32 (r .cp2));
+  }
+      ≡ p
   time : finite (ofBits binary64 (r .time)) ≡ true
   value : finite (ofBits binary32 (r .value)) ≡ true
   curve : known (r .curve) ≡ true
@@ -316,8 +323,11 @@ module _ (r : RawPoint) (p : AutomationPoint) (m : pointMeaning r ≡ gives p) w
       let v = bits-back binary32 (r .value) (omega (arith, fine .value)) (k .value) in
       let cs = controls-back r fine (k .curve) a b (bits-back binary32 (r .cp1) (omega (arith, fine .cp1)) (k .cp1)) (bits-back binary32 (r .cp2) (omega (arith, fine .cp2)) (k .cp2)) in
       ap rawPoint (sym (k .is))
-      ∙ ap (λ (n : ℕ). rawOf n (positionBits (positionOf (r .position))) (toBits binary32 (ofBits binary32 (r .value))) (code c) (toBits binary32 (controls c .cp1)) (toBits binary32 (controls c .cp2))) t
-      ∙ ap (λ (o : Optional). rawOf (r .time) o (toBits binary32 (ofBits binary32 (r .value))) (code c) (toBits binary32 (controls c .cp1)) (toBits binary32 (controls c .cp2))) (position-back (r .position))
+      ∙ ap
+      (λ (n : ℕ). rawOf n (positionBits (positionOf (r .position))) (toBits binary32 (ofBits binary32 (r .value))) (code c) (toBits binary32 (controls c .cp1))
+      (toBits binary32 (controls c .cp2))) t
+      ∙ ap (λ (o : Optional). rawOf (r .time) o (toBits binary32 (ofBits binary32 (r .value))) (code c) (toBits binary32 (controls c .cp1)) (toBits binary32 (controls c .cp2)))
+      (position-back (r .position))
       ∙ ap (λ (n : ℕ). rawOf (r .time) (r .position) n (code c) (toBits binary32 (controls c .cp1)) (toBits binary32 (controls c .cp2))) v
       ∙ ap (λ (n : ℕ). rawOf (r .time) (r .position) (r .value) n (toBits binary32 (controls c .cp1)) (toBits binary32 (controls c .cp2))) (code-curveOf (r .curve) a b (k .curve))
       ∙ ap (λ (n : ℕ). rawOf (r .time) (r .position) (r .value) (r .curve) n (toBits binary32 (controls c .cp2))) (cs .0)

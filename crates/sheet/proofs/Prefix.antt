@@ -15,7 +15,8 @@ use Rattle.points.specs.declared.AutomationPoint.{AutomationPoint}
 use Rattle.points.specs.declared.Points.{Points}
 use Rattle.envelope.specs.declared.AutomationEnvelope.{AutomationEnvelope}
 use Rattle.fields.specs.Form.{Got, bad, got, then, text, startsWith, nextIs, ended, digit, readDigits, numberForm, optionalForm, decimals, nextDigit, targetForm}
-use Rattle.lines.specs.Lines.{Line, refused, line, meant, lineOf, settingsForm, settingsLine, settingsMeaning, dashes, controlsForm, pointForm, pointLine, pointMeaning, blockForm, blockLine, blockMeaning}
+use Rattle.lines.specs.Lines.{Line, refused, line, meant, lineOf, settingsForm, settingsLine, settingsMeaning, dashes, controlsForm, pointForm, pointLine, pointMeaning, blockForm, blockLine}
+use Rattle.lines.specs.Lines.{blockMeaning}
 use Rattle.lines.specs.PointLines.{Lines, stop, lines, onward, blockNames, isEmpty, pointsEnd, cutShort, lineAfter, pointLines}
 use Rattle.sheet.specs.Sheet.{named, settingNames, pointNames, withSettings, sheetLines, lastLine, blockFrom, playInput, readFrom, readSheet}
 use Rattle.fields.specs.Text.{placesOf, decimalText}
@@ -116,12 +117,14 @@ some-decided w e = both (w + 1) 0 (numberForm 16 w e) (λ v rest. got (optional.
 optional-same : (w e : ℕ) → 1 ≤ w → (l m : List ℕ) → w + 1 ≤ length l → optionalForm w e (l ++ m) ≡ more m (optionalForm w e l)
 unfolding optionalForm nextIs
 optional-same w e p [] m h = absurd (omega arith)
-optional-same w e p (b ∷ l) m h = pick-same (eqb b 45) m (ended e optional.None l) (then (numberForm 16 w e (b ∷ l)) (λ v rest. got (optional.Bits v) rest)) (ended-same e optional.None l m (omega arith)) (some-decided w e .same (b ∷ l) m (omega arith))
+optional-same w e p (b ∷ l) m h = pick-same (eqb b 45) m (ended e optional.None l) (then (numberForm 16 w e (b ∷ l)) (λ v rest. got (optional.Bits v) rest))
+    (ended-same e optional.None l m (omega arith)) (some-decided w e .same (b ∷ l) m (omega arith))
 
 optional-left : (w e : ℕ) → 1 ≤ w → (n : ℕ) (l : List ℕ) → n + (w + 1) ≤ length l → Left n (optionalForm w e l)
 unfolding optionalForm nextIs
 optional-left w e p n [] h = absurd (omega arith)
-optional-left w e p n (b ∷ l) h = pick-left (eqb b 45) n (ended e optional.None l) (then (numberForm 16 w e (b ∷ l)) (λ v rest. got (optional.Bits v) rest)) (ended-left e optional.None n l (omega arith)) (some-decided w e .left n (b ∷ l) (omega arith))
+optional-left w e p n (b ∷ l) h = pick-left (eqb b 45) n (ended e optional.None l) (then (numberForm 16 w e (b ∷ l)) (λ v rest. got (optional.Bits v) rest))
+    (ended-left e optional.None n l (omega arith)) (some-decided w e .left n (b ∷ l) (omega arith))
 
 optional-decided : (w e : ℕ) → 1 ≤ w → Decided (w + 1) (optionalForm w e)
 optional-decided w e p = record { same = optional-same w e p; left = optional-left w e p }
@@ -318,7 +321,8 @@ module _ (program : Bool) (room : ℕ) (before : List AutomationPoint) where
   next p rest = cond (rising (before ++ (p ∷ []))) (pointLines program room (before ++ (p ∷ [])) rest) (stop 6 (lineAfter before))
 
   step-same : (l m : List ℕ) (t : Bool) (x : Line AutomationPoint) → LeftLine (room * 64 + 49) x
-      → ((p : AutomationPoint) (rest : List ℕ) → Enough room rest → pointLines program room (before ++ (p ∷ [])) (rest ++ m) ≡ moreLines m (pointLines program room (before ++ (p ∷ [])) rest))
+      → ((p : AutomationPoint) (rest : List ℕ) → Enough room rest
+      → pointLines program room (before ++ (p ∷ [])) (rest ++ m) ≡ moreLines m (pointLines program room (before ++ (p ∷ [])) rest))
       → cond t (lines (holding before) (l ++ m)) (onward (lineAfter before) (moreLine m x) (λ p rest. next p rest))
       ≡ moreLines m (cond t (lines (holding before) l) (onward (lineAfter before) x (λ p rest. next p rest)))
   unfolding next
@@ -326,7 +330,9 @@ module _ (program : Bool) (room : ℕ) (before : List AutomationPoint) where
   step-same l m false (refused n) h f = refl
   step-same l m false (line p rest) h f = on (rising (before ++ (p ∷ [])))
     where
-      on : (t : Bool) → cond t (pointLines program room (before ++ (p ∷ [])) (rest ++ m)) (stop 6 (lineAfter before)) ≡ moreLines m (cond t (pointLines program room (before ++ (p ∷ [])) rest) (stop 6 (lineAfter before)))
+      on : (t : Bool)
+          → cond t (pointLines program room (before ++ (p ∷ [])) (rest ++ m)) (stop 6 (lineAfter before))
+          ≡ moreLines m (cond t (pointLines program room (before ++ (p ∷ [])) rest) (stop 6 (lineAfter before)))
       on true = f p rest h
       on false = refl
 
@@ -342,7 +348,8 @@ module _ (program : Bool) (room : ℕ) (before : List AutomationPoint) where
       on true = f p rest h
       on false = tt
 
-points-same : (program : Bool) (room : ℕ) (before : List AutomationPoint) (l m : List ℕ) → Enough room l → pointLines program room before (l ++ m) ≡ moreLines m (pointLines program room before l)
+points-same : (program : Bool) (room : ℕ) (before : List AutomationPoint) (l m : List ℕ) → Enough room l
+    → pointLines program room before (l ++ m) ≡ moreLines m (pointLines program room before l)
 unfolding pointLines pointLine next
 points-same program zero before l m h =
     let e = empty-same l m (omega arith) in
@@ -410,7 +417,8 @@ module _ (program : Bool) where
 
   head-same : (l m : List ℕ) → 16508 ≤ length l → onward 2 (settingsLine (l ++ m)) after ≡ moreLines m (onward 2 (settingsLine l) after)
   unfolding settingsLine after
-  head-same l m h = ap (λ (x : Line Settings). onward 2 x after) (line-same settingsMeaning settings-decided l m (omega arith)) ∙ on (lineOf settingsMeaning (settingsForm l)) (line-left settingsMeaning settings-decided 16467 l (omega arith))
+  head-same l m h = ap (λ (x : Line Settings). onward 2 x after) (line-same settingsMeaning settings-decided l m (omega arith))
+      ∙ on (lineOf settingsMeaning (settingsForm l)) (line-left settingsMeaning settings-decided 16467 l (omega arith))
     where
       on : (x : Line Settings) → LeftLine 16467 x → onward 2 (moreLine m x) after ≡ moreLines m (onward 2 x after)
       on (refused n) h = refl

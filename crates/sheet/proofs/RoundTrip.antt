@@ -50,7 +50,8 @@ unfolding writeSheet
 call-is-read e out n t q = on (validEnvelope e) refl (leb (length (sheetText e)) (length out)) q
   where
     told : Bool → Bool → WriteTold
-    told v b = cond v (cond b (record { said = gives (length (sheetText e)); bytes = sheetText e ++ drop (length (sheetText e)) out }) (record { said = refuses 8; bytes = out })) (record { said = refuses 1; bytes = out })
+    told v b = cond v (cond b (record { said = gives (length (sheetText e)); bytes = sheetText e ++ drop (length (sheetText e)) out }) (record { said = refuses 8; bytes = out }))
+        (record { said = refuses 1; bytes = out })
 
     on : (v : Bool) → validEnvelope e ≡ v → (b : Bool) → told v b .said ≡ gives n → readSheet (take n (told v b .bytes)) ≡ sheet e
     on true v true q =

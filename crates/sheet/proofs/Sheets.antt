@@ -9,9 +9,9 @@ use lib.Dec.{ltb, eqb}
 use lib.ListN.{length, take, drop, replicate, length-append, length-drop, take-append-drop}
 use lib.Seq.{take-append-seam, drop-append-seam, length-take-le}
 use Rattle.curve.specs.Curve.{code}
-use Rattle.curve.specs.Laws.{linear-is}
+use Rattle.curve.proofs.Laws.{linear-is}
 use Rattle.curve.specs.declared.CurveType.{CurveType}
-use Rattle.points.specs.Laws.{and-left, and-right, and-false, every-append}
+use Rattle.points.proofs.Laws.{and-left, and-right, and-false, every-append}
 use Rattle.points.specs.Point.{finitePoint, unused, zeroFloat, isUnused, isPlusZero, isNone}
 use Rattle.points.specs.Points.{listOf, restOf, holding, every, timeKey, rising, risingBy, validPoints}
 use Rattle.points.specs.Refusal.{Said, refuses, gives}
@@ -82,7 +82,8 @@ record PointsRead (program : Bool) (room : ℕ) (before : List AutomationPoint) 
   text : l ≡ pointTexts ps ++ rest
 
 module _ (program : Bool) (all : Points) (rest : List ℕ) where
-  none-read : (room : ℕ) (before : List AutomationPoint) (l : List ℕ) → rising before ≡ true → pointsEnd program l ≡ true → lines (holding before) l ≡ lines all rest → PointsRead program room before l all rest
+  none-read : (room : ℕ) (before : List AutomationPoint) (l : List ℕ) → rising before ≡ true → pointsEnd program l ≡ true → lines (holding before) l ≡ lines all rest
+      → PointsRead program room before l all rest
   unfolding every pointTexts
   none-read room before l r e q =
       let s : holding before ≡ all = cc in
@@ -110,11 +111,13 @@ module _ (program : Bool) (all : Points) (rest : List ℕ) where
     text = line-text l p m e ∙ ap (λ (x : List ℕ). pointText (rawPoint p) ++ x) (w .text) ∙ sym (append-assoc (pointText (rawPoint p)) (pointTexts (w .ps)) rest);
   }
 
-  points-read : (room : ℕ) (before : List AutomationPoint) (l : List ℕ) → rising before ≡ true → pointLines program room before l ≡ lines all rest → PointsRead program room before l all rest
+  points-read : (room : ℕ) (before : List AutomationPoint) (l : List ℕ) → rising before ≡ true → pointLines program room before l ≡ lines all rest
+      → PointsRead program room before l all rest
   unfolding pointLines
   points-read zero before l r q = on (pointsEnd program l) refl (isEmpty l || cutShort program l) q
     where
-      on : (t : Bool) → pointsEnd program l ≡ t → (u : Bool) → cond t (lines (holding before) l) (cond u (stop 9 (lineAfter before)) (stop 5 (lineAfter before))) ≡ lines all rest → PointsRead program zero before l all rest
+      on : (t : Bool) → pointsEnd program l ≡ t → (u : Bool) → cond t (lines (holding before) l) (cond u (stop 9 (lineAfter before)) (stop 5 (lineAfter before))) ≡ lines all rest
+          → PointsRead program zero before l all rest
       on true e u q = none-read zero before l r e q
       on false e true q = no-lines q
       on false e false q = no-lines q
@@ -131,8 +134,11 @@ module _ (program : Bool) (all : Points) (rest : List ℕ) where
       rose p m false t e q f = no-lines q
 
       on : (t : Bool) → pointsEnd program l ≡ t → (x : Line AutomationPoint) → pointLine l ≡ x
-          → cond t (lines (holding before) l) (onward (lineAfter before) x (λ p m. cond (rising (before ++ (p ∷ []))) (pointLines program room (before ++ (p ∷ [])) m) (stop 6 (lineAfter before)))) ≡ lines all rest
-          → ((p : AutomationPoint) (m : List ℕ) → rising (before ++ (p ∷ [])) ≡ true → pointLines program room (before ++ (p ∷ [])) m ≡ lines all rest → PointsRead program room (before ++ (p ∷ [])) m all rest)
+          → cond t (lines (holding before) l)
+          (onward (lineAfter before) x (λ p m. cond (rising (before ++ (p ∷ []))) (pointLines program room (before ++ (p ∷ [])) m) (stop 6 (lineAfter before))))
+          ≡ lines all rest
+          → ((p : AutomationPoint) (m : List ℕ) → rising (before ++ (p ∷ [])) ≡ true → pointLines program room (before ++ (p ∷ [])) m ≡ lines all rest
+          → PointsRead program room (before ++ (p ∷ [])) m all rest)
           → PointsRead program (suc room) before l all rest
       on true e x k q f = none-read (suc room) before l r e q
       on false e (refused n) k q f = no-lines q
@@ -205,7 +211,8 @@ sheet-read program l e rest q =
           ∙ ap (λ (x : List ℕ). pointNames ++ x) (w .text)))
           ∙ texts settingNames (settingsText r) pointNames (pointTexts (w .ps)) rest
           ∙ ap (λ (x : RawSettings). (settingNames ++ (settingsText x ++ (pointNames ++ pointTexts (w .ps)))) ++ rest) (sym (settings-back r s h m (found .fine)))
-          ∙ ap (λ (x : List AutomationPoint). (settingNames ++ (settingsText (rawSettings (envelopeOf s h)) ++ (pointNames ++ pointTexts x))) ++ rest) (sym (take-append-seam (w .ps) (replicate (256 - length (w .ps)) unused)));
+          ∙ ap (λ (x : List AutomationPoint). (settingNames ++ (settingsText (rawSettings (envelopeOf s h)) ++ (pointNames ++ pointTexts x))) ++ rest)
+          (sym (take-append-seam (w .ps) (replicate (256 - length (w .ps)) unused)));
     }))))))
 
 -- ---- the lines that were written

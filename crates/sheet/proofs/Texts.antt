@@ -9,7 +9,7 @@ use borrow.Author.Tests.{eq-eqb, ne-eqb, eqb-true, eqb-false}
 use lib.Dec.{eqb}
 use lib.ListN.{length, take, getD, length-append, length-take}
 use lib.Seq.{take-suc}
-use Rattle.points.specs.Laws.{and-right, and-left}
+use Rattle.points.proofs.Laws.{and-right, and-left}
 use Rattle.points.specs.Points.{listOf, every}
 use Rattle.points.specs.declared.AutomationPoint.{AutomationPoint}
 use Rattle.envelope.specs.declared.AutomationEnvelope.{AutomationEnvelope}

@@ -6,7 +6,7 @@ use borrow.Author.Tests.{leb-true}
 use lib.Dec.{leb}
 use Rattle.numbers.specs.Bounds.{finite}
 use Rattle.curve.specs.Curve.{controls, finiteControls}
-use Rattle.points.specs.Laws.{and-left, and-right}
+use Rattle.points.proofs.Laws.{and-left, and-right}
 use Rattle.points.specs.Point.{finitePoint, isUnused}
 use Rattle.points.specs.Points.{listOf, restOf, every, rising, validPoints}
 use Rattle.points.specs.declared.AutomationPoint.{AutomationPoint}

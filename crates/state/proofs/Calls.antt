@@ -9,7 +9,7 @@ use lib.Dec.{eqb}
 use lib.ListN.{length, take, drop}
 use Rattle.points.specs.Refusal.{refuses, gives}
 use Rattle.points.specs.Points.{everyPair}
-use Rattle.points.specs.Laws.{and-false, and-both, pair-length}
+use Rattle.points.proofs.Laws.{and-false, and-both, pair-length}
 use Rattle.points.specs.declared.refusal.Refusal.the-variants.{StoredState}
 use Rattle.points.specs.declared.refusal.Answer.the-variants.{Accepted}
 use Rattle.envelope.specs.Envelope.{new, validEnvelope}
@@ -17,7 +17,7 @@ use Rattle.envelope.specs.Edit.{toldEdit, refusedEdit}
 use Rattle.envelope.specs.declared.AutomationEnvelope.{AutomationEnvelope}
 use Rattle.envelope.specs.declared.Edited.{Edited}
 use Rattle.state.specs.State.{packSettings, packPoints, pointsOf, pack, stateOf, ifTest, unpacked, readAs, readState, stateOver, writeState}
-use Rattle.state.specs.StateLaws.{length-places, length-pointsOf}
+use Rattle.state.proofs.StateLaws.{length-places, length-pointsOf}
 use Rattle.state.proofs.Words.{same-state}
 
 -- ---- writing
@@ -64,7 +64,8 @@ module _ (w : List ℕ) where
       ap (λ (b : Bool). ifTest b (stateOf w))
       (ap (λ (b : Bool). validEnvelope (stateOf w) && b) (pair-length eqb (pack (stateOf w)) w (λ e. h (sym e ∙ length-read))) ∙ and-false (validEnvelope (stateOf w)))
 
-  pub accepted : (b : Bool) (e : AutomationEnvelope) → unpacked w ≡ ifTest b (stateOf w) → b ≡ true → e ≡ stateOf w → toldEdit (record { answer = Accepted; envelope = e }) ≡ readState w
+  pub accepted : (b : Bool) (e : AutomationEnvelope) → unpacked w ≡ ifTest b (stateOf w) → b ≡ true → e ≡ stateOf w
+      → toldEdit (record { answer = Accepted; envelope = e }) ≡ readState w
   unfolding readState
   accepted b e u h k = ap (λ (s : AutomationEnvelope). readAs (some s)) k ∙ ap readAs (sym (u ∙ ap (λ (t : Bool). ifTest t (stateOf w)) h))
 

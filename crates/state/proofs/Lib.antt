@@ -1,3 +1,5 @@
 pub mod Good
 pub mod Words
 pub mod Calls
+-- Laws of the definitions in specs/.
+pub mod StateLaws

@@ -13,12 +13,12 @@ use Rattle.curve.specs.Curve.{code, controls, curveOf}
 use lib.ListN.{length, getD, take, drop, set, length-drop, take-append-drop}
 use lib.Seq.{sets, sets-eq, length-sets, take-suc, take-suc-set, take-all, take-add, drop-cons, drop-drop, getD-drop, length-take-le}
 use Rattle.points.specs.Points.{everyPair}
-use Rattle.points.specs.Laws.{and-true, and-assoc, and-both, and-left, and-right}
+use Rattle.points.proofs.Laws.{and-true, and-assoc, and-both, and-left, and-right}
 use Rattle.points.specs.Point.{unused}
 use Rattle.points.specs.declared.AutomationPoint.{AutomationPoint}
 use Rattle.envelope.specs.declared.AutomationEnvelope.{AutomationEnvelope}
 use Rattle.state.specs.State.{packSettings, packPoint, pointOf, packPoints, pointsOf, pack}
-use Rattle.state.specs.StateLaws.{length-settings, length-points, length-places, length-pointsOf}
+use Rattle.state.proofs.StateLaws.{length-settings, length-points, length-places, length-pointsOf}
 
 -- ---- runs of stores
 
@@ -192,7 +192,8 @@ module _ (w : List ℕ) (i : ℕ) (p : AutomationPoint) (is : p ≡ pointOf (dro
       ∙ sym more
 
   -- where it stands already
-  pub stands-turn : (places : List AutomationPoint) (d : AutomationPoint) → i < length places → getD places i d ≡ p → take i places ≡ pointsOf i (drop 4 w) → take (i + 1) places ≡ pointsOf (i + 1) (drop 4 w)
+  pub stands-turn : (places : List AutomationPoint) (d : AutomationPoint) → i < length places → getD places i d ≡ p → take i places ≡ pointsOf i (drop 4 w)
+      → take (i + 1) places ≡ pointsOf (i + 1) (drop 4 w)
   stands-turn places d h e inv =
       ap (λ (k : ℕ). take k places) (add-one i)
       ∙ take-suc places i d h

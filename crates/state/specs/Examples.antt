@@ -19,7 +19,15 @@ point = record { time = ofBits binary64 0x3FD0_0000_0000_0000; «sample_position
 
 -- minimum -1.0, step 0.5
 abbrev envelope : AutomationEnvelope
-envelope = record { target = 7; points = holding (point ∷ []); enabled = true; «min_value» = limit.Number (ofBits binary32 0xBF80_0000); «max_value» = limit.None; «step_size» = limit.Number (ofBits binary32 0x3F00_0000) }
+envelope =
+    record {
+      target = 7;
+      points = holding (point ∷ []);
+      enabled = true;
+      «min_value» = limit.Number (ofBits binary32 0xBF80_0000);
+      «max_value» = limit.None;
+      «step_size» = limit.Number (ofBits binary32 0x3F00_0000);
+    }
 
 -- the four words of settings
 pub settings-words : packSettings envelope ≡ 0x0000_000B_0000_0007 ∷ 1 ∷ 0xBF80_0000 ∷ 0x3F00_0000 ∷ []

@@ -7,18 +7,19 @@ use mathlib.Core.Option.{some}
 use native.Mathlib.Omega.{arith}
 use Rattle.points.specs.Refusal.{gives}
 use Rattle.lookup.specs.Lookup.{sampleKey, valueAtSample, told}
-use Rattle.lookup.specs.LookupLaws.{valid-count}
+use Rattle.lookup.proofs.LookupLaws.{valid-count}
 use Rattle.analysis.specs.Analysis.{givenValues}
 use Rattle.lookup.specs.Runs.{run}
 use Rattle.analysis.specs.Ranges.{noValues, widen, valuesAtSamples}
 use Rattle.lookup.proofs.Good.{inside}
-use Rattle.lookup.specs.KeyLaws.{keys-place}
+use Rattle.lookup.proofs.KeyLaws.{keys-place}
 use Rattle.analysis.proofs.Ranges.{lookup-turn, sample-early, sample-late, sample-within, stop-within}
 use Rattle.analysis.proofs.bounds_of_samples.Statement.{statement}
 use Rattle.analysis.proofs.bounds_of_samples.Tie as tie
 
 abbrev Inv-loop : tie.InvT-loop
-Inv-loop limits start step stops points n one early late first-key last-key keys bounds₀ k₀ bounds k = (k ≤ stops) × (bounds ≡ foldl widen noValues (valuesAtSamples points true limits start step k))
+Inv-loop limits start step stops points n one early late first-key last-key keys bounds₀ k₀ bounds k =
+    (k ≤ stops) × (bounds ≡ foldl widen noValues (valuesAtSamples points true limits start step k))
 
 abbrev μ-loop : tie.MeasureT-loop
 μ-loop limits start step stops points n one early late first-key last-key keys bounds₀ k₀ bounds k = stops - k
@@ -58,10 +59,14 @@ unfolding run givenValues
 loop-holds c = (omega arith, c .no-values .ensures)
 
 mul-sample : tie.Need-mul-sample Inv-loop μ-loop
-mul-sample c = omega (arith, stop-within (c .before .loop .k) (c .before .before .before .before .before .before .before .before .before .before .args .stops) (c .before .before .before .before .before .before .before .before .before .before .args .step) (c .before .loop .inv .0))
+mul-sample c =
+    let args = c .before .before .before .before .before .before .before .before .before .before .args in
+    omega (arith, stop-within (c .before .loop .k) (args .stops) (args .step) (c .before .loop .inv .0))
 
 add-sample : tie.Need-add-sample Inv-loop μ-loop
-add-sample c = omega (arith, stop-within (c .before .loop .k) (c .before .before .before .before .before .before .before .before .before .before .args .stops) (c .before .before .before .before .before .before .before .before .before .before .args .step) (c .before .loop .inv .0))
+add-sample c =
+    let args = c .before .before .before .before .before .before .before .before .before .before .args in
+    omega (arith, stop-within (c .before .loop .k) (args .stops) (args .step) (c .before .loop .inv .0))
 
 add-k : tie.Need-add-k Inv-loop μ-loop
 add-k c = omega arith
@@ -74,11 +79,17 @@ loop-less c = omega arith
 
 loop-again : tie.Need-loop-again Inv-loop μ-loop
 loop-again c =
+    let good = c .before .before .before .before .before .before .before .before .before .before .before .before .good in
+    let pre = c .before .before .before .before .before .before .before .before .before .before .before .before .pre in
+    let apply-constraints = c .before .before .before .before .before .before .before .before .before .apply-constraints in
+    let start-key = c .before .before .before .before .before .before .before .start-key in
     let a = c .before .before .before .before .before .before .before .before .before .before .before .before .args in
     let h = c .before .before .before .loop in (
       omega arith,
-      lookup-turn (λ k. valueAtSample (a .t1) true (a .limits) (a .start + k * a .step)) (h .k) (h .bounds) (c .widen .result) (gives (some (c .before .before .before .before .before .before .before .before .before .apply-constraints .result))) (h .inv .1) (c .widen .ensures)
-          (sample-early (a .t1) (inside (a .t1) _ (c .before .before .before .before .before .before .before .before .before .before .before .before .good .0) (c .before .before .before .before .before .before .before .before .before .before .before .before .pre .0)) (c .before .before .before .before .before .before .before .before .before .before .before .before .pre .1) (a .limits) (a .start + h .k * a .step) (c .before .before .before .before .before .before .before .start-key .result) (c .before .before .before .before .before .before .before .start-key .ensures) (c .before .if1 .taken) (c .before .before .before .before .before .before .before .before .before .apply-constraints .result) (c .before .before .before .before .before .before .before .before .before .apply-constraints .ensures)),
+      lookup-turn (λ k. valueAtSample (a .t1) true (a .limits) (a .start + k * a .step)) (h .k) (h .bounds) (c .widen .result) (gives (some (apply-constraints .result))) (h .inv .1)
+          (c .widen .ensures)
+          (sample-early (a .t1) (inside (a .t1) _ (good .0) (pre .0)) (pre .1) (a .limits) (a .start + h .k * a .step) (start-key .result) (start-key .ensures)
+          (c .before .if1 .taken) (apply-constraints .result) (apply-constraints .ensures)),
     )
 
 widen-requires-2 : tie.Need-widen-requires-2 Inv-loop μ-loop
@@ -89,11 +100,19 @@ loop-less-2 c = omega arith
 
 loop-again-2 : tie.Need-loop-again-2 Inv-loop μ-loop
 loop-again-2 c =
+    let good = c .before .before .before .before .before .before .before .before .before .before .before .before .before .good in
+    let pre = c .before .before .before .before .before .before .before .before .before .before .before .before .before .pre in
+    let apply-constraints2 = c .before .before .before .before .before .before .before .before .before .apply-constraints2 in
+    let start-key = c .before .before .before .before .before .before .before .before .start-key in
+    let sample-key = c .before .before .before .before .before .before .before .sample-key in
+    let if1 = c .before .before .if1 in
     let a = c .before .before .before .before .before .before .before .before .before .before .before .before .before .args in
     let h = c .before .before .before .before .loop in (
       omega arith,
-      lookup-turn (λ k. valueAtSample (a .t1) true (a .limits) (a .start + k * a .step)) (h .k) (h .bounds) (c .widen2 .result) (gives (some (c .before .before .before .before .before .before .before .before .before .apply-constraints2 .result))) (h .inv .1) (c .widen2 .ensures)
-          (sample-late (a .t1) (inside (a .t1) _ (c .before .before .before .before .before .before .before .before .before .before .before .before .before .good .0) (c .before .before .before .before .before .before .before .before .before .before .before .before .before .pre .0)) (c .before .before .before .before .before .before .before .before .before .before .before .before .before .pre .1) (a .limits) (a .start + h .k * a .step) (c .before .before .before .before .before .before .before .before .start-key .result) (c .before .before .before .before .before .before .before .before .start-key .ensures) (c .before .before .if1 .left) (c .before .before .before .before .before .before .before .sample-key .result) (c .before .before .before .before .before .before .before .sample-key .ensures) (c .before .if2 .taken) (c .before .before .before .before .before .before .before .before .before .apply-constraints2 .result) (c .before .before .before .before .before .before .before .before .before .apply-constraints2 .ensures)),
+      lookup-turn (λ k. valueAtSample (a .t1) true (a .limits) (a .start + k * a .step)) (h .k) (h .bounds) (c .widen2 .result) (gives (some (apply-constraints2 .result))) (h .inv .1)
+          (c .widen2 .ensures)
+          (sample-late (a .t1) (inside (a .t1) _ (good .0) (pre .0)) (pre .1) (a .limits) (a .start + h .k * a .step) (start-key .result) (start-key .ensures) (if1 .left)
+          (sample-key .result) (sample-key .ensures) (c .before .if2 .taken) (apply-constraints2 .result) (apply-constraints2 .ensures)),
     )
 
 search-requires : tie.Need-search-requires Inv-loop μ-loop
@@ -133,12 +152,38 @@ loop-again-3 : tie.Need-loop-again-3 Inv-loop μ-loop
 loop-again-3 c =
     let a = c .before .before .before .before .before .before .before .before .before .before .before .before .before .before .before .before .before .before .before .before .before .args in
     let h = c .before .before .before .before .before .before .before .before .before .before .before .before .loop in
-    let f = inside (a .t1) _ (c .before .before .before .before .before .before .before .before .before .before .before .before .before .before .before .before .before .before .before .before .before .good .0) (c .before .before .before .before .before .before .before .before .before .before .before .before .before .before .before .before .before .before .before .before .before .pre .0) in
+    let f = inside (a .t1) _
+    (c .before .before .before .before .before .before .before .before .before .before .before .before .before .before .before .before .before .before .before .before .before .good .0)
+    (c .before .before .before .before .before .before .before .before .before .before .before .before .before .before .before .before .before .before .before .before .before .pre .0) in
     let sample = a .start + h .k * a .step in
-    let j = keys-place sampleKey (a .t1 .places) (c .before .before .before .before .before .before .before .before .before .before .before .before .before .before .keys .result) (a .t1 .count) f (valid-count (a .t1) (c .before .before .before .before .before .before .before .before .before .before .before .before .before .before .before .before .before .before .before .before .before .pre .0)) (c .before .before .before .before .before .before .before .before .before .before .before .before .before .before .keys .ensures) (c .before .before .before .before .before .before .before .before .before .before .before .before .before .before .before .before .before .before .before .before .before .pre .2) sample sample (c .before .before .before .before .before .before .before .search .result) refl (c .before .before .before .before .before .before .before .search .ensures) in (
+    let j = keys-place sampleKey (a .t1 .places) (c .before .before .before .before .before .before .before .before .before .before .before .before .before .before .keys .result)
+    (a .t1 .count) f
+    (valid-count (a .t1)
+    (c .before .before .before .before .before .before .before .before .before .before .before .before .before .before .before .before .before .before .before .before
+    .before .pre .0))
+    (c .before .before .before .before .before .before .before .before .before .before .before .before .before .before .keys .ensures)
+    (c .before .before .before .before .before .before .before .before .before .before .before .before .before .before .before .before .before .before .before .before
+    .before .pre .2) sample sample
+    (c .before .before .before .before .before .before .before .search .result) refl (c .before .before .before .before .before .before .before .search .ensures) in (
       omega arith,
-      lookup-turn (λ k. valueAtSample (a .t1) true (a .limits) (a .start + k * a .step)) (h .k) (h .bounds) (c .add-lookup .result) (told (c .before .constrain .result)) (h .inv .1) (c .add-lookup .ensures)
-          (sample-within (a .t1) f (c .before .before .before .before .before .before .before .before .before .before .before .before .before .before .before .before .before .before .before .before .before .pre .1) (a .limits) sample (c .before .before .before .before .before .before .before .before .before .before .before .before .before .before .before .before .start-key .result) (c .before .before .before .before .before .before .before .before .before .before .before .before .before .before .before .before .start-key .ensures) (c .before .before .before .before .before .before .before .before .before .before .if1 .left) (c .before .before .before .before .before .before .before .before .before .before .before .before .before .before .before .sample-key .result) (c .before .before .before .before .before .before .before .before .before .before .before .before .before .before .before .sample-key .ensures) (c .before .before .before .before .before .before .before .before .before .if2 .left) (valid-count (a .t1) (c .before .before .before .before .before .before .before .before .before .before .before .before .before .before .before .before .before .before .before .before .before .pre .0)) (c .before .before .before .before .before .before .before .search .result) (c .before .before .before .before .before .before .previous .result) (c .before .before .before .before .before .within .result) j (c .before .before .before .before .before .before .previous .ensures) (c .before .before .before .before .before .within .ensures) (c .before .before .around .result) (c .before .constrain .result) (c .before .before .around .ensures) (c .before .constrain .ensures)),
+      lookup-turn (λ k. valueAtSample (a .t1) true (a .limits) (a .start + k * a .step)) (h .k) (h .bounds) (c .add-lookup .result) (told (c .before .constrain .result)) (h .inv .1)
+          (c .add-lookup .ensures)
+          (sample-within (a .t1) f
+          (c .before .before .before .before .before .before .before .before .before .before .before .before .before .before .before .before .before .before .before
+          .before .before .pre .1)
+          (a .limits) sample (c .before .before .before .before .before .before .before .before .before .before .before .before .before .before .before .before .start-key .result)
+          (c .before .before .before .before .before .before .before .before .before .before .before .before .before .before .before .before .start-key .ensures)
+          (c .before .before .before .before .before .before .before .before .before .before .if1 .left)
+          (c .before .before .before .before .before .before .before .before .before .before .before .before .before .before .before .sample-key .result)
+          (c .before .before .before .before .before .before .before .before .before .before .before .before .before .before .before .sample-key .ensures)
+          (c .before .before .before .before .before .before .before .before .before .if2 .left)
+          (valid-count (a .t1)
+          (c .before .before .before .before .before .before .before .before .before .before .before .before .before .before .before .before .before .before
+          .before .before .before .pre .0))
+          (c .before .before .before .before .before .before .before .search .result) (c .before .before .before .before .before .before .previous .result)
+          (c .before .before .before .before .before .within .result) j (c .before .before .before .before .before .before .previous .ensures)
+          (c .before .before .before .before .before .within .ensures) (c .before .before .around .result) (c .before .constrain .result) (c .before .before .around .ensures)
+          (c .before .constrain .ensures)),
     )
 
 returns : tie.Need-returns Inv-loop μ-loop

@@ -9,12 +9,12 @@ use Rattle.numbers.specs.Order.{orderKey}
 use Rattle.points.specs.Points.{timeKey}
 use Rattle.points.specs.Refusal.{gives}
 use Rattle.lookup.specs.Lookup.{valueAt, told}
-use Rattle.lookup.specs.LookupLaws.{valid-count, valid-rising}
+use Rattle.lookup.proofs.LookupLaws.{valid-count, valid-rising}
 use Rattle.analysis.specs.Analysis.{givenValues, rangeTime}
 use Rattle.lookup.specs.Runs.{run}
 use Rattle.analysis.specs.Ranges.{noValues, widen, valuesAtTimes}
 use Rattle.lookup.proofs.Good.{inside}
-use Rattle.lookup.specs.KeyLaws.{keys-place}
+use Rattle.lookup.proofs.KeyLaws.{keys-place}
 use Rattle.analysis.proofs.Ranges.{lookup-turn, time-early, time-late, time-inner}
 use Rattle.analysis.proofs.bounds_of_times.Statement.{statement}
 use Rattle.analysis.proofs.bounds_of_times.Tie as tie
@@ -67,11 +67,16 @@ loop-less c = omega arith
 
 loop-again : tie.Need-loop-again Inv-loop μ-loop
 loop-again c =
+    let good = c .before .before .before .before .before .before .before .before .before .before .before .before .good in
+    let pre = c .before .before .before .before .before .before .before .before .before .before .before .before .pre in
+    let apply-constraints = c .before .before .before .before .before .before .before .before .before .apply-constraints in
     let a = c .before .before .before .before .before .before .before .before .before .before .before .before .args in
     let h = c .before .before .before .before .before .loop in (
       omega arith,
-      lookup-turn (λ k. valueAt (a .t1) true (a .limits) (rangeTime (a .start) (a .end) k)) (h .i) (h .bounds) (c .widen .result) (gives (some (c .before .before .before .before .before .before .before .before .before .apply-constraints .result))) (h .inv .1) (c .widen .ensures)
-          (time-early (a .t1) (inside (a .t1) _ (c .before .before .before .before .before .before .before .before .before .before .before .before .good .0) (c .before .before .before .before .before .before .before .before .before .before .before .before .pre .0)) (c .before .before .before .before .before .before .before .before .before .before .before .before .pre .1) (a .limits) (rangeTime (a .start) (a .end) (h .i)) (c .before .if1 .taken) (c .before .before .before .before .before .before .before .before .before .apply-constraints .result) (c .before .before .before .before .before .before .before .before .before .apply-constraints .ensures)),
+      lookup-turn (λ k. valueAt (a .t1) true (a .limits) (rangeTime (a .start) (a .end) k)) (h .i) (h .bounds) (c .widen .result) (gives (some (apply-constraints .result))) (h .inv .1)
+          (c .widen .ensures)
+          (time-early (a .t1) (inside (a .t1) _ (good .0) (pre .0)) (pre .1) (a .limits) (rangeTime (a .start) (a .end) (h .i)) (c .before .if1 .taken) (apply-constraints .result)
+          (apply-constraints .ensures)),
     )
 
 widen-requires-2 : tie.Need-widen-requires-2 Inv-loop μ-loop
@@ -82,11 +87,17 @@ loop-less-2 c = omega arith
 
 loop-again-2 : tie.Need-loop-again-2 Inv-loop μ-loop
 loop-again-2 c =
+    let good = c .before .before .before .before .before .before .before .before .before .before .before .before .before .before .good in
+    let pre = c .before .before .before .before .before .before .before .before .before .before .before .before .before .before .pre in
+    let apply-constraints2 = c .before .before .before .before .before .before .before .before .before .before .apply-constraints2 in
+    let if1 = c .before .before .before .if1 in
     let a = c .before .before .before .before .before .before .before .before .before .before .before .before .before .before .args in
     let h = c .before .before .before .before .before .before .before .loop in (
       omega arith,
-      lookup-turn (λ k. valueAt (a .t1) true (a .limits) (rangeTime (a .start) (a .end) k)) (h .i) (h .bounds) (c .widen2 .result) (gives (some (c .before .before .before .before .before .before .before .before .before .before .apply-constraints2 .result))) (h .inv .1) (c .widen2 .ensures)
-          (time-late (a .t1) (inside (a .t1) _ (c .before .before .before .before .before .before .before .before .before .before .before .before .before .before .good .0) (c .before .before .before .before .before .before .before .before .before .before .before .before .before .before .pre .0)) (c .before .before .before .before .before .before .before .before .before .before .before .before .before .before .pre .1) (a .limits) (rangeTime (a .start) (a .end) (h .i)) (c .before .before .before .if1 .left) (c .before .if2 .taken) (c .before .before .before .before .before .before .before .before .before .before .apply-constraints2 .result) (c .before .before .before .before .before .before .before .before .before .before .apply-constraints2 .ensures)),
+      lookup-turn (λ k. valueAt (a .t1) true (a .limits) (rangeTime (a .start) (a .end) k)) (h .i) (h .bounds) (c .widen2 .result) (gives (some (apply-constraints2 .result))) (h .inv .1)
+          (c .widen2 .ensures)
+          (time-late (a .t1) (inside (a .t1) _ (good .0) (pre .0)) (pre .1) (a .limits) (rangeTime (a .start) (a .end) (h .i)) (if1 .left) (c .before .if2 .taken)
+          (apply-constraints2 .result) (apply-constraints2 .ensures)),
     )
 
 order-key-requires : tie.Need-order-key-requires Inv-loop μ-loop
@@ -127,14 +138,41 @@ loop-less-3 c = omega arith
 
 loop-again-3 : tie.Need-loop-again-3 Inv-loop μ-loop
 loop-again-3 c =
-    let a = c .before .before .before .before .before .before .before .before .before .before .before .before .before .before .before .before .before .before .before .before .before .before .before .args in
+    let a = c .before .before .before .before .before .before .before .before .before .before .before .before .before .before .before .before .before .before .before .before .before
+    .before .before .args in
     let h = c .before .before .before .before .before .before .before .before .before .before .before .before .before .before .before .before .loop in
-    let f = inside (a .t1) _ (c .before .before .before .before .before .before .before .before .before .before .before .before .before .before .before .before .before .before .before .before .before .before .before .good .0) (c .before .before .before .before .before .before .before .before .before .before .before .before .before .before .before .before .before .before .before .before .before .before .before .pre .0) in
+    let f = inside (a .t1) _
+    (c .before .before .before .before .before .before .before .before .before .before .before .before .before .before .before .before .before .before .before .before .before
+    .before .before .good .0)
+    (c .before .before .before .before .before .before .before .before .before .before .before .before .before .before .before .before .before .before .before .before .before
+    .before .before .pre .0) in
     let time = rangeTime (a .start) (a .end) (h .i) in
-    let j = keys-place timeKey (a .t1 .places) (c .before .before .before .before .before .before .before .before .before .before .before .before .before .before .before .before .before .before .keys .result) (a .t1 .count) f (valid-count (a .t1) (c .before .before .before .before .before .before .before .before .before .before .before .before .before .before .before .before .before .before .before .before .before .before .before .pre .0)) (c .before .before .before .before .before .before .before .before .before .before .before .before .before .before .before .before .before .before .keys .ensures) (valid-rising (a .t1) (c .before .before .before .before .before .before .before .before .before .before .before .before .before .before .before .before .before .before .before .before .before .before .before .pre .0)) (orderKey time) (c .before .before .before .before .before .before .before .before .order-key .result) (c .before .before .before .before .before .before .before .search .result) (c .before .before .before .before .before .before .before .before .order-key .ensures) (c .before .before .before .before .before .before .before .search .ensures) in (
+    let j = keys-place timeKey (a .t1 .places)
+    (c .before .before .before .before .before .before .before .before .before .before .before .before .before .before .before .before .before .before .keys .result) (a .t1 .count) f
+    (valid-count (a .t1)
+    (c .before .before .before .before .before .before .before .before .before .before .before .before .before .before .before .before .before .before .before .before
+    .before .before .before .pre .0))
+    (c .before .before .before .before .before .before .before .before .before .before .before .before .before .before .before .before .before .before .keys .ensures)
+    (valid-rising (a .t1)
+    (c .before .before .before .before .before .before .before .before .before .before .before .before .before .before .before .before .before .before .before .before
+    .before .before .before .pre .0))
+    (orderKey time) (c .before .before .before .before .before .before .before .before .order-key .result) (c .before .before .before .before .before .before .before .search .result)
+    (c .before .before .before .before .before .before .before .before .order-key .ensures) (c .before .before .before .before .before .before .before .search .ensures) in (
       omega arith,
-      lookup-turn (λ k. valueAt (a .t1) true (a .limits) (rangeTime (a .start) (a .end) k)) (h .i) (h .bounds) (c .add-lookup .result) (told (c .before .constrain .result)) (h .inv .1) (c .add-lookup .ensures)
-          (time-inner (a .t1) f (c .before .before .before .before .before .before .before .before .before .before .before .before .before .before .before .before .before .before .before .before .before .before .before .pre .1) (a .limits) time (c .before .before .before .before .before .before .before .before .before .before .before .before .if1 .left) (c .before .before .before .before .before .before .before .before .before .before .if2 .left) (valid-count (a .t1) (c .before .before .before .before .before .before .before .before .before .before .before .before .before .before .before .before .before .before .before .before .before .before .before .pre .0)) (c .before .before .before .before .before .before .before .search .result) (c .before .before .before .before .before .before .previous .result) (c .before .before .before .before .before .within .result) j (c .before .before .before .before .before .before .previous .ensures) (c .before .before .before .before .before .within .ensures) (c .before .before .around .result) (c .before .constrain .result) (c .before .before .around .ensures) (c .before .constrain .ensures)),
+      lookup-turn (λ k. valueAt (a .t1) true (a .limits) (rangeTime (a .start) (a .end) k)) (h .i) (h .bounds) (c .add-lookup .result) (told (c .before .constrain .result)) (h .inv .1)
+          (c .add-lookup .ensures)
+          (time-inner (a .t1) f
+          (c .before .before .before .before .before .before .before .before .before .before .before .before .before .before .before .before .before .before .before
+          .before .before .before .before .pre .1)
+          (a .limits) time (c .before .before .before .before .before .before .before .before .before .before .before .before .if1 .left)
+          (c .before .before .before .before .before .before .before .before .before .before .if2 .left)
+          (valid-count (a .t1)
+          (c .before .before .before .before .before .before .before .before .before .before .before .before .before .before .before .before .before .before
+          .before .before .before .before .before .pre .0))
+          (c .before .before .before .before .before .before .before .search .result) (c .before .before .before .before .before .before .previous .result)
+          (c .before .before .before .before .before .within .result) j (c .before .before .before .before .before .before .previous .ensures)
+          (c .before .before .before .before .before .within .ensures) (c .before .before .around .result) (c .before .constrain .result) (c .before .before .around .ensures)
+          (c .before .constrain .ensures)),
     )
 
 returns : tie.Need-returns Inv-loop μ-loop

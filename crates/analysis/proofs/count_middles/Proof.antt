@@ -4,7 +4,8 @@ use mathlib.Core.Path.{_≡_, sym, ap, _∙_}
 use native.Mathlib.Omega.{arith}
 use lib.ListN.{length, take}
 use Rattle.points.specs.Point.{anyPoint}
-use Rattle.points.specs.Middles.{middles, middles-two, middles-no}
+use Rattle.points.specs.Middles.{middles}
+use Rattle.points.proofs.MiddleLaws.{middles-two, middles-no}
 use Rattle.analysis.specs.Ranges.{middleTest}
 use Rattle.points.proofs.Good.{places}
 use Rattle.analysis.proofs.Middles.{middles-next, middles-all}
@@ -61,21 +62,42 @@ loop-less c = omega arith
 
 loop-again : tie.Need-loop-again Inv-loop μ-loop
 loop-again c =
-    let len = places (c .before .before .before .before .before .before .before .before .args .t1) _ (c .before .before .before .before .before .before .before .before .good .0) in
-    (omega arith, omega arith, omega arith, ap (λ (m : ℕ). m + 1) (c .before .before .before .before .before .before .loop .inv .3) ∙ sym (middles-next (middleTest (c .before .before .before .before .before .before .before .before .args .valley)) (c .before .before .before .before .before .before .before .before .args .t1 .places) (c .before .before .before .before .before .before .loop .i) anyPoint (omega arith) (omega arith) (sym (c .before .is-middle .ensures) ∙ c .if1 .taken)))
+    let args = c .before .before .before .before .before .before .before .before .args in
+    let good = c .before .before .before .before .before .before .before .before .good in
+    let loop = c .before .before .before .before .before .before .loop in
+    let len = places (args .t1) _ (good .0) in (
+      omega arith,
+      omega arith,
+      omega arith,
+      ap (λ (m : ℕ). m + 1) (loop .inv .3)
+          ∙ sym (middles-next (middleTest (args .valley)) (args .t1 .places) (loop .i) anyPoint (omega arith) (omega arith) (sym (c .before .is-middle .ensures) ∙ c .if1 .taken)),
+    )
 
 loop-less-2 : tie.Need-loop-less-2 Inv-loop μ-loop
 loop-less-2 c = omega arith
 
 loop-again-2 : tie.Need-loop-again-2 Inv-loop μ-loop
 loop-again-2 c =
-    let len = places (c .before .before .before .before .before .before .before .before .args .t1) _ (c .before .before .before .before .before .before .before .before .good .0) in
-    (omega arith, omega arith, omega arith, c .before .before .before .before .before .before .loop .inv .3 ∙ ap length (sym (middles-no (middleTest (c .before .before .before .before .before .before .before .before .args .valley)) (c .before .before .before .before .before .before .before .before .args .t1 .places) (c .before .before .before .before .before .before .loop .i) anyPoint (omega arith) (omega arith) (sym (c .before .is-middle .ensures) ∙ c .if1 .left))))
+    let args = c .before .before .before .before .before .before .before .before .args in
+    let good = c .before .before .before .before .before .before .before .before .good in
+    let loop = c .before .before .before .before .before .before .loop in
+    let len = places (args .t1) _ (good .0) in (
+      omega arith,
+      omega arith,
+      omega arith,
+      loop .inv .3
+          ∙ ap length (sym (middles-no (middleTest (args .valley)) (args .t1 .places) (loop .i) anyPoint (omega arith) (omega arith) (sym (c .before .is-middle .ensures) ∙ c .if1 .left))),
+    )
 
 returns : tie.Need-returns Inv-loop μ-loop
 returns c =
-    let ps = c .before .before .before .args .t1 in
-    c .before .loop .inv .3 ∙ ap length (middles-all (middleTest (c .before .before .before .args .valley)) (ps .places) (ps .count) (c .before .before .used .result) (places ps _ (c .before .before .before .good .0)) (c .before .before .used .ensures) (c .before .loop .i) (omega arith) (omega arith) (omega arith))
+    let args = c .before .before .before .args in
+    let good = c .before .before .before .good in
+    let used = c .before .before .used in
+    let ps = args .t1 in
+    c .before .loop .inv .3
+    ∙ ap length
+    (middles-all (middleTest (args .valley)) (ps .places) (ps .count) (used .result) (places ps _ (good .0)) (used .ensures) (c .before .loop .i) (omega arith) (omega arith) (omega arith))
 
 pub count-middles-spec : {M : Type 1} → statement M
 count-middles-spec =

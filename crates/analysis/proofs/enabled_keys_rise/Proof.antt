@@ -1,6 +1,6 @@
 -- `analysis::enabled_keys_rise` meets its contract. Assumes nothing.
 use mathlib.Core.Path.{sym, _∙_}
-use Rattle.lookup.specs.LookupLaws.{keys-rise-is}
+use Rattle.lookup.proofs.LookupLaws.{keys-rise-is}
 use borrow.Author.Needs.{needs}
 use Rattle.analysis.proofs.enabled_keys_rise.Statement.{statement}
 use Rattle.analysis.proofs.enabled_keys_rise.Tie as tie
@@ -9,7 +9,9 @@ keys-rise-requires : tie.Need-keys-rise-requires
 keys-rise-requires c κs = search needs
 
 returns : tie.Need-returns
-returns c = c .keys-rise .ensures ∙ sym (keys-rise-is (c .before .before .args .points) (c .before .before .args .enabled) (c .before .if1 .taken))
+returns c =
+    let args = c .before .before .args in
+    c .keys-rise .ensures ∙ sym (keys-rise-is (args .points) (args .enabled) (c .before .if1 .taken))
 
 returns-2 : tie.Need-returns-2
 returns-2 c = search needs

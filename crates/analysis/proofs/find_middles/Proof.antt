@@ -4,7 +4,7 @@ use native.Mathlib.Omega.{arith}
 use lib.Dec.{leb}
 use lib.ListN.{length}
 use borrow.Author.Tests.{leb-true}
-use Rattle.points.specs.Laws.{and-left, and-right}
+use Rattle.points.proofs.Laws.{and-left, and-right}
 use Rattle.analysis.specs.Analysis.{Filled}
 use Rattle.analysis.specs.Ranges.{middleTest}
 use Rattle.analysis.proofs.Middles.{find-invalid, find-short, find-filled}
@@ -20,10 +20,13 @@ count-middles-requires c κs = search needs
 
 write-middles-requires : tie.Need-write-middles-requires
 write-middles-requires c κs =
-    let k = c .before .before .before .count-middles .result in
-    let t = length (c .before .before .before .before .before .before .before .before .args .times .now) in
-    let v = length (c .before .before .before .before .before .before .before .before .args .values .now) in
-    (omega (arith, c .before .before .before .count-middles .ensures, leb-true k t (and-left (leb k t) (leb k v) (c .before .before .if2 .taken))), omega (arith, c .before .before .before .count-middles .ensures, leb-true k v (and-right (leb k t) (leb k v) (c .before .before .if2 .taken))))
+    let args = c .before .before .before .before .before .before .before .before .args in
+    let count-middles = c .before .before .before .count-middles in
+    let if2 = c .before .before .if2 in
+    let k = count-middles .result in
+    let t = length (args .times .now) in
+    let v = length (args .values .now) in
+    (omega (arith, count-middles .ensures, leb-true k t (and-left (leb k t) (leb k v) (if2 .taken))), omega (arith, count-middles .ensures, leb-true k v (and-right (leb k t) (leb k v) (if2 .taken))))
 
 same-length : tie.Need-same-length
 same-length c = search needs
@@ -33,17 +36,31 @@ same-length-2 c = search needs
 
 returns : tie.Need-returns
 returns c =
-    let w = sym (find-filled (middleTest (c .before .before .before .before .before .before .before .before .before .before .before .before .before .args .valley)) (c .before .before .before .before .before .before .before .before .before .before .before .before .before .args .points) (c .before .before .before .before .before .before .before .before .before .before .before .before .before .args .limits) (c .before .before .before .before .before .before .before .before .before .before .before .before .before .args .times .now) (c .before .before .before .before .before .before .before .before .before .before .before .before .before .args .values .now) (sym (c .before .before .before .before .before .before .before .before .before .before .is-valid .ensures) ∙ c .before .before .before .before .before .before .before .before .before .if1 .taken) (c .before .before .before .before .before .before .before .before .count-middles .result) (c .before .before .before .before .before .before .before .before .count-middles .ensures) (c .before .before .before .before .before .before .before .if2 .taken)) in
-    (ap (λ (x : Filled). x .said) w, (c .before .before .before .before .write-middles .ensures .0 ∙ ap (λ (x : Filled). x .times) w, c .before .before .before .before .write-middles .ensures .1 ∙ ap (λ (x : Filled). x .values) w))
+    let args = c .before .before .before .before .before .before .before .before .before .before .before .before .before .args in
+    let is-valid = c .before .before .before .before .before .before .before .before .before .before .is-valid in
+    let if1 = c .before .before .before .before .before .before .before .before .before .if1 in
+    let count-middles = c .before .before .before .before .before .before .before .before .count-middles in
+    let if2 = c .before .before .before .before .before .before .before .if2 in
+    let write-middles = c .before .before .before .before .write-middles in
+    let w = sym
+    (find-filled (middleTest (args .valley)) (args .points) (args .limits) (args .times .now) (args .values .now) (sym (is-valid .ensures) ∙ if1 .taken) (count-middles .result)
+    (count-middles .ensures) (if2 .taken)) in
+    (ap (λ (x : Filled). x .said) w, (write-middles .ensures .0 ∙ ap (λ (x : Filled). x .times) w, write-middles .ensures .1 ∙ ap (λ (x : Filled). x .values) w))
 
 returns-2 : tie.Need-returns-2
 returns-2 c =
-    let w = sym (find-short (middleTest (c .before .before .before .before .before .before .args .valley)) (c .before .before .before .before .before .before .args .points) (c .before .before .before .before .before .before .args .limits) (c .before .before .before .before .before .before .args .times .now) (c .before .before .before .before .before .before .args .values .now) (sym (c .before .before .before .is-valid .ensures) ∙ c .before .before .if1 .taken) (c .before .count-middles .result) (c .before .count-middles .ensures) (c .if2 .left)) in
+    let args = c .before .before .before .before .before .before .args in
+    let is-valid = c .before .before .before .is-valid in
+    let if1 = c .before .before .if1 in
+    let w = sym
+    (find-short (middleTest (args .valley)) (args .points) (args .limits) (args .times .now) (args .values .now) (sym (is-valid .ensures) ∙ if1 .taken)
+    (c .before .count-middles .result) (c .before .count-middles .ensures) (c .if2 .left)) in
     (ap (λ (x : Filled). x .said) w, (ap (λ (x : Filled). x .times) w, ap (λ (x : Filled). x .values) w))
 
 returns-3 : tie.Need-returns-3
 returns-3 c =
-    let w = sym (find-invalid (middleTest (c .before .before .before .before .args .valley)) (c .before .before .before .before .args .points) (c .before .before .before .before .args .limits) (c .before .before .before .before .args .times .now) (c .before .before .before .before .args .values .now) (sym (c .before .is-valid .ensures) ∙ c .if1 .left)) in
+    let args = c .before .before .before .before .args in
+    let w = sym (find-invalid (middleTest (args .valley)) (args .points) (args .limits) (args .times .now) (args .values .now) (sym (c .before .is-valid .ensures) ∙ c .if1 .left)) in
     (ap (λ (x : Filled). x .said) w, (ap (λ (x : Filled). x .times) w, ap (λ (x : Filled). x .values) w))
 
 pub find-middles-spec : {M : Type 1} → statement M

@@ -1,7 +1,7 @@
 -- `analysis::get_range` meets its contract. Assumes nothing.
 use mathlib.Core.Path.{sym, ap, _∙_}
 use mathlib.Core.List.{_++_, foldl, foldl-append}
-use Rattle.points.specs.Laws.{and-right, and-both}
+use Rattle.points.proofs.Laws.{and-right, and-both}
 use Rattle.points.specs.Points.{listOf, validPoints}
 use Rattle.points.specs.Refusal.{gives}
 use Rattle.lookup.specs.Limits.{finiteLimits}
@@ -23,7 +23,11 @@ is-finite-requires-2 : tie.Need-is-finite-requires-2
 is-finite-requires-2 c κs = search needs
 
 times-range-requires : tie.Need-times-range-requires
-times-range-requires c κs = and-right (finiteLimits (c .before .before .before .before .before .args .limits)) (validPoints (c .before .before .before .before .before .args .points)) (sym (c .before .before .before .before .is-valid .ensures) ∙ c .before .before .before .if1 .taken)
+times-range-requires c κs =
+    let args = c .before .before .before .before .before .args in
+    let is-valid = c .before .before .before .before .is-valid in
+    let if1 = c .before .before .before .if1 in
+    and-right (finiteLimits (args .limits)) (validPoints (args .points)) (sym (is-valid .ensures) ∙ if1 .taken)
 
 inside-requires : tie.Need-inside-requires
 inside-requires c κs = search needs
@@ -34,17 +38,27 @@ range-requires c κs = search needs
 returns : tie.Need-returns
 unfolding getRange
 returns c =
+    let is-valid = c .before .before .before .before .before .before .before .is-valid in
+    let if1 = c .before .before .before .before .before .before .if1 in
+    let is-finite = c .before .before .before .before .before .is-finite in
+    let is-finite2 = c .before .before .before .before .is-finite2 in
+    let if2 = c .before .before .before .if2 in
+    let times-range = c .before .before .times-range in
     let a = c .before .before .before .before .before .before .before .before .args in
     let values = valuesAtTimes (a .points) (a .enabled) (a .limits) (a .start-time) (a .end-time) 101 in
     let raw = rawInside (a .start-time) (a .end-time) (listOf (a .points)) in
-    rw (sym (c .before .before .before .before .before .before .before .is-valid .ensures) ∙ c .before .before .before .before .before .before .if1 .taken, sym (and-both (c .before .before .before .before .before .is-finite .ensures) (c .before .before .before .before .is-finite2 .ensures)) ∙ c .before .before .before .if2 .taken)
+    rw (sym (is-valid .ensures) ∙ if1 .taken, sym (and-both (is-finite .ensures) (is-finite2 .ensures)) ∙ if2 .taken)
     (c .range .ensures
-    ∙ ap (λ (b : Bounds). gives (asRange b)) (c .before .inside .ensures ∙ ap (λ (b : Bounds). foldl widen b raw) (c .before .before .times-range .ensures) ∙ sym (foldl-append widen noValues values raw))
+    ∙ ap (λ (b : Bounds). gives (asRange b)) (c .before .inside .ensures ∙ ap (λ (b : Bounds). foldl widen b raw) (times-range .ensures) ∙ sym (foldl-append widen noValues values raw))
     ∙ ap gives (range-is (values ++ raw)))
 
 returns-2 : tie.Need-returns-2
 unfolding getRange
-returns-2 c = rw (sym (c .before .before .before .before .is-valid .ensures) ∙ c .before .before .before .if1 .taken, sym (and-both (c .before .before .is-finite .ensures) (c .before .is-finite2 .ensures)) ∙ c .if2 .left)
+returns-2 c =
+    let is-valid = c .before .before .before .before .is-valid in
+    let if1 = c .before .before .before .if1 in
+    let is-finite = c .before .before .is-finite in
+    rw (sym (is-valid .ensures) ∙ if1 .taken, sym (and-both (is-finite .ensures) (c .before .is-finite2 .ensures)) ∙ c .if2 .left)
 
 returns-3 : tie.Need-returns-3
 unfolding getRange

@@ -30,8 +30,10 @@ slope-requires c κs = search needs
 returns : tie.Need-returns
 unfolding getSlopeAt
 returns c =
-    let ps = c .before .before .before .before .args .points in
-    let n : length (listOf ps) < 2 = omega (arith, length-take (ps .count) (ps .places), c .before .before .if1 .taken) in
+    let args = c .before .before .before .before .args in
+    let if1 = c .before .before .if1 in
+    let ps = args .points in
+    let n : length (listOf ps) < 2 = omega (arith, length-take (ps .count) (ps .places), if1 .taken) in
     rw (sym (c .before .is-valid .ensures) ∙ c .if2 .taken, lt-ltb (length (listOf ps)) 2 n)
 
 returns-2 : tie.Need-returns-2
@@ -41,10 +43,13 @@ returns-2 c = rw (sym (c .before .is-valid .ensures) ∙ c .if2 .left)
 returns-3 : tie.Need-returns-3
 unfolding getSlopeAt getValueAt
 returns-3 c =
+    let good = c .before .before .before .before .before .good in
+    let if1 = c .before .before .before .if1 in
+    let get-value-at = c .before .before .get-value-at in
     let a = c .before .before .before .before .before .args in
     let ps = a .points in
-    let n : 2 ≤ length (listOf ps) = omega (arith, length-take (ps .count) (ps .places), places ps _ (c .before .before .before .before .before .good .0), c .before .before .before .if1 .left) in
-    c .slope .ensures ∙ ap₂ slopeSaid (c .before .before .get-value-at .ensures) (c .before .get-value-at2 .ensures) ∙ slope-either (valid ps (a .limits)) _ _ ∙ rw (le-ltb (length (listOf ps)) 2 n)
+    let n : 2 ≤ length (listOf ps) = omega (arith, length-take (ps .count) (ps .places), places ps _ (good .0), if1 .left) in
+    c .slope .ensures ∙ ap₂ slopeSaid (get-value-at .ensures) (c .before .get-value-at2 .ensures) ∙ slope-either (valid ps (a .limits)) _ _ ∙ rw (le-ltb (length (listOf ps)) 2 n)
 
 pub get-slope-at-spec : {M : Type 1} → statement M
 get-slope-at-spec =

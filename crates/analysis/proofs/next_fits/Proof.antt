@@ -19,7 +19,9 @@ sub-result : tie.Need-sub-result
 sub-result c = omega (arith, last-place (c .args .span) (c .args .step))
 
 returns : tie.Need-returns
-returns c = room-is (c .args .start + c .args .span / c .args .step * c .args .step) (c .args .step) _ (omega (arith, last-place (c .args .span) (c .args .step))) (next-place (c .args .start) (c .args .span) (c .args .step))
+returns c =
+    room-is (c .args .start + c .args .span / c .args .step * c .args .step) (c .args .step) _ (omega (arith, last-place (c .args .span) (c .args .step)))
+    (next-place (c .args .start) (c .args .span) (c .args .step))
 
 pub next-fits-spec : {M : Type 1} → statement M
 next-fits-spec = tie.close (tie.spec div-last mul-last add-last sub-result returns)

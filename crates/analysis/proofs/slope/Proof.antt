@@ -34,7 +34,10 @@ returns-2 c = rw (c .before .before .before .before2 .given .1, c .enum-told2 .g
 
 returns-3 : tie.Need-returns-3
 unfolding slopeOf
-returns-3 c = rw (c .before .before .before .before .before .before2 .given .1, c .before .before .after .given .1) (cc (c .f64-to-f32 .ensures))
+returns-3 c =
+    let before2 = c .before .before .before .before .before .before2 in
+    let after = c .before .before .after in
+    rw (before2 .given .1, after .given .1) (cc (c .f64-to-f32 .ensures))
 
 returns-4 : tie.Need-returns-4
 returns-4 c = rw (c .before .before .before .before .before2 .given .1, c .before .after2 .given .1)

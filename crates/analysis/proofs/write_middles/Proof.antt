@@ -7,7 +7,8 @@ use lib.ListN.{length, take, drop, length-set}
 use Rattle.points.specs.Point.{anyPoint}
 use Rattle.points.specs.declared.AutomationPoint.{AutomationPoint}
 use Rattle.lookup.specs.Lookup.{pointAt}
-use Rattle.points.specs.Middles.{middles, middles-two, middles-yes, middles-no}
+use Rattle.points.specs.Middles.{middles}
+use Rattle.points.proofs.MiddleLaws.{middles-two, middles-yes, middles-no}
 use Rattle.analysis.specs.Ranges.{middleTest, timeOf, valueOf}
 use Rattle.points.proofs.Good.{places}
 use Rattle.analysis.proofs.Middles.{middles-next, middles-all, room-left, write-turn}
@@ -15,7 +16,10 @@ use Rattle.analysis.proofs.write_middles.Statement.{statement}
 use Rattle.analysis.proofs.write_middles.Tie as tie
 
 abbrev Inv-loop : tie.InvT-loop
-Inv-loop valley times₀ values₀ points n k₀ i₀ times values k i = (2 ≤ i) × (i ≤ max 2 n) × (k ≤ i) × (k ≡ length (middles (middleTest valley) (take i (points .places)))) × (length times ≡ length times₀) × (length values ≡ length values₀) × (times ≡ map timeOf (middles (middleTest valley) (take i (points .places))) ++ drop k times₀) × (values ≡ map valueOf (middles (middleTest valley) (take i (points .places))) ++ drop k values₀)
+Inv-loop valley times₀ values₀ points n k₀ i₀ times values k i =
+    (2 ≤ i) × (i ≤ max 2 n) × (k ≤ i) × (k ≡ length (middles (middleTest valley) (take i (points .places)))) × (length times ≡ length times₀)
+    × (length values ≡ length values₀) × (times ≡ map timeOf (middles (middleTest valley) (take i (points .places))) ++ drop k times₀)
+    × (values ≡ map valueOf (middles (middleTest valley) (take i (points .places))) ++ drop k values₀)
 
 abbrev μ-loop : tie.MeasureT-loop
 μ-loop valley times₀ values₀ points n k₀ i₀ times values k i = n - i
@@ -25,8 +29,17 @@ used-requires c κs = tt
 
 loop-holds : tie.Need-loop-holds Inv-loop μ-loop
 loop-holds c =
-    let two = sym (middles-two (middleTest (c .before .before .before .args .valley)) (c .before .before .before .args .t1 .places)) in
-    (omega arith, omega arith, omega arith, ap length two, refl, refl, ap (λ (m : List AutomationPoint). map timeOf m ++ c .before .before .before .args .times .now) two, ap (λ (m : List AutomationPoint). map valueOf m ++ c .before .before .before .args .values .now) two)
+    let args = c .before .before .before .args in
+    let two = sym (middles-two (middleTest (args .valley)) (args .t1 .places)) in (
+      omega arith,
+      omega arith,
+      omega arith,
+      ap length two,
+      refl,
+      refl,
+      ap (λ (m : List AutomationPoint). map timeOf m ++ args .times .now) two,
+      ap (λ (m : List AutomationPoint). map valueOf m ++ args .values .now) two,
+    )
 
 sub-a : tie.Need-sub-a Inv-loop μ-loop
 sub-a c = omega arith
@@ -62,13 +75,31 @@ mul-times : tie.Need-mul-times Inv-loop μ-loop
 mul-times c = omega arith
 
 slice-write-times : tie.Need-slice-write-times Inv-loop μ-loop
-slice-write-times c = omega (arith, room-left (middleTest (c .before .before .before .before .before .before .before .before .before .before .args .valley)) (c .before .before .before .before .before .before .before .before .before .before .args .t1 .places) (c .before .before .before .before .before .before .before .before .before .before .args .t1 .count) (c .before .before .before .before .before .before .before .used .result) (places (c .before .before .before .before .before .before .before .before .before .before .args .t1) _ (c .before .before .before .before .before .before .before .before .before .before .good .0)) (c .before .before .before .before .before .before .before .used .ensures) (c .before .before .before .before .before .before .loop .i) (c .before .before .before .before .before .before .loop .k) anyPoint (omega arith) (omega arith) (sym (c .before .is-middle .ensures) ∙ c .if1 .taken) (c .before .before .before .before .before .before .loop .inv .3))
+slice-write-times c =
+    let args = c .before .before .before .before .before .before .before .before .before .before .args in
+    let good = c .before .before .before .before .before .before .before .before .before .before .good in
+    let used = c .before .before .before .before .before .before .before .used in
+    let loop = c .before .before .before .before .before .before .loop in
+    omega (
+      arith,
+      room-left (middleTest (args .valley)) (args .t1 .places) (args .t1 .count) (used .result) (places (args .t1) _ (good .0)) (used .ensures) (loop .i) (loop .k) anyPoint (omega arith)
+          (omega arith) (sym (c .before .is-middle .ensures) ∙ c .if1 .taken) (loop .inv .3),
+    )
 
 mul-values : tie.Need-mul-values Inv-loop μ-loop
 mul-values c = omega arith
 
 slice-write-values : tie.Need-slice-write-values Inv-loop μ-loop
-slice-write-values c = omega (arith, room-left (middleTest (c .before .before .before .before .before .before .before .before .before .before .args .valley)) (c .before .before .before .before .before .before .before .before .before .before .args .t1 .places) (c .before .before .before .before .before .before .before .before .before .before .args .t1 .count) (c .before .before .before .before .before .before .before .used .result) (places (c .before .before .before .before .before .before .before .before .before .before .args .t1) _ (c .before .before .before .before .before .before .before .before .before .before .good .0)) (c .before .before .before .before .before .before .before .used .ensures) (c .before .before .before .before .before .before .loop .i) (c .before .before .before .before .before .before .loop .k) anyPoint (omega arith) (omega arith) (sym (c .before .is-middle .ensures) ∙ c .if1 .taken) (c .before .before .before .before .before .before .loop .inv .3))
+slice-write-values c =
+    let args = c .before .before .before .before .before .before .before .before .before .before .args in
+    let good = c .before .before .before .before .before .before .before .before .before .before .good in
+    let used = c .before .before .before .before .before .before .before .used in
+    let loop = c .before .before .before .before .before .before .loop in
+    omega (
+      arith,
+      room-left (middleTest (args .valley)) (args .t1 .places) (args .t1 .count) (used .result) (places (args .t1) _ (good .0)) (used .ensures) (loop .i) (loop .k) anyPoint (omega arith)
+          (omega arith) (sym (c .before .is-middle .ensures) ∙ c .if1 .taken) (loop .inv .3),
+    )
 
 add-k : tie.Need-add-k Inv-loop μ-loop
 add-k c = omega arith
@@ -78,12 +109,14 @@ loop-less c = omega arith
 
 loop-again : tie.Need-loop-again Inv-loop μ-loop
 loop-again c =
+    let good = c .before .before .before .before .before .before .before .before .before .before .good in
+    let used = c .before .before .before .before .before .before .before .used in
     let a = c .before .before .before .before .before .before .before .before .before .before .args in
     let h = c .before .before .before .before .before .before .loop in
     let q = middleTest (a .valley) in
-    let len = places (a .t1) _ (c .before .before .before .before .before .before .before .before .before .before .good .0) in
+    let len = places (a .t1) _ (good .0) in
     let y = sym (c .before .is-middle .ensures) ∙ c .if1 .taken in
-    let room = room-left q (a .t1 .places) (a .t1 .count) (c .before .before .before .before .before .before .before .used .result) len (c .before .before .before .before .before .before .before .used .ensures) (h .i) (h .k) anyPoint (omega arith) (omega arith) y (h .inv .3) in
+    let room = room-left q (a .t1 .places) (a .t1 .count) (used .result) len (used .ensures) (h .i) (h .k) anyPoint (omega arith) (omega arith) y (h .inv .3) in
     let more = sym (middles-yes q (a .t1 .places) (h .i) anyPoint (omega arith) (omega arith) y) in
     let b = pointAt (a .t1 .places) (h .i - 1) in
     let found = middles q (take (h .i) (a .t1 .places)) in (
@@ -94,7 +127,8 @@ loop-again c =
       simp length-set (h .inv .4),
       simp length-set (h .inv .5),
       write-turn timeOf found b (a .times .now) (h .times) (h .k) (h .inv .3) (omega arith) (h .inv .6) ∙ ap (λ (m : List AutomationPoint). map timeOf m ++ drop (h .k + 1) (a .times .now)) more,
-      write-turn valueOf found b (a .values .now) (h .values) (h .k) (h .inv .3) (omega arith) (h .inv .7) ∙ ap (λ (m : List AutomationPoint). map valueOf m ++ drop (h .k + 1) (a .values .now)) more,
+      write-turn valueOf found b (a .values .now) (h .values) (h .k) (h .inv .3) (omega arith) (h .inv .7)
+          ∙ ap (λ (m : List AutomationPoint). map valueOf m ++ drop (h .k + 1) (a .values .now)) more,
     )
 
 loop-less-2 : tie.Need-loop-less-2 Inv-loop μ-loop
@@ -102,9 +136,10 @@ loop-less-2 c = omega arith
 
 loop-again-2 : tie.Need-loop-again-2 Inv-loop μ-loop
 loop-again-2 c =
+    let good = c .before .before .before .before .before .before .before .before .before .before .good in
     let a = c .before .before .before .before .before .before .before .before .before .before .args in
     let h = c .before .before .before .before .before .before .loop in
-    let len = places (a .t1) _ (c .before .before .before .before .before .before .before .before .before .before .good .0) in
+    let len = places (a .t1) _ (good .0) in
     let same = sym (middles-no (middleTest (a .valley)) (a .t1 .places) (h .i) anyPoint (omega arith) (omega arith) (sym (c .before .is-middle .ensures) ∙ c .if1 .left)) in (
       omega arith,
       omega arith,
@@ -124,10 +159,12 @@ same-length-2 c = c .before .loop .inv .5
 
 returns : tie.Need-returns Inv-loop μ-loop
 returns c =
+    let good = c .before .before .before .before .before .good in
+    let used = c .before .before .used in
     let a = c .before .before .before .before .before .args in
     let h = c .before .loop in
     let q = middleTest (a .valley) in
-    let all = middles-all q (a .t1 .places) (a .t1 .count) (c .before .before .used .result) (places (a .t1) _ (c .before .before .before .before .before .good .0)) (c .before .before .used .ensures) (h .i) (omega arith) (omega arith) (omega arith) in
+    let all = middles-all q (a .t1 .places) (a .t1 .count) (used .result) (places (a .t1) _ (good .0)) (used .ensures) (h .i) (omega arith) (omega arith) (omega arith) in
     let found = middles q (take (h .i) (a .t1 .places)) in (
       h .inv .6 ∙ ap (λ (m : ℕ). map timeOf found ++ drop m (a .times .now)) (h .inv .3) ∙ ap (λ (m : List AutomationPoint). map timeOf m ++ drop (length m) (a .times .now)) all,
       h .inv .7 ∙ ap (λ (m : ℕ). map valueOf found ++ drop m (a .values .now)) (h .inv .3) ∙ ap (λ (m : List AutomationPoint). map valueOf m ++ drop (length m) (a .values .now)) all,

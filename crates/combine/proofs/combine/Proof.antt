@@ -4,7 +4,7 @@ use mathlib.Core.Bool.{true}
 use borrow.Author.Needs.{needs}
 use borrow.Author.Tests.{not-true, not-false}
 use Rattle.combine.specs.Combine.{finiteOperation, validSide}
-use Rattle.combine.specs.Combined.{side-points}
+use Rattle.combine.proofs.Combined.{side-points}
 use Rattle.combine.proofs.Walking.{ends-own, first-invalid, other-invalid, factor-lost, walk-lost, walk-full, walk-made}
 use Rattle.combine.proofs.combine.Statement.{statement}
 use Rattle.combine.proofs.combine.Tie as tie
@@ -17,8 +17,9 @@ refuse-requires c κs = search needs
 
 returns : tie.Need-returns
 returns c =
+    let is-valid = c .before .before .is-valid in
     let args = c .before .before .before .before .args in
-    c .refuse .ensures ∙ first-invalid (args .operation) (args .first) (args .other) (sym (c .before .before .is-valid .ensures) ∙ not-true _ (c .before .if1 .taken))
+    c .refuse .ensures ∙ first-invalid (args .operation) (args .first) (args .other) (sym (is-valid .ensures) ∙ not-true _ (c .before .if1 .taken))
 
 is-valid-requires-2 : tie.Need-is-valid-requires-2
 is-valid-requires-2 c κs = search needs
@@ -28,8 +29,9 @@ refuse-requires-2 c κs = search needs
 
 returns-2 : tie.Need-returns-2
 returns-2 c =
+    let is-valid2 = c .before .before .is-valid2 in
     let args = c .before .before .before .before .before .before .args in
-    c .refuse2 .ensures ∙ other-invalid (args .operation) (args .first) (args .other) (sym (c .before .before .is-valid2 .ensures) ∙ not-true _ (c .before .if2 .taken))
+    c .refuse2 .ensures ∙ other-invalid (args .operation) (args .first) (args .other) (sym (is-valid2 .ensures) ∙ not-true _ (c .before .if2 .taken))
 
 is-finite-requires : tie.Need-is-finite-requires
 is-finite-requires c κs = search needs
@@ -39,16 +41,27 @@ refuse-requires-3 c κs = search needs
 
 returns-3 : tie.Need-returns-3
 returns-3 c =
+    let is-valid = c .before .before .before .before .before .before .is-valid in
+    let if1 = c .before .before .before .before .before .if1 in
+    let is-valid2 = c .before .before .before .before .is-valid2 in
+    let if2 = c .before .before .before .if2 in
+    let is-finite = c .before .before .is-finite in
     let args = c .before .before .before .before .before .before .before .before .args in
-    let first : validSide (args .first) ≡ true = sym (c .before .before .before .before .before .before .is-valid .ensures) ∙ not-false _ (c .before .before .before .before .before .if1 .left) in
-    let other : validSide (args .other) ≡ true = sym (c .before .before .before .before .is-valid2 .ensures) ∙ not-false _ (c .before .before .before .if2 .left) in
-    c .refuse3 .ensures ∙ factor-lost (args .operation) (args .first) (args .other) first other (sym (c .before .before .is-finite .ensures) ∙ not-true _ (c .before .if3 .taken))
+    let first : validSide (args .first) ≡ true = sym (is-valid .ensures) ∙ not-false _ (if1 .left) in
+    let other : validSide (args .other) ≡ true = sym (is-valid2 .ensures) ∙ not-false _ (if2 .left) in
+    c .refuse3 .ensures ∙ factor-lost (args .operation) (args .first) (args .other) first other (sym (is-finite .ensures) ∙ not-true _ (c .before .if3 .taken))
 
 ends-requires : tie.Need-ends-requires
-ends-requires c κs = sym (c .before .before .before .before .before .before .is-valid .ensures) ∙ not-false _ (c .before .before .before .before .before .if1 .left)
+ends-requires c κs =
+    let is-valid = c .before .before .before .before .before .before .is-valid in
+    let if1 = c .before .before .before .before .before .if1 in
+    sym (is-valid .ensures) ∙ not-false _ (if1 .left)
 
 ends-requires-2 : tie.Need-ends-requires-2
-ends-requires-2 c κs = sym (c .before .before .before .before .before .is-valid2 .ensures) ∙ not-false _ (c .before .before .before .before .if2 .left)
+ends-requires-2 c κs =
+    let is-valid2 = c .before .before .before .before .before .is-valid2 in
+    let if2 = c .before .before .before .before .if2 in
+    sym (is-valid2 .ensures) ∙ not-false _ (if2 .left)
 
 walk-requires : tie.Need-walk-requires
 walk-requires c κs =
@@ -82,6 +95,7 @@ refuse-requires-5 c κs = search needs
 
 returns-5 : tie.Need-returns-5
 returns-5 c =
+    let if4 = c .before .before .before .if4 in
     let walked = c .before .before .before .before .before in
     let tested = c .before .before .before .before .before .before .before .before .before in
     let args = tested .before .before .before .before .before .before .before .args in
@@ -92,10 +106,11 @@ returns-5 c =
     let right = walked .before .ends2 in
     let made = walked .walk in
     c .refuse5 .ensures ∙ walk-full (args .operation) (args .first) (args .other) (left .result) (right .result) (left .ensures) (right .ensures) (made .result) (made .ensures)
-    first other factor (not-false _ (c .before .before .before .if4 .left)) (c .before .if5 .taken)
+    first other factor (not-false _ (if4 .left)) (c .before .if5 .taken)
 
 returns-6 : tie.Need-returns-6
 returns-6 c =
+    let if4 = c .before .before .before .if4 in
     let walked = c .before .before .before .before .before in
     let tested = c .before .before .before .before .before .before .before .before .before in
     let args = tested .before .before .before .before .before .before .before .args in
@@ -106,7 +121,7 @@ returns-6 c =
     let right = walked .before .ends2 in
     let made = walked .walk in
     walk-made (args .operation) (args .first) (args .other) (left .result) (right .result) (left .ensures) (right .ensures) (made .result) (made .ensures)
-    first other factor (not-false _ (c .before .before .before .if4 .left)) (c .before .if5 .left)
+    first other factor (not-false _ (if4 .left)) (c .before .if5 .left)
 
 pub combine-spec : {M : Type 1} → statement M
 combine-spec =

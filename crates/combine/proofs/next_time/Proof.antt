@@ -17,7 +17,9 @@ add-t11 c = search needs
 
 returns-2 : tie.Need-returns-2
 unfolding nextOf
-returns-2 c = rw (lt-leb (c .before .before .args .n) (c .before .before .args .i) (c .before .if1 .left), le-leb (c .before .before .args .m) (c .before .before .args .j) (c .if2 .taken))
+returns-2 c =
+    let args = c .before .before .args in
+    rw (lt-leb (args .n) (args .i) (c .before .if1 .left), le-leb (args .m) (args .j) (c .if2 .taken))
 
 order-key-requires : tie.Need-order-key-requires
 order-key-requires c κs = search needs
@@ -39,15 +41,32 @@ add-t18 c = search needs
 
 returns-3 : tie.Need-returns-3
 unfolding nextOf
-returns-3 c = rw (lt-leb (c .before .before .before .before .before .args .n) (c .before .before .before .before .before .args .i) (c .before .before .before .before .if1 .left), lt-leb (c .before .before .before .before .before .args .m) (c .before .before .before .before .before .args .j) (c .before .before .before .if2 .left), ← c .before .before .order-key .ensures, ← c .before .order-key2 .ensures, lt-ltb _ _ (c .if3 .taken))
+returns-3 c =
+    let args = c .before .before .before .before .before .args in
+    let if1 = c .before .before .before .before .if1 in
+    let if2 = c .before .before .before .if2 in
+    let order-key = c .before .before .order-key in
+    rw (lt-leb (args .n) (args .i) (if1 .left), lt-leb (args .m) (args .j) (if2 .left), ← order-key .ensures, ← c .before .order-key2 .ensures, lt-ltb _ _ (c .if3 .taken))
 
 returns-4 : tie.Need-returns-4
 unfolding nextOf
-returns-4 c = rw (lt-leb (c .before .before .before .before .before .before .args .n) (c .before .before .before .before .before .before .args .i) (c .before .before .before .before .before .if1 .left), lt-leb (c .before .before .before .before .before .before .args .m) (c .before .before .before .before .before .before .args .j) (c .before .before .before .before .if2 .left), ← c .before .before .before .order-key .ensures, ← c .before .before .order-key2 .ensures, le-ltb _ _ (c .before .if3 .left), eq-eqb _ _ (c .if4 .taken))
+returns-4 c =
+    let args = c .before .before .before .before .before .before .args in
+    let if1 = c .before .before .before .before .before .if1 in
+    let if2 = c .before .before .before .before .if2 in
+    let order-key = c .before .before .before .order-key in
+    let order-key2 = c .before .before .order-key2 in
+    rw (lt-leb (args .n) (args .i) (if1 .left), lt-leb (args .m) (args .j) (if2 .left), ← order-key .ensures, ← order-key2 .ensures, le-ltb _ _ (c .before .if3 .left), eq-eqb _ _ (c .if4 .taken))
 
 returns-5 : tie.Need-returns-5
 unfolding nextOf
-returns-5 c = rw (lt-leb (c .before .before .before .before .before .before .args .n) (c .before .before .before .before .before .before .args .i) (c .before .before .before .before .before .if1 .left), lt-leb (c .before .before .before .before .before .before .args .m) (c .before .before .before .before .before .before .args .j) (c .before .before .before .before .if2 .left), ← c .before .before .before .order-key .ensures, ← c .before .before .order-key2 .ensures, le-ltb _ _ (c .before .if3 .left), ne-eqb _ _ (c .if4 .left))
+returns-5 c =
+    let args = c .before .before .before .before .before .before .args in
+    let if1 = c .before .before .before .before .before .if1 in
+    let if2 = c .before .before .before .before .if2 in
+    let order-key = c .before .before .before .order-key in
+    let order-key2 = c .before .before .order-key2 in
+    rw (lt-leb (args .n) (args .i) (if1 .left), lt-leb (args .m) (args .j) (if2 .left), ← order-key .ensures, ← order-key2 .ensures, le-ltb _ _ (c .before .if3 .left), ne-eqb _ _ (c .if4 .left))
 
 pub next-time-spec : {M : Type 1} → statement M
 next-time-spec =

@@ -1,8 +1,6 @@
 use borrow.Author.Needs.{needs}
 use Rattle.envelope.proofs.same_limit.Statement.{statement}
 use Rattle.envelope.proofs.same_limit.Tie as tie
-use Rattle.envelope.proofs.same_limit.Reads as reads
-use Rattle.envelope.proofs.same_limit.Lts as lts
 
 enum-told : tie.Need-enum-told
 enum-told c = search needs

@@ -4,8 +4,8 @@ use borrow.Author.Tests.{not-true, not-false}
 use Rattle.points.specs.declared.AutomationPoint.{AutomationPoint}
 use Rattle.points.specs.Point.{finitePoint}
 use Rattle.points.specs.Points.{listOf, every}
-use Rattle.points.specs.Laws.{every-one}
-use Rattle.points.specs.ValidLaws.{listOf-holding}
+use Rattle.points.proofs.Laws.{every-one}
+use Rattle.points.proofs.ValidLaws.{listOf-holding}
 use Rattle.settle.specs.Settle.{settle}
 use Rattle.insert.specs.Insert.{insertPoint, insertAll}
 use Rattle.insert.proofs.Merging.{not-valid, not-finite, settled}
@@ -30,22 +30,41 @@ one-requires c κs = search needs
 
 insert-points-requires : tie.Need-insert-points-requires
 insert-points-requires c κs =
-    let alone = ap listOf (c .one .ensures) ∙ listOf-holding (c .before .before .before .before .before .args .p ∷ []) in
-    (sym (c .before .before .before .before .is-valid .ensures) ∙ not-false _ (c .before .before .before .if1 .left), ap (every finitePoint) alone ∙ every-one finitePoint (c .before .before .before .before .before .args .p) ∙ sym (c .before .before .is-finite .ensures) ∙ not-false _ (c .before .if2 .left))
+    let args = c .before .before .before .before .before .args in
+    let is-valid = c .before .before .before .before .is-valid in
+    let if1 = c .before .before .before .if1 in
+    let is-finite = c .before .before .is-finite in
+    let alone = ap listOf (c .one .ensures) ∙ listOf-holding (args .p ∷ []) in
+    (sym (is-valid .ensures) ∙ not-false _ (if1 .left), ap (every finitePoint) alone ∙ every-one finitePoint (args .p) ∙ sym (is-finite .ensures) ∙ not-false _ (c .before .if2 .left))
 
 returns : tie.Need-returns
-returns c = c .refuse .ensures ∙ not-valid (c .before .before .before .args .points) (finitePoint (c .before .before .before .args .p)) (insertPoint (c .before .before .before .args .p) (listOf (c .before .before .before .args .points))) (sym (c .before .before .is-valid .ensures) ∙ not-true _ (c .before .if1 .taken))
+returns c =
+    let args = c .before .before .before .args in
+    let is-valid = c .before .before .is-valid in
+    c .refuse .ensures ∙ not-valid (args .points) (finitePoint (args .p)) (insertPoint (args .p) (listOf (args .points))) (sym (is-valid .ensures) ∙ not-true _ (c .before .if1 .taken))
 
 returns-2 : tie.Need-returns-2
-returns-2 c = c .refuse2 .ensures ∙ not-finite (c .before .before .before .before .before .args .points) (finitePoint (c .before .before .before .before .before .args .p)) (insertPoint (c .before .before .before .before .before .args .p) (listOf (c .before .before .before .before .before .args .points))) (sym (c .before .before .before .before .is-valid .ensures) ∙ not-false _ (c .before .before .before .if1 .left)) (sym (c .before .before .is-finite .ensures) ∙ not-true _ (c .before .if2 .taken))
+returns-2 c =
+    let args = c .before .before .before .before .before .args in
+    let is-valid = c .before .before .before .before .is-valid in
+    let if1 = c .before .before .before .if1 in
+    let is-finite = c .before .before .is-finite in
+    c .refuse2 .ensures
+    ∙ not-finite (args .points) (finitePoint (args .p)) (insertPoint (args .p) (listOf (args .points))) (sym (is-valid .ensures) ∙ not-false _ (if1 .left))
+    (sym (is-finite .ensures) ∙ not-true _ (c .before .if2 .taken))
 
 returns-3 : tie.Need-returns-3
 returns-3 c =
-    let ps = c .before .before .before .before .before .before .args .points in
-    let p = c .before .before .before .before .before .before .args .p in
+    let args = c .before .before .before .before .before .before .args in
+    let is-valid = c .before .before .before .before .before .is-valid in
+    let if1 = c .before .before .before .before .if1 in
+    let is-finite = c .before .before .before .is-finite in
+    let if2 = c .before .before .if2 in
+    let ps = args .points in
+    let p = args .p in
     let alone = ap listOf (c .before .one .ensures) ∙ listOf-holding (p ∷ []) in
     c .insert-points .ensures ∙ ap (λ (m : List AutomationPoint). settle ps (insertAll (listOf ps) m)) alone
-    ∙ settled ps (finitePoint p) (insertPoint p (listOf ps)) (sym (c .before .before .before .before .before .is-valid .ensures) ∙ not-false _ (c .before .before .before .before .if1 .left)) (sym (c .before .before .before .is-finite .ensures) ∙ not-false _ (c .before .before .if2 .left))
+    ∙ settled ps (finitePoint p) (insertPoint p (listOf ps)) (sym (is-valid .ensures) ∙ not-false _ (if1 .left)) (sym (is-finite .ensures) ∙ not-false _ (if2 .left))
 
 pub add-point-spec : {M : Type 1} → statement M
 add-point-spec =

@@ -4,7 +4,7 @@ use lib.Ieee.{ofBits}
 use Rattle.numbers.specs.Bounds.{finite}
 use Rattle.curve.specs.Curve.{finiteControls}
 use Rattle.curve.specs.F32.{f0, f1}
-use Rattle.points.specs.Laws.{and-true}
+use Rattle.points.proofs.Laws.{and-true}
 use Rattle.settle.specs.Settle.{editPoints}
 use Rattle.insert.specs.Insert.{rampList}
 use borrow.Author.Needs.{needs}
@@ -16,7 +16,10 @@ ramp-requires c κs = search needs
 
 returns : tie.Need-returns
 unfolding finite ofBits
-returns c = c .ramp .ensures ∙ ap (λ (b : Bool). editPoints (c .before .args .points) (b && finiteControls (c .before .args .curve)) (rampList (c .before .args .duration) f0 f1 (c .before .args .curve))) (and-true (finite (c .before .args .duration) && true) ∙ and-true (finite (c .before .args .duration)))
+returns c =
+    c .ramp .ensures
+    ∙ ap (λ (b : Bool). editPoints (c .before .args .points) (b && finiteControls (c .before .args .curve)) (rampList (c .before .args .duration) f0 f1 (c .before .args .curve)))
+    (and-true (finite (c .before .args .duration) && true) ∙ and-true (finite (c .before .args .duration)))
 
 pub fade-in-spec : {M : Type 1} → statement M
 fade-in-spec = tie.close (tie.spec ramp-requires returns)

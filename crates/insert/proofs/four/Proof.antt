@@ -21,7 +21,10 @@ element-set-from-d : tie.Need-element-set-from-d
 element-set-from-d c = search needs
 
 returns : tie.Need-returns
-returns c = ap {B = Points} (λ (x : Points). record { count = 4; places = set (set (set (set (x .places) 0 (c .before .args .a)) 1 (c .before .args .b)) 2 (c .before .args .c)) 3 (c .before .args .d) }) (c .none .ensures)
+returns c =
+    ap {B = Points}
+    (λ (x : Points). record { count = 4; places = set (set (set (set (x .places) 0 (c .before .args .a)) 1 (c .before .args .b)) 2 (c .before .args .c)) 3 (c .before .args .d) })
+    (c .none .ensures)
 
 pub four-spec : {M : Type 1} → statement M
 four-spec =

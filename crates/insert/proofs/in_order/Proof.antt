@@ -6,7 +6,7 @@ use borrow.Author.Tests.{le-leb}
 use lib.ListN.{length}
 use Rattle.points.specs.declared.AutomationPoint.{AutomationPoint}
 use Rattle.points.specs.Points.{listOf, holding, risingBy}
-use Rattle.points.specs.ValidLaws.{listOf-holding}
+use Rattle.points.proofs.ValidLaws.{listOf-holding}
 use Rattle.points.proofs.Good.{places}
 use Rattle.settle.proofs.Ends.{listOf-few}
 use Rattle.insert.specs.Insert.{insertAll}
@@ -19,7 +19,10 @@ times-rise-requires : tie.Need-times-rise-requires
 times-rise-requires c κs = search needs
 
 returns : tie.Need-returns
-returns c = sym (ap holding (rising-inserts (listOf (c .before .before .args .new)) (sym (c .before .times-rise .ensures) ∙ c .if1 .taken)) ∙ c .before .before .pre)
+returns c =
+    let entry = c .before .before in
+    let args = entry .args in
+    sym (ap holding (rising-inserts (listOf (args .new)) (sym (c .before .times-rise .ensures) ∙ c .if1 .taken)) ∙ entry .pre)
 
 none-requires : tie.Need-none-requires
 none-requires c κs = search needs
@@ -30,11 +33,15 @@ insert-all-requires c κs = sorted-holding (c .none .result) [] (c .none .ensure
 
 returns-2 : tie.Need-returns-2
 returns-2 c =
-    let m = listOf (c .before .before .before .before .before .args .new) in
-    let l = listOf (c .before .before .none .result) in
-    let e : l ≡ [] = ap listOf (c .before .before .none .ensures) ∙ listOf-holding [] in
-    let few = listOf-few (c .before .before .before .before .before .args .new) (places (c .before .before .before .before .before .args .new) _ (c .before .before .before .before .before .good .0)) in
-    c .before .insert-all .ensures .made (c .before .insert-all .ensures .fits ∙ le-leb (length (insertAll l m)) 256 (omega (arith, all-few l m, ap length e, few))) ∙ ap (λ (k : List AutomationPoint). holding (insertAll k m)) e
+    let args = c .before .before .before .before .before .args in
+    let good = c .before .before .before .before .before .good in
+    let none = c .before .before .none in
+    let m = listOf (args .new) in
+    let l = listOf (none .result) in
+    let e : l ≡ [] = ap listOf (none .ensures) ∙ listOf-holding [] in
+    let few = listOf-few (args .new) (places (args .new) _ (good .0)) in
+    c .before .insert-all .ensures .made (c .before .insert-all .ensures .fits ∙ le-leb (length (insertAll l m)) 256 (omega (arith, all-few l m, ap length e, few)))
+    ∙ ap (λ (k : List AutomationPoint). holding (insertAll k m)) e
 
 pub in-order-spec : {M : Type 1} → statement M
 in-order-spec =

@@ -47,37 +47,46 @@ insert-points-requires c κs =
 
 returns : tie.Need-returns
 returns c =
+    let is-valid = c .before .before .is-valid in
     let args = c .before .before .before .args in
-    c .refuse .ensures ∙ merge-invalid (args .points) (args .other) (args .offset) (sym (c .before .before .is-valid .ensures) ∙ not-true _ (c .before .if1 .taken))
+    c .refuse .ensures ∙ merge-invalid (args .points) (args .other) (args .offset) (sym (is-valid .ensures) ∙ not-true _ (c .before .if1 .taken))
 
 returns-2 : tie.Need-returns-2
 returns-2 c =
+    let is-valid2 = c .before .before .is-valid2 in
     let args = c .before .before .before .before .before .args in
-    c .refuse2 .ensures ∙ merge-other (args .points) (args .other) (args .offset) (sym (c .before .before .is-valid2 .ensures) ∙ not-true _ (c .before .if2 .taken))
+    c .refuse2 .ensures ∙ merge-other (args .points) (args .other) (args .offset) (sym (is-valid2 .ensures) ∙ not-true _ (c .before .if2 .taken))
 
 returns-3 : tie.Need-returns-3
 unfolding mergedPoints
 returns-3 c =
+    let is-valid = c .before .before .before .before .before .before .is-valid in
+    let if1 = c .before .before .before .before .before .if1 in
+    let is-valid2 = c .before .before .before .before .is-valid2 in
+    let if2 = c .before .before .before .if2 in
+    let is-finite = c .before .before .is-finite in
     let args = c .before .before .before .before .before .before .before .args in
     let ps = args .points in
     let l = merged (listOf ps) (listOf (args .other)) (args .offset) in
-    let valid : validPoints ps ≡ true = sym (c .before .before .before .before .before .before .is-valid .ensures) ∙ not-false _ (c .before .before .before .before .before .if1 .left) in
-    let other : validPoints (args .other) ≡ true = sym (c .before .before .before .before .is-valid2 .ensures) ∙ not-false _ (c .before .before .before .if2 .left) in
-    c .refuse3 .ensures ∙ not-finite ps (finite (args .offset)) l valid (sym (c .before .before .is-finite .ensures) ∙ not-true _ (c .before .if3 .taken))
+    let valid : validPoints ps ≡ true = sym (is-valid .ensures) ∙ not-false _ (if1 .left) in
+    let other : validPoints (args .other) ≡ true = sym (is-valid2 .ensures) ∙ not-false _ (if2 .left) in
+    c .refuse3 .ensures ∙ not-finite ps (finite (args .offset)) l valid (sym (is-finite .ensures) ∙ not-true _ (c .before .if3 .taken))
     ∙ merge-valid ps (args .other) (finite (args .offset)) l other
 
 returns-4 : tie.Need-returns-4
 unfolding mergedPoints
 returns-4 c =
+    let all-finite = c .before .before .all-finite in
     let shifted = c .before .before .before in
     let start = shifted .before .before .before .before .before .before .before in
     let args = start .args in
-    let valid : validPoints (args .points) ≡ true = sym (shifted .before .before .before .before .before .before .is-valid .ensures) ∙ not-false _ (shifted .before .before .before .before .before .if1 .left) in
+    let valid : validPoints (args .points)
+    ≡ true = sym (shifted .before .before .before .before .before .before .is-valid .ensures) ∙ not-false _ (shifted .before .before .before .before .before .if1 .left) in
     let other : validPoints (args .other) ≡ true = sym (shifted .before .before .before .before .is-valid2 .ensures) ∙ not-false _ (shifted .before .before .before .if2 .left) in
     let fine : finite (args .offset) ≡ true = sym (shifted .before .before .is-finite .ensures) ∙ not-false _ (shifted .before .if3 .left) in
     c .refuse4 .ensures
     ∙ merge-lost (args .points) (args .other) (shifted .map-points .result) (args .offset) valid other (places (args .other) _ (start .good .1 .0)) (shifted .map-points .ensures) fine
-    (sym (c .before .before .all-finite .ensures) ∙ not-true _ (c .before .if4 .taken))
+    (sym (all-finite .ensures) ∙ not-true _ (c .before .if4 .taken))
 
 returns-5 : tie.Need-returns-5
 unfolding mergedPoints
@@ -85,7 +94,8 @@ returns-5 c =
     let shifted = c .before .before .before in
     let start = shifted .before .before .before .before .before .before .before in
     let args = start .args in
-    let valid : validPoints (args .points) ≡ true = sym (shifted .before .before .before .before .before .before .is-valid .ensures) ∙ not-false _ (shifted .before .before .before .before .before .if1 .left) in
+    let valid : validPoints (args .points)
+    ≡ true = sym (shifted .before .before .before .before .before .before .is-valid .ensures) ∙ not-false _ (shifted .before .before .before .before .before .if1 .left) in
     let other : validPoints (args .other) ≡ true = sym (shifted .before .before .before .before .is-valid2 .ensures) ∙ not-false _ (shifted .before .before .before .if2 .left) in
     let fine : finite (args .offset) ≡ true = sym (shifted .before .before .is-finite .ensures) ∙ not-false _ (shifted .before .if3 .left) in
     c .insert-points .ensures

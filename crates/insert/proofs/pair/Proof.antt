@@ -24,20 +24,38 @@ element-set-from-b : tie.Need-element-set-from-b
 element-set-from-b c = search needs
 
 returns : tie.Need-returns
-returns c = ap {B = Points} (λ (x : Points). record { count = 2; places = set (set (x .places) 0 (c .before .before .before .before .args .a)) 1 (c .before .before .before .before .args .b) }) (c .before .before .before .none .ensures) ∙ ap holding (pair-up (c .before .before .before .before .args .a) (c .before .before .before .before .args .b) (omega (arith, c .before .before .order-key .ensures, c .before .order-key2 .ensures, c .if1 .taken)))
+returns c =
+    let args = c .before .before .before .before .args in
+    let none = c .before .before .before .none in
+    let order-key = c .before .before .order-key in
+    ap {B = Points} (λ (x : Points). record { count = 2; places = set (set (x .places) 0 (args .a)) 1 (args .b) }) (none .ensures)
+    ∙ ap holding (pair-up (args .a) (args .b) (omega (arith, order-key .ensures, c .before .order-key2 .ensures, c .if1 .taken)))
 
 element-set-from-b-2 : tie.Need-element-set-from-b-2
 element-set-from-b-2 c = search needs
 
 returns-2 : tie.Need-returns-2
-returns-2 c = ap {B = Points} (λ (x : Points). record { count = 1; places = set (x .places) 0 (c .before .before .before .before .before .args .b) }) (c .before .before .before .before .none .ensures) ∙ ap holding (pair-same (c .before .before .before .before .before .args .a) (c .before .before .before .before .before .args .b) (sym (c .before .before .before .order-key .ensures) ∙ c .if2 .taken ∙ c .before .before .order-key2 .ensures))
+returns-2 c =
+    let args = c .before .before .before .before .before .args in
+    let none = c .before .before .before .before .none in
+    let order-key = c .before .before .before .order-key in
+    let order-key2 = c .before .before .order-key2 in
+    ap {B = Points} (λ (x : Points). record { count = 1; places = set (x .places) 0 (args .b) }) (none .ensures)
+    ∙ ap holding (pair-same (args .a) (args .b) (sym (order-key .ensures) ∙ c .if2 .taken ∙ order-key2 .ensures))
 
 element-set-from-a-2 : tie.Need-element-set-from-a-2
 element-set-from-a-2 c = search needs
 
 returns-3 : tie.Need-returns-3
-returns-3 c = ap {B = Points} (λ (x : Points). record { count = 2; places = set (set (x .places) 0 (c .before .before .before .before .before .args .b)) 1 (c .before .before .before .before .before .args .a) }) (c .before .before .before .before .none .ensures)
-    ∙ ap holding (pair-down (c .before .before .before .before .before .args .a) (c .before .before .before .before .before .args .b) (omega (arith, c .before .before .before .order-key .ensures, c .before .before .order-key2 .ensures, c .before .if1 .left)) (λ e. c .if2 .left (c .before .before .before .order-key .ensures ∙ e ∙ sym (c .before .before .order-key2 .ensures))))
+returns-3 c =
+    let args = c .before .before .before .before .before .args in
+    let none = c .before .before .before .before .none in
+    let order-key = c .before .before .before .order-key in
+    let order-key2 = c .before .before .order-key2 in
+    ap {B = Points} (λ (x : Points). record { count = 2; places = set (set (x .places) 0 (args .b)) 1 (args .a) }) (none .ensures)
+    ∙ ap holding
+    (pair-down (args .a) (args .b) (omega (arith, order-key .ensures, order-key2 .ensures, c .before .if1 .left))
+    (λ e. c .if2 .left (order-key .ensures ∙ e ∙ sym (order-key2 .ensures))))
 
 pub pair-spec : {M : Type 1} → statement M
 pair-spec =

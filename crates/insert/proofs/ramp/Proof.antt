@@ -7,7 +7,7 @@ use Rattle.numbers.specs.Bounds.{finite}
 use Rattle.curve.specs.Curve.{finiteControls}
 use Rattle.curve.specs.declared.CurveType.the-variants.{Linear}
 use Rattle.points.specs.Points.{holding, risingBy}
-use Rattle.points.specs.Laws.{and-both}
+use Rattle.points.proofs.Laws.{and-both}
 use Rattle.points.specs.Point.{pointWith}
 use Rattle.pointwise.specs.Each.{zero64}
 use Rattle.insert.specs.Insert.{insertAll, rampList}
@@ -49,23 +49,43 @@ pair-requires c κs = search needs
 
 returns : tie.Need-returns
 returns c =
-    c .refuse .ensures ∙ not-valid (c .before .before .before .before .before .before .before .before .before .args .points) (finite (c .before .before .before .before .before .before .before .before .before .args .duration) && finite (c .before .before .before .before .before .before .before .before .before .args .start) && finite (c .before .before .before .before .before .before .before .before .before .args .end-value) && finiteControls (c .before .before .before .before .before .before .before .before .before .args .curve))
-    (rampList (c .before .before .before .before .before .before .before .before .before .args .duration) (c .before .before .before .before .before .before .before .before .before .args .start) (c .before .before .before .before .before .before .before .before .before .args .end-value) (c .before .before .before .before .before .before .before .before .before .args .curve)) (sym (c .before .before .is-valid .ensures) ∙ not-true _ (c .before .if1 .taken))
+    let args = c .before .before .before .before .before .before .before .before .before .args in
+    let is-valid = c .before .before .is-valid in
+    c .refuse .ensures ∙ not-valid (args .points) (finite (args .duration) && finite (args .start) && finite (args .end-value) && finiteControls (args .curve))
+    (rampList (args .duration) (args .start) (args .end-value) (args .curve)) (sym (is-valid .ensures) ∙ not-true _ (c .before .if1 .taken))
 
 returns-2 : tie.Need-returns-2
 returns-2 c =
-    let ok = and-both (and-both (and-both (c .before .before .before .before .before .before .before .before .before .is-finite .ensures) (c .before .before .before .before .before .before .before .before .is-finitef .ensures)) (c .before .before .before .before .before .before .before .is-finitef2 .ensures)) (c .before .before .before .before .before .before .is-finite2 .ensures) ∙ ramp-fine (c .before .before .before .before .before .before .before .before .before .before .args .duration) (c .before .before .before .before .before .before .before .before .before .before .args .start) (c .before .before .before .before .before .before .before .before .before .before .args .end-value) (c .before .before .before .before .before .before .before .before .before .before .args .curve) in
-    c .refuse2 .ensures ∙ any-three (c .before .before .before .before .before .before .before .before .before .before .args .points) (finite (c .before .before .before .before .before .before .before .before .before .before .args .duration) && finite (c .before .before .before .before .before .before .before .before .before .before .args .start) && finite (c .before .before .before .before .before .before .before .before .before .before .args .end-value) && finiteControls (c .before .before .before .before .before .before .before .before .before .before .args .curve))
-    (rampList (c .before .before .before .before .before .before .before .before .before .before .args .duration) (c .before .before .before .before .before .before .before .before .before .before .args .start) (c .before .before .before .before .before .before .before .before .before .before .args .end-value) (c .before .before .before .before .before .before .before .before .before .before .args .curve)) (sym (c .before .before .before .is-valid .ensures) ∙ not-false _ (c .before .before .if1 .left)) (sym ok ∙ not-true _ (c .before .if2 .taken))
+    let args = c .before .before .before .before .before .before .before .before .before .before .args in
+    let is-finite = c .before .before .before .before .before .before .before .before .before .is-finite in
+    let is-finitef = c .before .before .before .before .before .before .before .before .is-finitef in
+    let is-finitef2 = c .before .before .before .before .before .before .before .is-finitef2 in
+    let is-finite2 = c .before .before .before .before .before .before .is-finite2 in
+    let is-valid = c .before .before .before .is-valid in
+    let if1 = c .before .before .if1 in
+    let ok = and-both (and-both (and-both (is-finite .ensures) (is-finitef .ensures)) (is-finitef2 .ensures)) (is-finite2 .ensures)
+    ∙ ramp-fine (args .duration) (args .start) (args .end-value) (args .curve) in
+    c .refuse2 .ensures ∙ any-three (args .points) (finite (args .duration) && finite (args .start) && finite (args .end-value) && finiteControls (args .curve))
+    (rampList (args .duration) (args .start) (args .end-value) (args .curve)) (sym (is-valid .ensures) ∙ not-false _ (if1 .left)) (sym ok ∙ not-true _ (c .before .if2 .taken))
 
 returns-3 : tie.Need-returns-3
 unfolding risingBy
 returns-3 c =
-    let l = pointWith zero64 (c .before .before .before .before .before .before .before .before .before .before .args .start) Linear ∷ (pointWith (c .before .before .before .before .before .before .before .before .before .before .args .duration) (c .before .before .before .before .before .before .before .before .before .before .args .end-value) (c .before .before .before .before .before .before .before .before .before .before .args .curve) ∷ []) in
-    let ok = and-both (and-both (and-both (c .before .before .before .before .before .before .before .before .before .is-finite .ensures) (c .before .before .before .before .before .before .before .before .is-finitef .ensures)) (c .before .before .before .before .before .before .before .is-finitef2 .ensures)) (c .before .before .before .before .before .before .is-finite2 .ensures) ∙ ramp-fine (c .before .before .before .before .before .before .before .before .before .before .args .duration) (c .before .before .before .before .before .before .before .before .before .before .args .start) (c .before .before .before .before .before .before .before .before .before .before .args .end-value) (c .before .before .before .before .before .before .before .before .before .before .args .curve) in
-    made-new (c .before .before .before .before .before .before .before .before .before .before .args .points) (c .pair .result) (finite (c .before .before .before .before .before .before .before .before .before .before .args .duration) && finite (c .before .before .before .before .before .before .before .before .before .before .args .start) && finite (c .before .before .before .before .before .before .before .before .before .before .args .end-value) && finiteControls (c .before .before .before .before .before .before .before .before .before .before .args .curve))
-    (rampList (c .before .before .before .before .before .before .before .before .before .before .args .duration) (c .before .before .before .before .before .before .before .before .before .before .args .start) (c .before .before .before .before .before .before .before .before .before .before .args .end-value) (c .before .before .before .before .before .before .before .before .before .before .args .curve)) (sym (c .before .before .before .is-valid .ensures) ∙ not-false _ (c .before .before .if1 .left)) (sym ok ∙ not-false _ (c .before .if2 .left))
-    (rising-all [] l refl) (omega (arith, all-few [] l)) (c .pair .ensures ∙ (λ i. holding (insertAll [] (c .before .before .before .before .before .with-curve .ensures i ∷ (c .before .before .before .before .with-curve2 .ensures i ∷ [])))))
+    let args = c .before .before .before .before .before .before .before .before .before .before .args in
+    let is-finite = c .before .before .before .before .before .before .before .before .before .is-finite in
+    let is-finitef = c .before .before .before .before .before .before .before .before .is-finitef in
+    let is-finitef2 = c .before .before .before .before .before .before .before .is-finitef2 in
+    let is-finite2 = c .before .before .before .before .before .before .is-finite2 in
+    let with-curve = c .before .before .before .before .before .with-curve in
+    let with-curve2 = c .before .before .before .before .with-curve2 in
+    let is-valid = c .before .before .before .is-valid in
+    let if1 = c .before .before .if1 in
+    let l = pointWith zero64 (args .start) Linear ∷ (pointWith (args .duration) (args .end-value) (args .curve) ∷ []) in
+    let ok = and-both (and-both (and-both (is-finite .ensures) (is-finitef .ensures)) (is-finitef2 .ensures)) (is-finite2 .ensures)
+    ∙ ramp-fine (args .duration) (args .start) (args .end-value) (args .curve) in
+    made-new (args .points) (c .pair .result) (finite (args .duration) && finite (args .start) && finite (args .end-value) && finiteControls (args .curve))
+    (rampList (args .duration) (args .start) (args .end-value) (args .curve)) (sym (is-valid .ensures) ∙ not-false _ (if1 .left)) (sym ok ∙ not-false _ (c .before .if2 .left))
+    (rising-all [] l refl) (omega (arith, all-few [] l)) (c .pair .ensures ∙ (λ i. holding (insertAll [] (with-curve .ensures i ∷ (with-curve2 .ensures i ∷ [])))))
 
 pub ramp-spec : {M : Type 1} → statement M
 ramp-spec =

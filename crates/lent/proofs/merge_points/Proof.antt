@@ -28,9 +28,11 @@ use prog.Wp.{Heap, Out, Env, afterSeq, afterBlock, afterTurn, Calls, Loops, Wp, 
 use ghost.Atoms.{Atoms, sem}
 use contract.Monad.{Fun, fact}
 use contract.Running.{givenOf, tables, tablesOf}
-use types.Kit.{Given, Sq, runs, Item, ‵, raw, _⊛_, ⋆, some, later, anyQ, atRet, _$_, _∵_, !, qed, by, move, drop, use0, use1, split, join, pick, rewrite, fsplit, fjoin, suffices, frame, await, done}
+use types.Kit.{Given, Sq, runs, Item, ‵, raw, _⊛_, ⋆, some, later, anyQ, atRet, _$_, _∵_, !, qed, by, move, drop, use0, use1, split, join, pick, rewrite, fsplit, fjoin, suffices, frame}
+use types.Kit.{await, done}
 use types.Part.{whole, sub, look-in}
-use types.Run.{look, look-raw, store, init, forget, stop, hop, fld, from, load, lit, of-opd, bin, and-then, no-more, assigns, assigns-last, land, stays, leaves-loop, returns, enter, alloc1, alloc0, params1, pass1, pass0, free1, free0, exec}
+use types.Run.{look, look-raw, store, init, forget, stop, hop, fld, from, load, lit, of-opd, bin, and-then, no-more, assigns, assigns-last, land, stays, leaves-loop, returns, enter, alloc1, alloc0}
+use types.Run.{params1, pass1, pass0, free1, free0, exec}
 use types.Share.{arr-parts}
 use sound.Loop.{loop-rule}
 use sound.WpLaws.{FmC, fmOf, WpFn-mono}
@@ -116,10 +118,12 @@ module _ {M : Type 1} (𝓤 : URA M) (H : Heap 𝓤) (A : Atoms 𝓤) (mem : Mem
   End = tripleOf 𝓤 H A end.signature (end.spec 𝓤 H A mem run)
 
   -- of each callee's `ensured`, the clause alone: none has a `&mut`, so what is said of last values is dropped
-  said-start : (e : AutomationEnvelope) (n : ℕ) (d : Float) (m : Merging) → ent 𝓤 (ensured 𝓤 H A start.ended (start.clauses 𝓤 H A mem run) tt (e, (n, (d, tt))) tt m) (fact 𝓤 (m ≡ mergeStart e n d))
+  said-start : (e : AutomationEnvelope) (n : ℕ) (d : Float) (m : Merging)
+      → ent 𝓤 (ensured 𝓤 H A start.ended (start.clauses 𝓤 H A mem run) tt (e, (n, (d, tt))) tt m) (fact 𝓤 (m ≡ mergeStart e n d))
   said-start e n d m = exE 𝓤 _ (λ ws. snd∗ 𝓤 (sem 𝓤 H A (lasts start.ended tt (e, (n, (d, tt))) ws)) (fact 𝓤 (m ≡ mergeStart e n d)))
 
-  said-step : (m : Merging) (p : AutomationPoint) (m′ : Merging) → ent 𝓤 (ensured 𝓤 H A step.ended (step.clauses 𝓤 H A mem run) tt (m, (p, tt)) tt m′) (fact 𝓤 (m′ ≡ mergeStep m p))
+  said-step : (m : Merging) (p : AutomationPoint) (m′ : Merging)
+      → ent 𝓤 (ensured 𝓤 H A step.ended (step.clauses 𝓤 H A mem run) tt (m, (p, tt)) tt m′) (fact 𝓤 (m′ ≡ mergeStep m p))
   said-step m p m′ = exE 𝓤 _ (λ ws. snd∗ 𝓤 (sem 𝓤 H A (lasts step.ended tt (m, (p, tt)) ws)) (fact 𝓤 (m′ ≡ mergeStep m p)))
 
   said-end : (m : Merging) (r : Edited) → ent 𝓤 (ensured 𝓤 H A end.ended (end.clauses 𝓤 H A mem run) tt (m, tt) tt r) (fact 𝓤 (toldEdit r ≡ mergeEnd m))
@@ -130,7 +134,8 @@ module _ {M : Type 1} (𝓤 : URA M) (H : Heap 𝓤) (A : Atoms 𝓤) (W : Given
   abbrev to-start : AutomationEnvelope → Val → ℕ → Float → Start 𝓤 H A mem run .Ghost
   to-start e ev n d = ((tt, tt, tt, (e, (n, (d, tt))), (ev ∷ [], (vint w64 n ∷ [], (vfloat binary64 d ∷ [], tt)))), tt)
 
-  goes-start : (e : AutomationEnvelope) (ev : Val) (n : ℕ) (d : Float) → Is ET.the-row e (ev ∷ []) → n < 2 ^ 64 → Is f64 d (vfloat binary64 d ∷ []) → ent 𝓤 (emp 𝓤) (Start 𝓤 H A mem run .pre (to-start e ev n d))
+  goes-start : (e : AutomationEnvelope) (ev : Val) (n : ℕ) (d : Float) → Is ET.the-row e (ev ∷ []) → n < 2 ^ 64 → Is f64 d (vfloat binary64 d ∷ [])
+      → ent 𝓤 (emp 𝓤) (Start 𝓤 H A mem run .pre (to-start e ev n d))
   goes-start e ev n d ie gn id =
       qed W [] ∵ nothing ! $ nothing ! $ owned ! f64 (Is f64) (float-makes 𝓤 H A W binary64) d _ id $ fjoin ! $ owned ! usize (Is usize) (uint-makes 𝓤 H A W w64) n _ (refl, gn) $ fjoin ! $
       owned ! ET.the-row (Is ET.the-row) (LL.makes ET.the-type ET′.the-plain 𝓤 H A) e _ ie $ fjoin ! $ nothing ! $ join ! $ frame ! $ done !
@@ -138,7 +143,8 @@ module _ {M : Type 1} (𝓤 : URA M) (H : Heap 𝓤) (A : Atoms 𝓤) (W : Given
   abbrev to-step : Merging → Val → AutomationPoint → Val → Step 𝓤 H A mem run .Ghost
   to-step m u p v = ((tt, tt, tt, (m, (p, tt)), (u ∷ [], (v ∷ [], tt))), tt)
 
-  goes-step : (m : Merging) (u : Val) (p : AutomationPoint) (v : Val) → Is MT.the-row m (u ∷ []) → Is PT.the-row p (v ∷ []) → ent 𝓤 (emp 𝓤) (Step 𝓤 H A mem run .pre (to-step m u p v))
+  goes-step : (m : Merging) (u : Val) (p : AutomationPoint) (v : Val) → Is MT.the-row m (u ∷ []) → Is PT.the-row p (v ∷ [])
+      → ent 𝓤 (emp 𝓤) (Step 𝓤 H A mem run .pre (to-step m u p v))
   goes-step m u p v im ip =
       qed W [] ∵ nothing ! $ nothing ! $ owned ! PT.the-row (Is PT.the-row) (LL.makes PT.the-type PT′.the-plain 𝓤 H A) p _ ip $ fjoin ! $
       owned ! MT.the-row (Is MT.the-row) (LL.makes MT.the-type MT′.the-plain 𝓤 H A) m _ im $ fjoin ! $ nothing ! $ join ! $ frame ! $ done !
@@ -150,7 +156,8 @@ module _ {M : Type 1} (𝓤 : URA M) (H : Heap 𝓤) (A : Atoms 𝓤) (W : Given
   goes-end m u im =
       qed W [] ∵ nothing ! $ nothing ! $ owned ! MT.the-row (Is MT.the-row) (LL.makes MT.the-type MT′.the-plain 𝓤 H A) m _ im $ fjoin ! $ nothing ! $ join ! $ frame ! $ done !
 
-module _ {M : Type 1} (𝓤 : URA M) (H : Heap 𝓤) (A : Atoms 𝓤) (W : Given 𝓤 H A) (mem : Memory → SProp 𝓤) (run : Routine → Fun 𝓤) (κ : Lft) (q : Share) (e : AutomationEnvelope) (ev : Val) (ie : Is ET.the-row e (ev ∷ []))
+module _ {M : Type 1} (𝓤 : URA M) (H : Heap 𝓤) (A : Atoms 𝓤) (W : Given 𝓤 H A) (mem : Memory → SProp 𝓤) (run : Routine → Fun 𝓤) (κ : Lft) (q : Share)
+    (e : AutomationEnvelope) (ev : Val) (ie : Is ET.the-row e (ev ∷ []))
     (b o : ℕ) (γ : GName) (ys : List AutomationPoint) (d : Float) (id : Is f64 d (vfloat binary64 d ∷ [])) where
   abbrev n : ℕ
   n = length ys
@@ -188,7 +195,8 @@ module _ {M : Type 1} (𝓤 : URA M) (H : Heap 𝓤) (A : Atoms 𝓤) (W : Given
       nothing ! $ move ! (1 ∷ 0 ∷ []) $ join ! $ frame ! $ nothing ! $ nothing ! $ fjoin ! $ nothing ! $ fjoin ! $ nothing ! $ fjoin ! $ frame ! $
       owned ! DT.the-row (Is DT.the-row) (LL.makes DT.the-type DT′.the-plain 𝓤 H A) r _ ir $ done !
 
-  module _ (𝓣 : Tables 𝓤 H) (fm : FmC 𝓤 H (W .laws) (𝓣 .C)) (known-start : Triple 𝓤 (𝓣 .C #start) (Start 𝓤 H A mem run)) (known-step : Triple 𝓤 (𝓣 .C #step) (Step 𝓤 H A mem run)) (known-end : Triple 𝓤 (𝓣 .C #end) (End 𝓤 H A mem run))
+  module _ (𝓣 : Tables 𝓤 H) (fm : FmC 𝓤 H (W .laws) (𝓣 .C)) (known-start : Triple 𝓤 (𝓣 .C #start) (Start 𝓤 H A mem run))
+      (known-step : Triple 𝓤 (𝓣 .C #step) (Step 𝓤 H A mem run)) (known-end : Triple 𝓤 (𝓣 .C #end) (End 𝓤 H A mem run))
       (gn : n < 2 ^ 64) (gb : n * 40 < 2 ^ 63) where
     abbrev C : Calls 𝓤 H
     C = 𝓣 .C
@@ -198,18 +206,25 @@ module _ {M : Type 1} (𝓤 : URA M) (H : Heap 𝓤) (A : Atoms 𝓤) (W : Given
 
     module _ (l₀ l₁ l₂ l₃ l₄ l₅ l₆ l₇ l₈ l₉ l₁₀ : ℕ) where
       abbrev E : Env 𝓤 H
-      E = (DT′.mir, l₀) ∷ (ET′.mir, l₁) ∷ (slice, l₂) ∷ (double, l₃) ∷ (word, l₄) ∷ (MT′.mir, l₅) ∷ (word, l₆) ∷ (tyBool, l₇) ∷ (word, l₈) ∷ (tyPtr, l₉) ∷ (PT′.mir, l₁₀) ∷ []
+      E = (DT′.mir, l₀) ∷ (ET′.mir, l₁) ∷ (slice, l₂) ∷ (double, l₃) ∷ (word, l₄) ∷ (MT′.mir, l₅) ∷ (word, l₆) ∷ (tyBool, l₇) ∷ (word, l₈)
+          ∷ (tyPtr, l₉) ∷ (PT′.mir, l₁₀) ∷ []
 
       -- the locals, the last first, each with that it dies: where a turn begins, and at the first call. Local i stands at 20 - 2 · i
       abbrev Locals : ℕ → Val → List (Item 𝓤) → List (Item 𝓤)
-      Locals i u Γ = ‵ (froom PT′.mir l₁₀ 0) ∷ ‵ (fdies PT′.mir l₁₀) ∷ ‵ (froom tyPtr l₉ 0) ∷ ‵ (fdies tyPtr l₉) ∷ ‵ (froom word l₈ 0) ∷ ‵ (fdies word l₈) ∷ ‵ (froom tyBool l₇ 0) ∷ ‵ (fdies tyBool l₇)
-          ∷ ‵ (fat fullShare word l₆ 0 (vint w64 i)) ∷ ‵ (fdies word l₆) ∷ ‵ (fat fullShare MT′.mir l₅ 0 u) ∷ ‵ (fdies MT′.mir l₅) ∷ ‵ (fat fullShare word l₄ 0 (vint w64 n)) ∷ ‵ (fdies word l₄)
-          ∷ ‵ (fat fullShare double l₃ 0 (vfloat binary64 d)) ∷ ‵ (fdies double l₃) ∷ ‵ (fat fullShare slice l₂ 0 (sliceVal (b, o) n)) ∷ ‵ (fdies slice l₂) ∷ ‵ (fat fullShare ET′.mir l₁ 0 ev) ∷ ‵ (fdies ET′.mir l₁) ∷ ‵ (froom DT′.mir l₀ 0) ∷ ‵ (fdies DT′.mir l₀) ∷ Γ
+      Locals i u Γ = ‵ (froom PT′.mir l₁₀ 0) ∷ ‵ (fdies PT′.mir l₁₀) ∷ ‵ (froom tyPtr l₉ 0) ∷ ‵ (fdies tyPtr l₉) ∷ ‵ (froom word l₈ 0)
+          ∷ ‵ (fdies word l₈) ∷ ‵ (froom tyBool l₇ 0) ∷ ‵ (fdies tyBool l₇)
+          ∷ ‵ (fat fullShare word l₆ 0 (vint w64 i)) ∷ ‵ (fdies word l₆) ∷ ‵ (fat fullShare MT′.mir l₅ 0 u) ∷ ‵ (fdies MT′.mir l₅)
+          ∷ ‵ (fat fullShare word l₄ 0 (vint w64 n)) ∷ ‵ (fdies word l₄)
+          ∷ ‵ (fat fullShare double l₃ 0 (vfloat binary64 d)) ∷ ‵ (fdies double l₃) ∷ ‵ (fat fullShare slice l₂ 0 (sliceVal (b, o) n)) ∷ ‵ (fdies slice l₂)
+          ∷ ‵ (fat fullShare ET′.mir l₁ 0 ev) ∷ ‵ (fdies ET′.mir l₁) ∷ ‵ (froom DT′.mir l₀ 0) ∷ ‵ (fdies DT′.mir l₀) ∷ Γ
 
       abbrev Begun : List (Item 𝓤) → List (Item 𝓤)
-      Begun Γ = ‵ (froom PT′.mir l₁₀ 0) ∷ ‵ (fdies PT′.mir l₁₀) ∷ ‵ (froom tyPtr l₉ 0) ∷ ‵ (fdies tyPtr l₉) ∷ ‵ (froom word l₈ 0) ∷ ‵ (fdies word l₈) ∷ ‵ (froom tyBool l₇ 0) ∷ ‵ (fdies tyBool l₇)
-          ∷ ‵ (froom word l₆ 0) ∷ ‵ (fdies word l₆) ∷ ‵ (froom MT′.mir l₅ 0) ∷ ‵ (fdies MT′.mir l₅) ∷ ‵ (fat fullShare word l₄ 0 (vint w64 n)) ∷ ‵ (fdies word l₄)
-          ∷ ‵ (fat fullShare double l₃ 0 (vfloat binary64 d)) ∷ ‵ (fdies double l₃) ∷ ‵ (fat fullShare slice l₂ 0 (sliceVal (b, o) n)) ∷ ‵ (fdies slice l₂) ∷ ‵ (fat fullShare ET′.mir l₁ 0 ev) ∷ ‵ (fdies ET′.mir l₁) ∷ ‵ (froom DT′.mir l₀ 0) ∷ ‵ (fdies DT′.mir l₀) ∷ Γ
+      Begun Γ = ‵ (froom PT′.mir l₁₀ 0) ∷ ‵ (fdies PT′.mir l₁₀) ∷ ‵ (froom tyPtr l₉ 0) ∷ ‵ (fdies tyPtr l₉) ∷ ‵ (froom word l₈ 0)
+          ∷ ‵ (fdies word l₈) ∷ ‵ (froom tyBool l₇ 0) ∷ ‵ (fdies tyBool l₇)
+          ∷ ‵ (froom word l₆ 0) ∷ ‵ (fdies word l₆) ∷ ‵ (froom MT′.mir l₅ 0) ∷ ‵ (fdies MT′.mir l₅) ∷ ‵ (fat fullShare word l₄ 0 (vint w64 n))
+          ∷ ‵ (fdies word l₄)
+          ∷ ‵ (fat fullShare double l₃ 0 (vfloat binary64 d)) ∷ ‵ (fdies double l₃) ∷ ‵ (fat fullShare slice l₂ 0 (sliceVal (b, o) n)) ∷ ‵ (fdies slice l₂)
+          ∷ ‵ (fat fullShare ET′.mir l₁ 0 ev) ∷ ‵ (fdies ET′.mir l₁) ∷ ‵ (froom DT′.mir l₀ 0) ∷ ‵ (fdies DT′.mir l₀) ∷ Γ
 
       module _ (q′ : Share) where
         -- where a turn begins: [0 the list's elements; 1 the open borrow; 2 room for _10; 3 that it dies; …]. Local i stands at 22 - 2 · i
@@ -231,10 +246,12 @@ module _ {M : Type 1} (𝓤 : URA M) (H : Heap 𝓤) (A : Atoms 𝓤) (W : Given
         Left = afterBlock 𝓤 H (afterSeq 𝓤 H (Wp 𝓤 H C Λ E mirs.t-5 (atReturn 𝓤 H E Post)) (atReturn 𝓤 H E Post))
 
         holds-at : (t : ℕ) (s : ℕ × (Merging × Val)) → Facts t s → ent 𝓤 (⋆ 𝓤 H A (At (s .0) (s .1 .1))) (Inv t)
-        holds-at t s k = via 𝓤 (guard 𝓤 (Facts t s) (⋆ 𝓤 H A (At (s .0) (s .1 .1)))) (guardI 𝓤 (Facts t s) (⋆ 𝓤 H A (At (s .0) (s .1 .1))) k) (exI 𝓤 (λ (s′ : ℕ × (Merging × Val)). guard 𝓤 (Facts t s′) (⋆ 𝓤 H A (At (s′ .0) (s′ .1 .1)))) s)
+        holds-at t s k = via 𝓤 (guard 𝓤 (Facts t s) (⋆ 𝓤 H A (At (s .0) (s .1 .1)))) (guardI 𝓤 (Facts t s) (⋆ 𝓤 H A (At (s .0) (s .1 .1))) k)
+            (exI 𝓤 (λ (s′ : ℕ × (Merging × Val)). guard 𝓤 (Facts t s′) (⋆ 𝓤 H A (At (s′ .0) (s′ .1 .1)))) s)
 
         below : (t t′ : ℕ) (s : ℕ × (Merging × Val)) → t′ < t → Facts t′ s → ent 𝓤 (⋆ 𝓤 H A (At (s .0) (s .1 .1))) (Below t)
-        below t t′ s less k = via 𝓤 (Inv t′) (holds-at t′ s k) (via 𝓤 (guard 𝓤 (t′ < t) (Inv t′)) (guardI 𝓤 (t′ < t) (Inv t′) less) (exI 𝓤 (λ (u : ℕ). guard 𝓤 (u < t) (Inv u)) t′))
+        below t t′ s less k = via 𝓤 (Inv t′) (holds-at t′ s k)
+            (via 𝓤 (guard 𝓤 (t′ < t) (Inv t′)) (guardI 𝓤 (t′ < t) (Inv t′) less) (exI 𝓤 (λ (u : ℕ). guard 𝓤 (u < t) (Inv u)) t′))
 
         -- a turn that folds one element in
         more : (i : ℕ) (m : Merging) (u : Val) (X : SProp 𝓤) → Is MT.the-row m (u ∷ []) → i < n
@@ -253,10 +270,19 @@ module _ {M : Type 1} (𝓤 : URA M) (H : Heap 𝓤) (A : Atoms 𝓤) (W : Given
             -- [the element's cell; what it owns; the others; the open borrow; …]: each local is two further on
             assigns ! (of-opd ! (load ! (from ! (hop ! (look ! 6 refl) (stop !))) (look-raw ! 0 refl))) (from ! (stop !)) (init ! 4 refl (point-typed (getD ys i none) _ ip)) $
             elem-back ! PT.the-row q′ ys i none (LL.vals PT.the-type PT′.the-laws (getD ys i none)) b o small $
-            use0 W (raw (Step 𝓤 H A mem run .pre (to-step 𝓤 H A W mem run m u (getD ys i none) (LL.val PT.the-type PT′.the-laws (getD ys i none))))) (goes-step 𝓤 H A W mem run m u (getD ys i none) _ im ip) $
-            calls-at ! fm (Step 𝓤 H A mem run) known-step (to-step 𝓤 H A W mem run m u (getD ys i none) (LL.val PT.the-type PT′.the-laws (getD ys i none))) (and-then ! (load ! (from ! (stop !)) (look ! 13 refl)) (and-then ! (load ! (from ! (stop !)) (look ! 3 refl)) (no-more !))) (λ v.
-            use1 W (later (some (λ (m′ : Merging). (‵ ftrue ⊛ ‵ (MT.the-row .own m′ (v ∷ []))) ⊛ raw (ensured 𝓤 H A step.ended (step.clauses 𝓤 H A mem run) tt (m, (getD ys i none, tt)) tt m′)))) (id⊢ 𝓤 _) $ await ! tt $ pick ! (λ m′.
-            split ! $ move ! (1 ∷ []) $ use1 W (raw (fact 𝓤 (m′ ≡ mergeStep m (getD ys i none)))) (said-step 𝓤 H A mem run m (getD ys i none) m′) $ heard ! (m′ ≡ mergeStep m (getD ys i none)) (λ same. split ! $ drop ! $
+            use0 W (raw (Step 𝓤 H A mem run .pre (to-step 𝓤 H A W mem run m u (getD ys i none) (LL.val PT.the-type PT′.the-laws (getD ys i none)))))
+            (goes-step 𝓤 H A W mem run m u (getD ys i none) _ im ip) $
+            calls-at ! fm (Step 𝓤 H A mem run) known-step (to-step 𝓤 H A W mem run m u (getD ys i none) (LL.val PT.the-type PT′.the-laws (getD ys i none)))
+            (and-then ! (load ! (from ! (stop !)) (look ! 13 refl)) (and-then ! (load ! (from ! (stop !)) (look ! 3 refl)) (no-more !))) (λ v.
+            use1 W
+            (later
+            (some
+            (λ (m′ : Merging). (‵ ftrue ⊛ ‵ (MT.the-row .own m′ (v ∷ []))) ⊛ raw
+            (ensured 𝓤 H A step.ended (step.clauses 𝓤 H A mem run) tt (m, (getD ys i none, tt)) tt m′))))
+            (id⊢ 𝓤 _)
+            $ await ! tt $ pick ! (λ m′.
+            split ! $ move ! (1 ∷ []) $ use1 W (raw (fact 𝓤 (m′ ≡ mergeStep m (getD ys i none)))) (said-step 𝓤 H A mem run m (getD ys i none) m′)
+            $ heard ! (m′ ≡ mergeStep m (getD ys i none)) (λ same. split ! $ drop ! $
             facts ! MT.the-row (Is MT.the-row) (shows 𝓤 H A MT.the-row) m′ (v ∷ []) (λ im′.
             land ! (from ! (stop !)) (store ! 12 refl (state-typed m′ v im′)) $
             assigns-last ! (bin ! (load ! (from ! (stop !)) (look ! 10 refl)) (lit ! tt) (record { fits = next-fits })) (from ! (stop !)) (store ! 10 refl (tt, record { fits = next-fits })) $
@@ -269,7 +295,8 @@ module _ {M : Type 1} (𝓤 : URA M) (H : Heap 𝓤) (A : Atoms 𝓤) (W : Given
             next-fits = omega (arith, small, gn)
 
         -- the turn that leaves the loop, and the rest of the body: the last callee is called, and the borrow is shut
-        ends : (m : Merging) (u : Val) (X : SProp 𝓤) → Is MT.the-row m (u ∷ []) → mergeEnd m ≡ mergeListOf e ys d → ent 𝓤 (⋆ 𝓤 H A (At n u)) (Wp 𝓤 H C Λ E mirs.turn-1 (afterTurn 𝓤 H X Left))
+        ends : (m : Merging) (u : Val) (X : SProp 𝓤) → Is MT.the-row m (u ∷ []) → mergeEnd m ≡ mergeListOf e ys d
+            → ent 𝓤 (⋆ 𝓤 H A (At n u)) (Wp 𝓤 H C Λ E mirs.turn-1 (afterTurn 𝓤 H X Left))
         unfolding afterTurn
         ends m u X im is-whole =
             qed W (At n u) ∵ exec ! C Λ E mirs.turn-1 (anyQ (afterTurn 𝓤 H X Left)) $
@@ -278,14 +305,18 @@ module _ {M : Type 1} (𝓤 : URA M) (H : Heap 𝓤) (A : Atoms 𝓤) (W : Given
             leaves-loop ! (load ! (from ! (stop !)) (look ! 8 refl)) $ exec ! C Λ E mirs.t-5 (atRet E Post) $
             use0 W (raw (End 𝓤 H A mem run .pre (to-end 𝓤 H A W mem run m u))) (goes-end 𝓤 H A W mem run m u im) $
             calls-at ! fm (End 𝓤 H A mem run) known-end (to-end 𝓤 H A W mem run m u) (and-then ! (load ! (from ! (stop !)) (look ! 13 refl)) (no-more !)) (λ v.
-            use1 W (later (some (λ (r : Edited). (‵ ftrue ⊛ ‵ (DT.the-row .own r (v ∷ []))) ⊛ raw (ensured 𝓤 H A end.ended (end.clauses 𝓤 H A mem run) tt (m, tt) tt r)))) (id⊢ 𝓤 _) $ await ! tt $ pick ! (λ r.
+            use1 W (later (some (λ (r : Edited). (‵ ftrue ⊛ ‵ (DT.the-row .own r (v ∷ []))) ⊛ raw (ensured 𝓤 H A end.ended (end.clauses 𝓤 H A mem run) tt (m, tt) tt r))))
+            (id⊢ 𝓤 _)
+            $ await ! tt $ pick ! (λ r.
             split ! $ move ! (1 ∷ []) $ use1 W (raw (fact 𝓤 (toldEdit r ≡ mergeEnd m))) (said-end 𝓤 H A mem run m r) $ heard ! (toldEdit r ≡ mergeEnd m) (λ same. split ! $ drop ! $
             facts ! DT.the-row (Is DT.the-row) (shows 𝓤 H A DT.the-row) r (v ∷ []) (λ ir.
             land ! (from ! (stop !)) (init ! 22 refl (result-typed r v ir)) $
             shuts-slice ! tt PT.the-row q′ ys b o $
             -- [the token; room for _10; that it dies; …; _0; that it dies]
             returns ! (look ! 21 refl) $ forget ! 7 refl $ forget ! 9 refl $ forget ! 11 refl $ forget ! 13 refl $ forget ! 15 refl $ forget ! 17 refl $ forget ! 19 refl $ forget ! 21 refl $
-            move ! (21 ∷ 22 ∷ []) $ free1 ! $ move ! (19 ∷ 20 ∷ []) $ free1 ! $ move ! (17 ∷ 18 ∷ []) $ free1 ! $ move ! (15 ∷ 16 ∷ []) $ free1 ! $ move ! (13 ∷ 14 ∷ []) $ free1 ! $ move ! (11 ∷ 12 ∷ []) $ free1 ! $ move ! (9 ∷ 10 ∷ []) $ free1 ! $ move ! (7 ∷ 8 ∷ []) $ free1 ! $ move ! (5 ∷ 6 ∷ []) $ free1 ! $ move ! (3 ∷ 4 ∷ []) $ free1 ! $ move ! (1 ∷ 2 ∷ []) $ free1 ! $ free0 ! $
+            move ! (21 ∷ 22 ∷ []) $ free1 ! $ move ! (19 ∷ 20 ∷ []) $ free1 ! $ move ! (17 ∷ 18 ∷ []) $ free1 ! $ move ! (15 ∷ 16 ∷ []) $ free1 !
+            $ move ! (13 ∷ 14 ∷ []) $ free1 ! $ move ! (11 ∷ 12 ∷ []) $ free1 ! $ move ! (9 ∷ 10 ∷ []) $ free1 ! $ move ! (7 ∷ 8 ∷ []) $ free1 ! $ move ! (5 ∷ 6 ∷ [])
+            $ free1 ! $ move ! (3 ∷ 4 ∷ []) $ free1 ! $ move ! (1 ∷ 2 ∷ []) $ free1 ! $ free0 ! $
             by ! (exits r v ir (same ∙ is-whole))))))
 
         -- a turn from the invariant at t leaves the loop, or ends in the invariant below t
@@ -294,10 +325,12 @@ module _ {M : Type 1} (𝓤 : URA M) (H : Heap 𝓤) (A : Atoms 𝓤) (W : Given
           where
             last : i ≡ n → ent 𝓤 (⋆ 𝓤 H A (At i u)) (Wp 𝓤 H C Λ E mirs.turn-1 (afterTurn 𝓤 H (Below t) Left))
             last eq = subst (λ (j : ℕ). ent 𝓤 (⋆ 𝓤 H A (At j u)) (Wp 𝓤 H C Λ E mirs.turn-1 (afterTurn 𝓤 H (Below t) Left))) (sym eq)
-                (ends m u (Below t) (k .1 .1 .1) (ap mergeEnd (ap (λ (l : List AutomationPoint). foldOf m l) (sym (drop-of-length-le ys {i = i} (omega (arith, eq)))) ∙ k .1 .1 .0) ∙ folded e ys d))
+                (ends m u (Below t) (k .1 .1 .1)
+                (ap mergeEnd (ap (λ (l : List AutomationPoint). foldOf m l) (sym (drop-of-length-le ys {i = i} (omega (arith, eq)))) ∙ k .1 .1 .0) ∙ folded e ys d))
 
             again : i < n → ent 𝓤 (⋆ 𝓤 H A (At i u)) (Wp 𝓤 H C Λ E mirs.turn-1 (afterTurn 𝓤 H (Below t) Left))
-            again small = more i m u (Below t) (k .1 .1 .1) small (λ m′ u′ same im′. below t (n - (i + 1)) (i + 1, (m′, u′)) (omega (arith, small, k .0)) (refl, (omega (arith, small), (folds m′ same, im′))))
+            again small = more i m u (Below t) (k .1 .1 .1) small
+                (λ m′ u′ same im′. below t (n - (i + 1)) (i + 1, (m′, u′)) (omega (arith, small, k .0)) (refl, (omega (arith, small), (folds m′ same, im′))))
               where
                 folds : (m′ : Merging) → m′ ≡ mergeStep m (getD ys i none) → foldOf m′ (dropL (i + 1) ys) ≡ foldOf (mergeStart e n d) ys
                 folds m′ same =
@@ -305,7 +338,8 @@ module _ {M : Type 1} (𝓤 : URA M) (H : Heap 𝓤) (A : Atoms 𝓤) (W : Given
                     ∙ ap (λ (l : List AutomationPoint). foldOf m l) (sym (drop-cons ys i none small)) ∙ k .1 .1 .0
 
         turns : (t : ℕ) → ent 𝓤 (Inv t) (Wp 𝓤 H C Λ E mirs.turn-1 (afterTurn 𝓤 H (Below t) Left))
-        turns t = exE 𝓤 (λ (s : ℕ × (Merging × Val)). guard 𝓤 (Facts t s) (⋆ 𝓤 H A (At (s .0) (s .1 .1)))) (λ s. guardE 𝓤 (Facts t s) (⋆ 𝓤 H A (At (s .0) (s .1 .1))) (λ k. turn-at t s k))
+        turns t = exE 𝓤 (λ (s : ℕ × (Merging × Val)). guard 𝓤 (Facts t s) (⋆ 𝓤 H A (At (s .0) (s .1 .1))))
+            (λ s. guardE 𝓤 (Facts t s) (⋆ 𝓤 H A (At (s .0) (s .1 .1))) (λ k. turn-at t s k))
 
         loops : (m : Merging) (u : Val) → m ≡ mergeStart e n d → Is MT.the-row m (u ∷ []) → ent 𝓤 (⋆ 𝓤 H A (At 0 u)) (Wp 𝓤 H C Λ E (loop mirs.turn-1) Left)
         loops m u same im =
@@ -313,10 +347,12 @@ module _ {M : Type 1} (𝓤 : URA M) (H : Heap 𝓤) (A : Atoms 𝓤) (W : Given
             (loop-rule 𝓤 H (W .laws) 𝓣 _<_ (Nat·lt-wfRel .wf) E mirs.turn-1 Left Inv turns n)
 
       -- before the loop: of what the list owns the fractured borrow is kept, and opened
-      opened : (m : Merging) (u : Val) → m ≡ mergeStart e n d → Is MT.the-row m (u ∷ []) → Sq W (Locals 0 u ((‵ (flft κ q) ⊛ ‵ ftrue) ∷ ‵ (ShrSlice (named 0) κ PT.the-row .own (x .1 .0) (at .1 .0)) ∷ [])) (runs C Λ E mirs.t-4 (atRet E Post))
+      opened : (m : Merging) (u : Val) → m ≡ mergeStart e n d → Is MT.the-row m (u ∷ [])
+          → Sq W (Locals 0 u ((‵ (flft κ q) ⊛ ‵ ftrue) ∷ ‵ (ShrSlice (named 0) κ PT.the-row .own (x .1 .0) (at .1 .0)) ∷ [])) (runs C Λ E mirs.t-4 (atRet E Post))
       opened m u same im =
           move ! (23 ∷ []) $ fsplit ! $ drop ! $ fsplit ! $ drop ! $ move ! (23 ∷ []) $ split ! $ move ! (2 ∷ 0 ∷ []) $
-          looks-slice ! tt PT.the-row (Is PT.the-row) (shows 𝓤 H A PT.the-row) (LL.vals PT.the-type PT′.the-laws) (LL.tells PT.the-type PT′.the-laws) (LL.copy PT.the-type PT′.the-copy 𝓤 H A W) ys b o (λ q′.
+          looks-slice ! tt PT.the-row (Is PT.the-row) (shows 𝓤 H A PT.the-row) (LL.vals PT.the-type PT′.the-laws) (LL.tells PT.the-type PT′.the-laws)
+          (LL.copy PT.the-type PT′.the-copy 𝓤 H A W) ys b o (λ q′.
           -- [the elements; the open borrow; the fractured borrow; true; _10; …]
           move ! (2 ∷ 3 ∷ []) $ drop ! $ drop ! $ by ! (loops q′ m u same im))
 
@@ -324,8 +360,17 @@ module _ {M : Type 1} (𝓤 : URA M) (H : Heap 𝓤) (A : Atoms 𝓤) (W : Given
       started : Sq W (Begun ((‵ (flft κ q) ⊛ ‵ ftrue) ∷ ‵ (ShrSlice (named 0) κ PT.the-row .own (x .1 .0) (at .1 .0)) ∷ [])) (runs C Λ E mirs.t-2 (atRet E Post))
       started =
           use0 W (raw (Start 𝓤 H A mem run .pre (to-start 𝓤 H A W mem run e ev n d))) (goes-start 𝓤 H A W mem run e ev n d ie gn id) $
-          calls-at ! fm (Start 𝓤 H A mem run) known-start (to-start 𝓤 H A W mem run e ev n d) (and-then ! (load ! (from ! (stop !)) (look ! 19 refl)) (and-then ! (load ! (from ! (stop !)) (look ! 13 refl)) (and-then ! (load ! (from ! (stop !)) (look ! 15 refl)) (no-more !)))) (λ v.
-          use1 W (later (some (λ (m : Merging). (‵ ftrue ⊛ ‵ (MT.the-row .own m (v ∷ []))) ⊛ raw (ensured 𝓤 H A start.ended (start.clauses 𝓤 H A mem run) tt (e, (n, (d, tt))) tt m)))) (id⊢ 𝓤 _) $ await ! tt $ pick ! (λ m.
+          calls-at ! fm (Start 𝓤 H A mem run) known-start (to-start 𝓤 H A W mem run e ev n d)
+          (and-then ! (load ! (from ! (stop !)) (look ! 19 refl))
+          (and-then ! (load ! (from ! (stop !)) (look ! 13 refl)) (and-then ! (load ! (from ! (stop !)) (look ! 15 refl)) (no-more !))))
+          (λ v.
+          use1 W
+          (later
+          (some
+          (λ (m : Merging). (‵ ftrue ⊛ ‵ (MT.the-row .own m (v ∷ []))) ⊛ raw
+          (ensured 𝓤 H A start.ended (start.clauses 𝓤 H A mem run) tt (e, (n, (d, tt))) tt m))))
+          (id⊢ 𝓤 _)
+          $ await ! tt $ pick ! (λ m.
           split ! $ move ! (1 ∷ []) $ use1 W (raw (fact 𝓤 (m ≡ mergeStart e n d))) (said-start 𝓤 H A mem run e n d m) $ heard ! (m ≡ mergeStart e n d) (λ same. split ! $ drop ! $
           facts ! MT.the-row (Is MT.the-row) (shows 𝓤 H A MT.the-row) m (v ∷ []) (λ im.
           land ! (from ! (stop !)) (init ! 10 refl (state-typed m v im)) $
@@ -336,21 +381,29 @@ module _ {M : Type 1} (𝓤 : URA M) (H : Heap 𝓤) (A : Atoms 𝓤) (W : Given
     walk =
         qed W ((‵ (flft κ q) ⊛ ‵ ftrue) ∷ ‵ (owns (ET.the-row ∷ ShrSlice (named 0) κ PT.the-row ∷ f64 ∷ []) x at) ∷ []) ∵
         move ! (1 ∷ []) $ fsplit ! $ drop ! $ fsplit ! $ move ! (1 ∷ []) $ drop ! $ move ! (1 ∷ 0 ∷ []) $ enter ! C Λ code.function (ev ∷ sliceVal (b, o) n ∷ vfloat binary64 d ∷ []) _ $
-        alloc1 ! (λ l₀. alloc1 ! (λ l₁. alloc1 ! (λ l₂. alloc1 ! (λ l₃. alloc1 ! (λ l₄. alloc1 ! (λ l₅. alloc1 ! (λ l₆. alloc1 ! (λ l₇. alloc1 ! (λ l₈. alloc1 ! (λ l₉. alloc1 ! (λ l₁₀. alloc0 ! $ params1 ! $
+        alloc1 !
+        (λ l₀. alloc1 ! (λ l₁. alloc1 ! (λ l₂. alloc1 !
+        (λ l₃. alloc1 ! (λ l₄. alloc1 ! (λ l₅. alloc1 ! (λ l₆. alloc1 ! (λ l₇. alloc1 ! (λ l₈. alloc1 ! (λ l₉. alloc1 ! (λ l₁₀. alloc0 ! $ params1 ! $
         pass1 ! (init ! 18 refl env-typed) $ pass1 ! (init ! 16 refl (tt, (tt, (record { fits = gn }, tt)))) $ pass1 ! (init ! 14 refl (float-lawful 𝓤 H A W binary64 .typed d _ id .0)) $ pass0 ! $
         assigns ! (of-opd ! (load ! (from ! (fld ! refl (stop !))) (look-in ! 16 (sub ! 1 refl (whole !))))) (from ! (stop !)) (init ! 12 refl (tt, record { fits = gn })) $
         started l₀ l₁ l₂ l₃ l₄ l₅ l₆ l₇ l₈ l₉ l₁₀)))))))))))
 
-module _ {M : Type 1} (𝓤 : URA M) (H : Heap 𝓤) (A : Atoms 𝓤) (W : Given 𝓤 H A) (mem : Memory → SProp 𝓤) (run : Routine → Fun 𝓤) (𝓣 : Tables 𝓤 H) (known-start : Triple 𝓤 (𝓣 .C #start) (Start 𝓤 H A mem run)) (known-step : Triple 𝓤 (𝓣 .C #step) (Step 𝓤 H A mem run)) (known-end : Triple 𝓤 (𝓣 .C #end) (End 𝓤 H A mem run)) where
+module _ {M : Type 1} (𝓤 : URA M) (H : Heap 𝓤) (A : Atoms 𝓤) (W : Given 𝓤 H A) (mem : Memory → SProp 𝓤) (run : Routine → Fun 𝓤) (𝓣 : Tables 𝓤 H)
+    (known-start : Triple 𝓤 (𝓣 .C #start) (Start 𝓤 H A mem run)) (known-step : Triple 𝓤 (𝓣 .C #step) (Step 𝓤 H A mem run))
+    (known-end : Triple 𝓤 (𝓣 .C #end) (End 𝓤 H A mem run)) where
   walks : Walks 𝓤 H A f.ended stayed (WpFn 𝓤 H (𝓣 .C) (𝓣 .Λ) code.function) (f.clauses 𝓤 H A mem run)
   walks = walked 𝓤 H A f.ended stayed (f.clauses 𝓤 H A mem run) (WpFn 𝓤 H (𝓣 .C) (𝓣 .Λ) code.function)
-      (λ κs. (LL.vals ET.the-type ET′.the-laws, (slice-vals, (float-vals binary64, tt)))) (λ κs. (LL.tells ET.the-type ET′.the-laws, (shr-slice-tells (named 0) (κs .0) PT.the-row, (float-tells binary64, tt))))
+      (λ κs. (LL.vals ET.the-type ET′.the-laws, (slice-vals, (float-vals binary64, tt))))
+      (λ κs. (LL.tells ET.the-type ET′.the-laws, (shr-slice-tells (named 0) (κs .0) PT.the-row, (float-tells binary64, tt))))
       (λ κs qs bounds a g are. via 𝓤 _ (fst∗ 𝓤 _ (emp 𝓤))
-      (walk 𝓤 H A W mem run (κs .0) (qs .0) (a .0) _ (are .0) (a .1 .0 .ptr .0) (a .1 .0 .ptr .1) (a .1 .0 .name) (a .1 .0 .now) (a .1 .1 .0) (are .1 .1 .0) 𝓣 (fmOf 𝓤 H (W .laws) 𝓣) known-start known-step known-end (are .1 .0 .0 .1 .0) (are .1 .0 .0 .1 .1)))
+      (walk 𝓤 H A W mem run (κs .0) (qs .0) (a .0) _ (are .0) (a .1 .0 .ptr .0) (a .1 .0 .ptr .1) (a .1 .0 .name) (a .1 .0 .now) (a .1 .1 .0) (are .1 .1 .0) 𝓣
+      (fmOf 𝓤 H (W .laws) 𝓣) known-start known-step known-end (are .1 .0 .0 .1 .0) (are .1 .0 .0 .1 .1)))
 
   meets : Meets 𝓤 H A f.signature (WpFn 𝓤 H (𝓣 .C) (𝓣 .Λ) code.function) (f.spec 𝓤 H A mem run)
-  meets = walk-meets 𝓤 H A f.ended stayed W
-      (goes-dropped 𝓤 H A W 1 (plain (λ _. ET.the-row)) yes (λ κs x f. refl), (goes-dropped 𝓤 H A W 1 (shrSlice 0 tt (λ _. PT.the-row)) yes (λ κs x f. refl), (goes-dropped 𝓤 H A W 1 (plain (λ _. f64)) yes (λ κs x f. refl), tt)))
+  meets = walk-meets 𝓤 H A f.ended stayed W (
+    goes-dropped 𝓤 H A W 1 (plain (λ _. ET.the-row)) yes (λ κs x f. refl),
+    (goes-dropped 𝓤 H A W 1 (shrSlice 0 tt (λ _. PT.the-row)) yes (λ κs x f. refl), (goes-dropped 𝓤 H A W 1 (plain (λ _. f64)) yes (λ κs x f. refl), tt)),
+  )
       (f.clauses 𝓤 H A mem run) (WpFn 𝓤 H (𝓣 .C) (𝓣 .Λ) code.function) (WpFn-mono 𝓤 H (W .laws) 𝓣 code.function) walks
 
 pub merge-points-spec : {M : Type 1} → stated.statement M

@@ -2,9 +2,6 @@ use Rattle.lent.specs.Merge.{mergeStart}
 use borrow.Author.Needs.{needs}
 use Rattle.lent.proofs.merge_start.Statement.{statement}
 use Rattle.lent.proofs.merge_start.Tie as tie
-use Rattle.lent.proofs.merge_start.Reads as reads
-use Rattle.lent.proofs.merge_start.Lts as lts
-use Rattle.points.proofs.list.none.Reads as none-reads
 
 none-requires : tie.Need-none-requires
 none-requires c κs = search needs

@@ -8,11 +8,6 @@ use Rattle.play.proofs.Blocks.{block-refused, block-room, block-made}
 use borrow.Author.Needs.{needs}
 use Rattle.play.proofs.next_block.Statement.{statement}
 use Rattle.play.proofs.next_block.Tie as tie
-use Rattle.play.proofs.next_block.Reads as reads
-use Rattle.play.proofs.next_block.Lts as lts
-use Rattle.envelope.proofs.AutomationEnvelope.render.Reads as render-reads
-use Rattle.play.proofs.block_count.Reads as block-count-reads
-use Rattle.play.proofs.text.put_lines.Reads as put-lines-reads
 
 block-count-requires : tie.Need-block-count-requires
 block-count-requires c κs = search needs
@@ -30,18 +25,35 @@ enum-told : tie.Need-enum-told
 enum-told c = search needs
 
 put-lines-requires : tie.Need-put-lines-requires
-put-lines-requires c κs = block-room (c .before .before .before .before .before .before .before .before .before .args .play) (c .before .before .before .before .before .before .before .block-count .result) (c .before .before .before .before .before .before .before .block-count .ensures) (replicate 1024 (ofBits binary32 0)) (omega (arith, length-replicate 1024 (ofBits binary32 0))) (sym (c .before .before .before .before .before .render .ensures .0) ∙ ap said (c .before .before .enum-told .given .1)) (c .before .before .before .before .before .render .ensures .1) (c .before .before .before .before .before .before .before .before .before .args .out .now) (search needs)
+put-lines-requires c κs =
+    let args = c .before .before .before .before .before .before .before .before .before .args in
+    let block-count = c .before .before .before .before .before .before .before .block-count in
+    let render = c .before .before .before .before .before .render in
+    let enum-told = c .before .before .enum-told in
+    block-room (args .play) (block-count .result) (block-count .ensures) (replicate 1024 (ofBits binary32 0)) (omega (arith, length-replicate 1024 (ofBits binary32 0)))
+    (sym (render .ensures .0) ∙ ap said (enum-told .given .1)) (render .ensures .1) (args .out .now) (search needs)
 
 add-t19 : tie.Need-add-t19
 add-t19 c = search needs
 
 returns : tie.Need-returns
 unfolding toldWritten
-returns c = block-refused (c .before .before .before .before .before .before .before .before .args .play) (c .before .before .before .before .before .before .block-count .result) (c .before .before .before .before .before .before .block-count .ensures) (replicate 1024 (ofBits binary32 0)) (omega (arith, length-replicate 1024 (ofBits binary32 0))) (number (c .before .why .given .0 .0)) (c .before .before .before .before .before .before .before .before .args .out .now) (sym (c .before .before .before .before .render .ensures .0) ∙ ap said (c .before .why .given .1))
+returns c =
+    let args = c .before .before .before .before .before .before .before .before .args in
+    let block-count = c .before .before .before .before .before .before .block-count in
+    let render = c .before .before .before .before .render in
+    block-refused (args .play) (block-count .result) (block-count .ensures) (replicate 1024 (ofBits binary32 0)) (omega (arith, length-replicate 1024 (ofBits binary32 0)))
+    (number (c .before .why .given .0 .0)) (args .out .now) (sym (render .ensures .0) ∙ ap said (c .before .why .given .1))
 
 returns-2 : tie.Need-returns-2
 unfolding toldWritten
-returns-2 c = block-made (c .before .before .before .before .before .before .before .before .before .before .args .play) (c .before .before .before .before .before .before .before .before .block-count .result) (c .before .before .before .before .before .before .before .before .block-count .ensures) (replicate 1024 (ofBits binary32 0)) (omega (arith, length-replicate 1024 (ofBits binary32 0))) (sym (c .before .before .before .before .before .before .render .ensures .0) ∙ ap said (c .before .before .before .enum-told .given .1)) (c .before .before .before .before .before .before .render .ensures .1) (search needs) (c .put-lines .ensures)
+returns-2 c =
+    let args = c .before .before .before .before .before .before .before .before .before .before .args in
+    let block-count = c .before .before .before .before .before .before .before .before .block-count in
+    let render = c .before .before .before .before .before .before .render in
+    let enum-told = c .before .before .before .enum-told in
+    block-made (args .play) (block-count .result) (block-count .ensures) (replicate 1024 (ofBits binary32 0)) (omega (arith, length-replicate 1024 (ofBits binary32 0)))
+    (sym (render .ensures .0) ∙ ap said (enum-told .given .1)) (render .ensures .1) (search needs) (c .put-lines .ensures)
 
 pub next-block-spec : {M : Type 1} → statement M
 next-block-spec =

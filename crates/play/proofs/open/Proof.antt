@@ -2,12 +2,6 @@ use Rattle.play.proofs.Opening.{refused-is, many-opens, few-opens}
 use borrow.Author.Needs.{needs}
 use Rattle.play.proofs.open.Statement.{statement}
 use Rattle.play.proofs.open.Tie as tie
-use Rattle.play.proofs.open.Reads as reads
-use Rattle.play.proofs.open.Lts as lts
-use Rattle.numbers.proofs.convert.f64_to_u64.Reads as f64-to-u64-reads
-use Rattle.play.proofs.refused.Reads as refused-reads
-use Rattle.sheet.proofs.play.read_play.Reads as read-play-reads
-use Rattle.fields.proofs.write.fit_text.Reads as fit-text-reads
 
 read-play-requires : tie.Need-read-play-requires
 read-play-requires c κs = search needs
@@ -28,7 +22,13 @@ refused-requires-2 : tie.Need-refused-requires-2
 refused-requires-2 c κs = search needs
 
 returns : tie.Need-returns
-returns c = many-opens (c .before .before .before .before .before .before .before .before .before .args .s .now) (c .before .before .before .before .before .before .before .read-play .result) (c .before .before .before .before .before .before .before .read-play .ensures .0) (c .before .before .before .before .before .enum-told .given .1) (c .before .before .before .f64-to-u64 .result) (c .before .before .before .f64-to-u64 .ensures) (c .before .before .if1 .taken) (c .refused2 .ensures)
+returns c =
+    let args = c .before .before .before .before .before .before .before .before .before .args in
+    let read-play = c .before .before .before .before .before .before .before .read-play in
+    let enum-told = c .before .before .before .before .before .enum-told in
+    let f64-to-u64 = c .before .before .before .f64-to-u64 in
+    let if1 = c .before .before .if1 in
+    many-opens (args .s .now) (read-play .result) (read-play .ensures .0) (enum-told .given .1) (f64-to-u64 .result) (f64-to-u64 .ensures) (if1 .taken) (c .refused2 .ensures)
 
 slice-aggregate-fit-text : tie.Need-slice-aggregate-fit-text
 slice-aggregate-fit-text c = search needs
@@ -37,10 +37,20 @@ fit-text-requires : tie.Need-fit-text-requires
 fit-text-requires c κs = search needs
 
 returns-2 : tie.Need-returns-2
-returns-2 c = refused-is (c .before .before .before .before .before .before .before .args .s .now) (c .before .before .before .before .before .read-play .result) (c .before .before .before .before .before .read-play .ensures .0) (c .before .before .before .answer .given .1) (c .refused .ensures)
+returns-2 c =
+    let args = c .before .before .before .before .before .before .before .args in
+    let read-play = c .before .before .before .before .before .read-play in
+    let answer = c .before .before .before .answer in
+    refused-is (args .s .now) (read-play .result) (read-play .ensures .0) (answer .given .1) (c .refused .ensures)
 
 returns-3 : tie.Need-returns-3
-returns-3 c = few-opens (c .before .before .before .before .before .before .before .before .before .before .before .args .s .now) (c .before .before .before .before .before .before .before .before .before .read-play .result) (c .before .before .before .before .before .before .before .before .before .read-play .ensures .0) (c .before .before .before .before .before .before .before .enum-told .given .1) (c .before .before .before .before .before .f64-to-u64 .result) (c .before .before .before .before .before .f64-to-u64 .ensures) (c .before .before .before .before .if1 .left) (c .fit-text .ensures) (search needs)
+returns-3 c =
+    let args = c .before .before .before .before .before .before .before .before .before .before .before .args in
+    let read-play = c .before .before .before .before .before .before .before .before .before .read-play in
+    let enum-told = c .before .before .before .before .before .before .before .enum-told in
+    let f64-to-u64 = c .before .before .before .before .before .f64-to-u64 in
+    let if1 = c .before .before .before .before .if1 in
+    few-opens (args .s .now) (read-play .result) (read-play .ensures .0) (enum-told .given .1) (f64-to-u64 .result) (f64-to-u64 .ensures) (if1 .left) (c .fit-text .ensures) (search needs)
 
 pub open-spec : {M : Type 1} → statement M
 open-spec =

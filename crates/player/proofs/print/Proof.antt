@@ -3,15 +3,15 @@ use lib.Seq.{length-take-le}
 use borrow.Author.Needs.{needs}
 use Rattle.player.proofs.print.Statement.{statement}
 use Rattle.player.proofs.print.Tie as tie
-use Rattle.player.proofs.print.Reads as reads
-use Rattle.player.proofs.print.Lts as lts
-use Rattle.io.proofs.write_all.Reads as write-all-reads
 
 slice-reshare-prefix-write-all : tie.Need-slice-reshare-prefix-write-all
 slice-reshare-prefix-write-all c = search needs
 
 slice-aggregate-write-all : tie.Need-slice-aggregate-write-all
-slice-aggregate-write-all c = sym (length-take-le (c .before .before .args .n) (c .before .before .args .out .now) (c .before .before .pre))
+slice-aggregate-write-all c =
+    let entry = c .before .before in
+    let args = entry .args in
+    sym (length-take-le (args .n) (args .out .now) (entry .pre))
 
 write-all-requires : tie.Need-write-all-requires
 write-all-requires c κs = search needs

@@ -4,9 +4,6 @@ use borrow.Author.Tests.{not-false}
 use borrow.Author.Needs.{needs}
 use Rattle.player.proofs.print_blocks.Statement.{statement}
 use Rattle.player.proofs.print_blocks.Tie as tie
-use Rattle.player.proofs.print_blocks.Reads as reads
-use Rattle.player.proofs.print_blocks.Lts as lts
-use Rattle.player.proofs.print_block.Reads as print-block-reads
 
 abbrev Inv-loop : tie.InvT-loop
 Inv-loop out₀ left₀ out left = Unit {0}
@@ -24,7 +21,11 @@ returns : tie.Need-returns Inv-loop μ-loop
 returns c = search needs
 
 loop-less : tie.Need-loop-less Inv-loop μ-loop
-loop-less c = let m = c .before .before .before .print-block .ensures (not-false _ (c .before .if2 .left)) (c .before .before .before .before .before .if1 .taken) in omega (arith, m .0, m .1)
+loop-less c =
+    let if1 = c .before .before .before .before .before .if1 in
+    let print-block = c .before .before .before .print-block in
+    let m = print-block .ensures (not-false _ (c .before .if2 .left)) (if1 .taken) in
+    omega (arith, m .0, m .1)
 
 loop-again : tie.Need-loop-again Inv-loop μ-loop
 loop-again c = tt

@@ -5,17 +5,14 @@ use Rattle.play.proofs.Texts.{first-length}
 use borrow.Author.Needs.{needs}
 use Rattle.player.proofs.print_play.Statement.{statement}
 use Rattle.player.proofs.print_play.Tie as tie
-use Rattle.player.proofs.print_play.Reads as reads
-use Rattle.player.proofs.print_play.Lts as lts
-use Rattle.play.proofs.open.Reads as open-reads
-use Rattle.player.proofs.print.Reads as print-reads
-use Rattle.player.proofs.print_blocks.Reads as print-blocks-reads
 
 open-requires : tie.Need-open-requires
 open-requires c κs = search needs
 
 print-requires : tie.Need-print-requires
-print-requires c κs = omega (arith, c .before .before .«open» .ensures .bytes, first-length (counted (playInput (c .before .before .before .before .before .args .s .now))))
+print-requires c κs =
+    let args = c .before .before .before .before .before .args in
+    omega (arith, c .before .before .«open» .ensures .bytes, first-length (counted (playInput (args .s .now))))
 
 print-blocks-requires : tie.Need-print-blocks-requires
 print-blocks-requires c κs = search needs

@@ -3,7 +3,7 @@ use mathlib.Core.Bool.{Bool}
 use mathlib.Core.List.{map}
 use lib.Ieee.{binary64, sub}
 use Rattle.points.specs.Points.{listOf}
-use Rattle.points.specs.Laws.{and-both}
+use Rattle.points.proofs.Laws.{and-both}
 use Rattle.settle.specs.Settle.{editPoints}
 use Rattle.pointwise.specs.Each.{changed}
 use Rattle.pointwise.specs.declared.Change.the-variants.{FadeOut}
@@ -28,17 +28,24 @@ edit-each-requires c κs = search needs
 
 returns : tie.Need-returns
 returns c =
-    let ps = c .before .before .before .before .args .points in
-    rw (c .before .if1 .taken) (c .keep .ensures ∙ ap (λ (ok : Bool). editPoints ps ok (listOf ps)) (and-both (c .before .before .before .is-finite .ensures) (c .before .before .is-finite2 .ensures)))
+    let args = c .before .before .before .before .args in
+    let is-finite = c .before .before .before .is-finite in
+    let is-finite2 = c .before .before .is-finite2 in
+    let ps = args .points in
+    rw (c .before .if1 .taken) (c .keep .ensures ∙ ap (λ (ok : Bool). editPoints ps ok (listOf ps)) (and-both (is-finite .ensures) (is-finite2 .ensures)))
 
 returns-2 : tie.Need-returns-2
 returns-2 c =
-    let ps = c .before .before .before .before .before .args .points in
-    let d = c .before .before .before .before .before .args .duration in
-    let v = c .before .before .before .before .before .args .curve in
+    let args = c .before .before .before .before .before .args in
+    let is-finite = c .before .before .before .before .is-finite in
+    let is-finite2 = c .before .before .before .is-finite2 in
+    let if1 = c .before .before .if1 in
+    let ps = args .points in
+    let d = args .duration in
+    let v = args .curve in
     let e = c .before .last-time .ensures in
-    let ok = and-both (c .before .before .before .before .is-finite .ensures) (c .before .before .before .is-finite2 .ensures) in
-    rw (c .before .before .if1 .left) (c .edit-each .ensures ∙ (λ j. editPoints ps (ok j) (map (changed (FadeOut (sub binary64 (e j) d) d v)) (listOf ps))))
+    let ok = and-both (is-finite .ensures) (is-finite2 .ensures) in
+    rw (if1 .left) (c .edit-each .ensures ∙ (λ j. editPoints ps (ok j) (map (changed (FadeOut (sub binary64 (e j) d) d v)) (listOf ps))))
 
 pub apply-fade-out-spec : {M : Type 1} → statement M
 apply-fade-out-spec =

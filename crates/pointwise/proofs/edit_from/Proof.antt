@@ -32,45 +32,59 @@ refuse-requires-4 c κs = search needs
 
 returns : tie.Need-returns
 returns c =
+    let is-valid = c .before .before .before .before .before .before .is-valid in
+    let if1 = c .before .before .before .before .before .if1 in
+    let if2 = c .before .before .before .before .if2 in
+    let if3 = c .before .before .if3 in
     let start = c .before .before .before .before .before .before .before in
     let args = start .args in
     let made = c .before .before .before .map-tested in
     let base = args .base in
     let len = ap (λ (x : Points). length (x .places)) (made .ensures .0) ∙ map-long (changed (args .change)) (base .count) (base .places) ∙ places base _ (start .good .1 .1 .0) in
-    out-accepted (args .points) (made .result .points) (args .ok) (c .before .before .before .before .before .before .is-valid .ensures)
-    (c .before .before .before .before .before .if1 .taken) (c .before .before .before .before .if2 .taken)
-    (made .ensures .1) (c .before .before .if3 .taken) (made .ensures .2) (c .before .if4 .taken) len
+    out-accepted (args .points) (made .result .points) (args .ok) (is-valid .ensures)
+    (if1 .taken) (if2 .taken)
+    (made .ensures .1) (if3 .taken) (made .ensures .2) (c .before .if4 .taken) len
     ∙ ap (finished (args .points) (args .ok)) (made .ensures .0)
 
 returns-2 : tie.Need-returns-2
 returns-2 c =
+    let is-valid = c .before .before .before .before .before .before .is-valid in
+    let if1 = c .before .before .before .before .before .if1 in
+    let if2 = c .before .before .before .before .if2 in
+    let if3 = c .before .before .if3 in
     let args = c .before .before .before .before .before .before .before .args in
     let made = c .before .before .before .map-tested in
     c .refuse .ensures
-    ∙ out-rise (args .points) (made .result .points) (args .ok) (c .before .before .before .before .before .before .is-valid .ensures)
-    (c .before .before .before .before .before .if1 .taken) (c .before .before .before .before .if2 .taken)
-    (made .ensures .1) (c .before .before .if3 .taken) (made .ensures .2) (c .before .if4 .left)
+    ∙ out-rise (args .points) (made .result .points) (args .ok) (is-valid .ensures)
+    (if1 .taken) (if2 .taken)
+    (made .ensures .1) (if3 .taken) (made .ensures .2) (c .before .if4 .left)
     ∙ ap (finished (args .points) (args .ok)) (made .ensures .0)
 
 returns-3 : tie.Need-returns-3
 returns-3 c =
+    let is-valid = c .before .before .before .before .before .is-valid in
+    let if1 = c .before .before .before .before .if1 in
+    let if2 = c .before .before .before .if2 in
     let args = c .before .before .before .before .before .before .args in
     let made = c .before .before .map-tested in
     c .refuse2 .ensures
-    ∙ out-finite (args .points) (made .result .points) (args .ok) (c .before .before .before .before .before .is-valid .ensures)
-    (c .before .before .before .before .if1 .taken) (c .before .before .before .if2 .taken) (made .ensures .1) (c .before .if3 .left)
+    ∙ out-finite (args .points) (made .result .points) (args .ok) (is-valid .ensures)
+    (if1 .taken) (if2 .taken) (made .ensures .1) (c .before .if3 .left)
     ∙ ap (finished (args .points) (args .ok)) (made .ensures .0)
 
 returns-4 : tie.Need-returns-4
 returns-4 c =
+    let is-valid = c .before .before .before .is-valid in
+    let if1 = c .before .before .if1 in
     let args = c .before .before .before .before .args in
     c .refuse3 .ensures
-    ∙ out-ok (args .points) (mappedIn (changed (args .change)) (args .base)) (args .ok) (c .before .before .before .is-valid .ensures) (c .before .before .if1 .taken) (c .before .if2 .left)
+    ∙ out-ok (args .points) (mappedIn (changed (args .change)) (args .base)) (args .ok) (is-valid .ensures) (if1 .taken) (c .before .if2 .left)
 
 returns-5 : tie.Need-returns-5
 returns-5 c =
+    let is-valid = c .before .before .is-valid in
     let args = c .before .before .before .args in
-    c .refuse4 .ensures ∙ out-valid (args .points) (mappedIn (changed (args .change)) (args .base)) (args .ok) (c .before .before .is-valid .ensures) (c .before .if1 .left)
+    c .refuse4 .ensures ∙ out-valid (args .points) (mappedIn (changed (args .change)) (args .base)) (args .ok) (is-valid .ensures) (c .before .if1 .left)
 
 pub edit-from-spec : {M : Type 1} → statement M
 edit-from-spec =

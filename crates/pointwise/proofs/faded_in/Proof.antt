@@ -11,7 +11,10 @@ interpolate-requires c κs = search needs
 
 returns : tie.Need-returns
 unfolding fadedIn
-returns c = rw (c .before .before .before .if1 .taken, c .before .interpolate .ensures, c .before .before .fade-fraction .ensures)
+returns c =
+    let if1 = c .before .before .before .if1 in
+    let fade-fraction = c .before .before .fade-fraction in
+    rw (if1 .taken, c .before .interpolate .ensures, fade-fraction .ensures)
 
 returns-2 : tie.Need-returns-2
 unfolding fadedIn

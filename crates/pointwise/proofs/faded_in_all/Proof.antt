@@ -17,7 +17,10 @@ map-points-requires : tie.Need-map-points-requires
 map-points-requires c κs = search needs
 
 returns-2 : tie.Need-returns-2
-returns-2 c = rw (c .before .before .if1 .left) (c .map-points .ensures ∙ ap (λ (t : Float). mappedIn (changed (FadeIn t (c .before .before .before .args .duration) (c .before .before .before .args .curve))) (c .before .before .before .args .points)) (c .before .first-time .ensures))
+returns-2 c =
+    let args = c .before .before .before .args in
+    let if1 = c .before .before .if1 in
+    rw (if1 .left) (c .map-points .ensures ∙ ap (λ (t : Float). mappedIn (changed (FadeIn t (args .duration) (args .curve))) (args .points)) (c .before .first-time .ensures))
 
 pub faded-in-all-spec : {M : Type 1} → statement M
 faded-in-all-spec = tie.close (tie.spec returns first-time-requires map-points-requires returns-2)

@@ -20,7 +20,11 @@ element-copy-out-p : tie.Need-element-copy-out-p
 element-copy-out-p c = search needs
 
 returns-2 : tie.Need-returns-2
-returns-2 c = last-is (c .before .before .before .args .t1) (c .before .before .used .result) (places (c .before .before .before .args .t1) _ (c .before .before .before .good .0)) (c .before .before .used .ensures) (c .before .if1 .left)
+returns-2 c =
+    let entry = c .before .before .before in
+    let args = entry .args in
+    let used = c .before .before .used in
+    last-is (args .t1) (used .result) (places (args .t1) _ (entry .good .0)) (used .ensures) (c .before .if1 .left)
 
 pub last-time-spec : {M : Type 1} → statement M
 last-time-spec =

@@ -4,7 +4,7 @@ use native.Mathlib.Omega.{arith}
 use lib.ListN.{length, take}
 use Rattle.points.specs.Point.{finitePoint}
 use Rattle.points.specs.Points.{every, risingBy, rising, listOf}
-use Rattle.points.specs.Laws.{take-min}
+use Rattle.points.proofs.Laws.{take-min}
 use Rattle.points.specs.declared.Points.{Points}
 use Rattle.points.proofs.Good.{places}
 use Rattle.pointwise.specs.Each.{changed}
@@ -58,15 +58,18 @@ loop-less c = omega arith
 
 loop-again : tie.Need-loop-again Inv-loop μ-loop
 loop-again c =
-    let ps = c .before .before .before .before .before .before .before .args .t1 in
-    let f = changed (c .before .before .before .before .before .before .before .args .change) in
-    let len = places ps _ (c .before .before .before .before .before .before .before .good .0) in
+    let args = c .before .before .before .before .before .before .before .args in
+    let good = c .before .before .before .before .before .before .before .good in
+    let apply = c .before .before .apply in
+    let ps = args .t1 in
+    let f = changed (args .change) in
+    let len = places ps _ (good .0) in
     let h = c .before .before .before .before .before .loop in
-    let q = c .before .before .apply .result in
+    let q = apply .result in
     let long : length (h .points .places) ≡ 256 = ap (λ (x : Points). length (x .places)) (h .inv .1) ∙ map-long f (h .i) (ps .places) ∙ len in
     let within : h .i < length (h .points .places) = omega arith in (
       omega arith,
-      map-turn f ps (h .points) (h .i) q (omega arith) (h .inv .1) (c .before .before .apply .ensures),
+      map-turn f ps (h .points) (h .i) q (omega arith) (h .inv .1) (apply .ensures),
       finite-set (h .points .places) (h .i) q within (h .inv .2) (c .is-finite .ensures),
       rise-set (h .points .places) (h .i) q within (h .inv .3) (h .inv .4) (c .before .order-key .ensures),
       last-set (h .points .places) (h .i) q within (c .before .order-key .ensures),
@@ -74,15 +77,18 @@ loop-again c =
 
 returns : tie.Need-returns Inv-loop μ-loop
 returns c =
-    let ps = c .before .before .before .args .t1 in
-    let f = changed (c .before .before .before .args .change) in
-    let len = places ps _ (c .before .before .before .good .0) in
+    let args = c .before .before .before .args in
+    let good = c .before .before .before .good in
+    let used = c .before .before .used in
+    let ps = args .t1 in
+    let f = changed (args .change) in
+    let len = places ps _ (good .0) in
     let h = c .before .loop in
-    let at : h .i ≡ c .before .before .used .result = omega arith in
+    let at : h .i ≡ used .result = omega arith in
     let long : length (h .points .places) ≡ 256 = ap (λ (x : Points). length (x .places)) (h .inv .1) ∙ map-long f (h .i) (ps .places) ∙ len in
-    let k : h .i ≡ min (h .points .count) 256 = at ∙ c .before .before .used .ensures ∙ sym (ap (λ (x : Points). min (x .count) 256) (h .inv .1)) in
+    let k : h .i ≡ min (h .points .count) 256 = at ∙ used .ensures ∙ sym (ap (λ (x : Points). min (x .count) 256) (h .inv .1)) in
     let whole : take (h .i) (h .points .places) ≡ listOf (h .points) = ap (λ (m : ℕ). take m (h .points .places)) k ∙ take-min (h .points .count) (h .points .places) 256 long in (
-      map-end f ps (h .points) (h .i) len (at ∙ c .before .before .used .ensures) (h .inv .1),
+      map-end f ps (h .points) (h .i) len (at ∙ used .ensures) (h .inv .1),
       h .inv .2 ∙ ap (every finitePoint) whole,
       h .inv .3 ∙ ap rising whole,
     )

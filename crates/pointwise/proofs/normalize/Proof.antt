@@ -18,10 +18,18 @@ keep-requires : tie.Need-keep-requires
 keep-requires c κs = search needs
 
 returns : tie.Need-returns
-returns c = rw (← c .before .before .before .value-range .ensures .0, ← c .before .before .before .value-range .ensures .1, c .before .if1 .taken, ← c .before .before .before .before .before .is-finitef .ensures, ← c .before .before .before .before .is-finitef2 .ensures) (c .edit-each .ensures)
+returns c =
+    let is-finitef = c .before .before .before .before .before .is-finitef in
+    let is-finitef2 = c .before .before .before .before .is-finitef2 in
+    let value-range = c .before .before .before .value-range in
+    rw (← value-range .ensures .0, ← value-range .ensures .1, c .before .if1 .taken, ← is-finitef .ensures, ← is-finitef2 .ensures) (c .edit-each .ensures)
 
 returns-2 : tie.Need-returns-2
-returns-2 c = rw (← c .before .before .before .value-range .ensures .0, ← c .before .before .before .value-range .ensures .1, c .before .if1 .left, ← c .before .before .before .before .before .is-finitef .ensures, ← c .before .before .before .before .is-finitef2 .ensures) (c .keep .ensures)
+returns-2 c =
+    let is-finitef = c .before .before .before .before .before .is-finitef in
+    let is-finitef2 = c .before .before .before .before .is-finitef2 in
+    let value-range = c .before .before .before .value-range in
+    rw (← value-range .ensures .0, ← value-range .ensures .1, c .before .if1 .left, ← is-finitef .ensures, ← is-finitef2 .ensures) (c .keep .ensures)
 
 pub normalize-spec : {M : Type 1} → statement M
 normalize-spec =

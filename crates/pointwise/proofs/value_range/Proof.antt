@@ -6,7 +6,7 @@ use lib.Ieee.{Float, inf, ofBits, div, neg}
 use lib.ListN.{take, getD}
 use Rattle.numbers.specs.Bounds.{minNum, maxNum}
 use Rattle.points.specs.Point.{anyPoint}
-use Rattle.points.specs.Laws.{take-min}
+use Rattle.points.proofs.Laws.{take-min}
 use Rattle.points.proofs.Good.{places}
 use Rattle.settle.proofs.Lists.{fold-more}
 use Rattle.pointwise.specs.Each.{lowestValue, highestValue}
@@ -46,8 +46,10 @@ loop-less c = omega arith
 
 loop-again : tie.Need-loop-again Inv-loop μ-loop
 loop-again c =
-    let len = places (c .before .before .before .before .before .before .args .t1) _ (c .before .before .before .before .before .before .good .0) in
-    let l = c .before .before .before .before .before .before .args .t1 .places in
+    let args = c .before .before .before .before .before .before .args in
+    let good = c .before .before .before .before .before .before .good in
+    let len = places (args .t1) _ (good .0) in
+    let l = args .t1 .places in
     let h = c .before .before .before .before .loop in
     let x = getD l (h .i) anyPoint .value in (
       omega arith,
@@ -57,8 +59,11 @@ loop-again c =
 
 returns : tie.Need-returns Inv-loop μ-loop
 returns c =
-    let at : c .before .loop .i ≡ c .before .before .used .result = omega arith in
-    let l = ap (λ (k : ℕ). take k (c .before .before .before .args .t1 .places)) (at ∙ c .before .before .used .ensures) ∙ take-min (c .before .before .before .args .t1 .count) (c .before .before .before .args .t1 .places) 256 (places (c .before .before .before .args .t1) _ (c .before .before .before .good .0)) in
+    let args = c .before .before .before .args in
+    let good = c .before .before .before .good in
+    let used = c .before .before .used in
+    let at : c .before .loop .i ≡ used .result = omega arith in
+    let l = ap (λ (k : ℕ). take k (args .t1 .places)) (at ∙ used .ensures) ∙ take-min (args .t1 .count) (args .t1 .places) 256 (places (args .t1) _ (good .0)) in
     (c .before .loop .inv .1 ∙ ap lowestValue l, c .before .loop .inv .2 ∙ ap highestValue l)
 
 pub value-range-spec : {M : Type 1} → statement M

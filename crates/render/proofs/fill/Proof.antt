@@ -4,7 +4,8 @@ use mathlib.Core.Path.{_≡_, refl, _∙_}
 use mathlib.Core.List.{_++_}
 use native.Mathlib.Omega.{arith}
 use lib.ListN.{length, drop, length-set}
-use Rattle.lookup.specs.Runs.{run, run-turn, run-end, run-constant}
+use Rattle.lookup.specs.Runs.{run}
+use Rattle.lookup.proofs.RunLaws.{run-turn, run-end, run-constant}
 use Rattle.render.proofs.fill.Statement.{statement}
 use Rattle.render.proofs.fill.Tie as tie
 
@@ -31,7 +32,12 @@ loop-less : tie.Need-loop-less Inv-loop μ-loop
 loop-less c = omega arith
 
 loop-again : tie.Need-loop-again Inv-loop μ-loop
-loop-again c = (omega arith, simp length-set (c .before .loop .inv .1), run-turn (λ k. c .before .before .args .v) 0 (c .before .loop .i) (c .before .before .args .out .now) (c .before .loop .out) (c .before .before .args .v) (omega arith) (c .before .loop .inv .2) refl)
+loop-again c =
+    let args = c .before .before .args in (
+      omega arith,
+      simp length-set (c .before .loop .inv .1),
+      run-turn (λ k. args .v) 0 (c .before .loop .i) (args .out .now) (c .before .loop .out) (args .v) (omega arith) (c .before .loop .inv .2) refl,
+    )
 
 same-length : tie.Need-same-length Inv-loop μ-loop
 same-length c = c .before .loop .inv .1

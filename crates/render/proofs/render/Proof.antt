@@ -2,9 +2,9 @@
 use mathlib.Core.Path.{refl, sym, _∙_}
 use borrow.Author.Needs.{needs}
 use Rattle.points.specs.Points.{validPoints}
-use Rattle.points.specs.Laws.{and-right}
+use Rattle.points.proofs.Laws.{and-right}
 use Rattle.lookup.specs.Limits.{finiteLimits}
-use Rattle.render.specs.RenderLaws.{answers, render-invalid, render-infinite, render-runs}
+use Rattle.render.proofs.RenderLaws.{answers, render-invalid, render-infinite, render-runs}
 use Rattle.render.proofs.render.Statement.{statement}
 use Rattle.render.proofs.render.Tie as tie
 
@@ -15,21 +15,36 @@ is-finite-requires : tie.Need-is-finite-requires
 is-finite-requires c κs = search needs
 
 run-into-requires : tie.Need-run-into-requires
-run-into-requires c κs = and-right (finiteLimits (c .before .before .before .before .before .before .args .limits)) (validPoints (c .before .before .before .before .before .before .args .points)) (sym (c .before .before .before .before .is-valid .ensures) ∙ c .before .before .before .if1 .taken)
+run-into-requires c κs =
+    let args = c .before .before .before .before .before .before .args in
+    let is-valid = c .before .before .before .before .is-valid in
+    let if1 = c .before .before .before .if1 in
+    and-right (finiteLimits (args .limits)) (validPoints (args .points)) (sym (is-valid .ensures) ∙ if1 .taken)
 
 same-length : tie.Need-same-length
 same-length c = search needs
 
 returns : tie.Need-returns
 returns c =
+    let is-valid = c .before .before .before .before .before .before .before .is-valid in
+    let if1 = c .before .before .before .before .before .before .if1 in
+    let is-finite = c .before .before .before .before .before .is-finite in
+    let if2 = c .before .before .before .before .if2 in
+    let run-into = c .before .before .run-into in
     let a = c .before .before .before .before .before .before .before .before .before .args in
-    let q = render-runs (a .points) (a .enabled) (a .limits) (a .rate) (a .first) (a .count) (a .place) (a .out .now) (sym (c .before .before .before .before .before .before .before .is-valid .ensures) ∙ c .before .before .before .before .before .before .if1 .taken) (sym (c .before .before .before .before .before .is-finite .ensures) ∙ c .before .before .before .before .if2 .taken) in
-    answers (c .before .before .run-into .ensures .0) (c .before .before .run-into .ensures .1) (sym q)
+    let q = render-runs (a .points) (a .enabled) (a .limits) (a .rate) (a .first) (a .count) (a .place) (a .out .now) (sym (is-valid .ensures) ∙ if1 .taken)
+    (sym (is-finite .ensures) ∙ if2 .taken) in
+    answers (run-into .ensures .0) (run-into .ensures .1) (sym q)
 
 returns-2 : tie.Need-returns-2
 returns-2 c =
+    let is-valid = c .before .before .before .is-valid in
+    let if1 = c .before .before .if1 in
     let a = c .before .before .before .before .before .args in
-    answers refl refl (sym (render-infinite (a .points) (a .enabled) (a .limits) (a .rate) (a .first) (a .count) (a .place) (a .out .now) (sym (c .before .before .before .is-valid .ensures) ∙ c .before .before .if1 .taken) (sym (c .before .is-finite .ensures) ∙ c .if2 .left)))
+    answers refl refl
+    (sym
+    (render-infinite (a .points) (a .enabled) (a .limits) (a .rate) (a .first) (a .count) (a .place) (a .out .now) (sym (is-valid .ensures) ∙ if1 .taken)
+    (sym (c .before .is-finite .ensures) ∙ c .if2 .left)))
 
 returns-3 : tie.Need-returns-3
 returns-3 c =

@@ -2,9 +2,9 @@
 use mathlib.Core.Path.{refl, sym}
 use native.Mathlib.Omega.{arith}
 use borrow.Author.Needs.{needs}
-use Rattle.render.specs.RenderLaws.{answers, too-many, no-room, accepted, none-written, part-count, part-back}
+use Rattle.render.proofs.RenderLaws.{answers, too-many, no-room, accepted, none-written, part-count, part-back}
 use Rattle.render.specs.Render.{sampleAt}
-use Rattle.render.specs.RenderLaws.{answers, too-many, no-room, accepted, none-written, part-back}
+use Rattle.render.proofs.RenderLaws.{answers, too-many, no-room, accepted, none-written, part-back}
 use Rattle.render.proofs.run_into.Statement.{statement}
 use Rattle.render.proofs.run_into.Tie as tie
 
@@ -28,8 +28,9 @@ part-write-samples-end c = search needs
 
 write-samples-requires : tie.Need-write-samples-requires
 write-samples-requires c κs =
+    let pre = c .before .before .before .before .before .before .before .pre in
     let a = c .before .before .before .before .before .before .before .args in
-    (c .before .before .before .before .before .before .before .pre, omega (arith, part-count (sampleAt (a .points) (a .enabled) (a .limits) (a .rate)) (a .first) (a .count) (a .place) (a .out .now) (omega arith)))
+    (pre, omega (arith, part-count (sampleAt (a .points) (a .enabled) (a .limits) (a .rate)) (a .first) (a .count) (a .place) (a .out .now) (omega arith)))
 
 returns : tie.Need-returns
 returns c =
@@ -66,9 +67,11 @@ same-length c = search needs
 
 returns-6 : tie.Need-returns-6
 returns-6 c =
+    let write-samples = c .before .before .write-samples in
     let a = c .before .before .before .before .before .before .before .before .before .before .args in
     let f = sampleAt (a .points) (a .enabled) (a .limits) (a .rate) in
-    answers refl (part-back f (a .first) (a .count) (a .place) (a .out .now) (omega arith) _ (c .before .before .write-samples .ensures)) (sym (accepted f (a .first) (a .count) (a .place) (a .out .now) (omega arith) (omega arith)))
+    answers refl (part-back f (a .first) (a .count) (a .place) (a .out .now) (omega arith) _ (write-samples .ensures))
+    (sym (accepted f (a .first) (a .count) (a .place) (a .out .now) (omega arith) (omega arith)))
 
 pub run-into-spec : {M : Type 1} → statement M
 run-into-spec =

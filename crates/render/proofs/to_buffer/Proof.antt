@@ -3,10 +3,10 @@ use Prim.Native.Nat.{ℕ}
 use mathlib.Core.Path.{refl, sym, ap, _∙_}
 use borrow.Author.Needs.{needs}
 use Rattle.points.specs.Points.{validPoints}
-use Rattle.points.specs.Laws.{and-right, and-both}
+use Rattle.points.proofs.Laws.{and-right, and-both}
 use Rattle.lookup.specs.Limits.{finiteLimits}
 use Rattle.render.specs.Render.{sampleAt, runInto}
-use Rattle.render.specs.RenderLaws.{answers, buffer-invalid, buffer-infinite, buffer-runs}
+use Rattle.render.proofs.RenderLaws.{answers, buffer-invalid, buffer-infinite, buffer-runs}
 use Rattle.render.proofs.to_buffer.Statement.{statement}
 use Rattle.render.proofs.to_buffer.Tie as tie
 
@@ -23,22 +23,40 @@ f64-to-u64-requires : tie.Need-f64-to-u64-requires
 f64-to-u64-requires c κs = search needs
 
 run-into-requires : tie.Need-run-into-requires
-run-into-requires c κs = and-right (finiteLimits (c .before .before .before .before .before .before .before .before .args .limits)) (validPoints (c .before .before .before .before .before .before .before .before .args .points)) (sym (c .before .before .before .before .before .before .is-valid .ensures) ∙ c .before .before .before .before .before .if1 .taken)
+run-into-requires c κs =
+    let args = c .before .before .before .before .before .before .before .before .args in
+    let is-valid = c .before .before .before .before .before .before .is-valid in
+    let if1 = c .before .before .before .before .before .if1 in
+    and-right (finiteLimits (args .limits)) (validPoints (args .points)) (sym (is-valid .ensures) ∙ if1 .taken)
 
 same-length : tie.Need-same-length
 same-length c = search needs
 
 returns : tie.Need-returns
 returns c =
+    let is-valid = c .before .before .before .before .before .before .before .before .before .is-valid in
+    let if1 = c .before .before .before .before .before .before .before .before .if1 in
+    let is-finite = c .before .before .before .before .before .before .before .is-finite in
+    let is-finite2 = c .before .before .before .before .before .before .is-finite2 in
+    let if2 = c .before .before .before .before .before .if2 in
+    let f64-to-u64 = c .before .before .before .before .f64-to-u64 in
+    let run-into = c .before .before .run-into in
     let a = c .before .before .before .before .before .before .before .before .before .before .before .args in
-    let q = buffer-runs (a .points) (a .enabled) (a .limits) (a .rate) (a .duration) (a .place) (a .out .now) (sym (c .before .before .before .before .before .before .before .before .before .is-valid .ensures) ∙ c .before .before .before .before .before .before .before .before .if1 .taken) (sym (and-both (c .before .before .before .before .before .before .before .is-finite .ensures) (c .before .before .before .before .before .before .is-finite2 .ensures)) ∙ c .before .before .before .before .before .if2 .taken) in
-    let r = ap (λ (n : ℕ). runInto (sampleAt (a .points) (a .enabled) (a .limits) (a .rate)) 0 n (a .place) (a .out .now)) (c .before .before .before .before .f64-to-u64 .ensures) in
-    answers (c .before .before .run-into .ensures .0) (c .before .before .run-into .ensures .1) (r ∙ sym q)
+    let q = buffer-runs (a .points) (a .enabled) (a .limits) (a .rate) (a .duration) (a .place) (a .out .now) (sym (is-valid .ensures) ∙ if1 .taken)
+    (sym (and-both (is-finite .ensures) (is-finite2 .ensures)) ∙ if2 .taken) in
+    let r = ap (λ (n : ℕ). runInto (sampleAt (a .points) (a .enabled) (a .limits) (a .rate)) 0 n (a .place) (a .out .now)) (f64-to-u64 .ensures) in
+    answers (run-into .ensures .0) (run-into .ensures .1) (r ∙ sym q)
 
 returns-2 : tie.Need-returns-2
 returns-2 c =
+    let is-valid = c .before .before .before .before .is-valid in
+    let if1 = c .before .before .before .if1 in
+    let is-finite = c .before .before .is-finite in
     let a = c .before .before .before .before .before .before .args in
-    answers refl refl (sym (buffer-infinite (a .points) (a .enabled) (a .limits) (a .rate) (a .duration) (a .place) (a .out .now) (sym (c .before .before .before .before .is-valid .ensures) ∙ c .before .before .before .if1 .taken) (sym (and-both (c .before .before .is-finite .ensures) (c .before .is-finite2 .ensures)) ∙ c .if2 .left)))
+    answers refl refl
+    (sym
+    (buffer-infinite (a .points) (a .enabled) (a .limits) (a .rate) (a .duration) (a .place) (a .out .now) (sym (is-valid .ensures) ∙ if1 .taken)
+    (sym (and-both (is-finite .ensures) (c .before .is-finite2 .ensures)) ∙ c .if2 .left)))
 
 returns-3 : tie.Need-returns-3
 returns-3 c =

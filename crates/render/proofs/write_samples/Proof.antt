@@ -31,25 +31,47 @@ same-length : tie.Need-same-length
 same-length c = search needs
 
 returns : tie.Need-returns
-returns c = c .before .before .fill .ensures ∙ none-run (c .before .before .before .before .before .before .before .args .silent) (c .before .before .before .before .before .before .before .args .t1) (c .before .before .before .before .before .before .before .args .enabled) (c .before .before .before .before .before .before .before .args .limits) (c .before .before .before .before .before .before .before .args .rate) (c .before .before .before .before .before .before .before .args .first) _ (c .before .before .before .before .before .if1 .taken) (c .before .before .before .before .if2 .taken)
+returns c =
+    let args = c .before .before .before .before .before .before .before .args in
+    let if1 = c .before .before .before .before .before .if1 in
+    let if2 = c .before .before .before .before .if2 in
+    let fill = c .before .before .fill in
+    fill .ensures ∙ none-run (args .silent) (args .t1) (args .enabled) (args .limits) (args .rate) (args .first) _ (if1 .taken) (if2 .taken)
 
 same-length-2 : tie.Need-same-length-2
 same-length-2 c = search needs
 
 returns-2 : tie.Need-returns-2
-returns-2 c = c .before .before .fill2 .ensures ∙ one-run (c .before .before .before .before .before .before .before .before .before .before .args .silent) (c .before .before .before .before .before .before .before .before .before .before .args .t1) (c .before .before .before .before .before .before .before .before .before .before .args .enabled) (c .before .before .before .before .before .before .before .before .before .before .args .limits) (c .before .before .before .before .before .before .before .before .before .before .args .rate) (c .before .before .before .before .before .before .before .before .before .before .args .first) _ (c .before .before .before .before .before .before .before .before .if1 .taken) (c .before .before .before .before .before .before .if3 .taken) (inside (c .before .before .before .before .before .before .before .before .before .before .args .t1) _ (c .before .before .before .before .before .before .before .before .before .before .good .0) (c .before .before .before .before .before .before .before .before .before .before .pre .0)) _ (c .before .before .before .before .apply-constraints .ensures)
+returns-2 c =
+    let entry = c .before .before .before .before .before .before .before .before .before .before in
+    let args = entry .args in
+    let if1 = c .before .before .before .before .before .before .before .before .if1 in
+    let if3 = c .before .before .before .before .before .before .if3 in
+    let apply-constraints = c .before .before .before .before .apply-constraints in
+    let fill2 = c .before .before .fill2 in
+    fill2 .ensures
+    ∙ one-run (args .silent) (args .t1) (args .enabled) (args .limits) (args .rate) (args .first) _ (if1 .taken) (if3 .taken) (inside (args .t1) _ (entry .good .0) (entry .pre .0)) _
+    (apply-constraints .ensures)
 
 same-length-3 : tie.Need-same-length-3
 same-length-3 c = search needs
 
 returns-3 : tie.Need-returns-3
-returns-3 c = on-run (c .before .before .before .before .before .before .before .before .args .silent) (c .before .before .before .before .before .before .before .before .args .t1) (c .before .before .before .before .before .before .before .before .args .enabled) (c .before .before .before .before .before .before .before .before .args .limits) (c .before .before .before .before .before .before .before .before .args .rate) (c .before .before .before .before .before .before .before .before .args .first) _ (c .before .before .before .before .before .before .if1 .taken) _ (c .before .before .write-segments .ensures)
+returns-3 c =
+    let args = c .before .before .before .before .before .before .before .before .args in
+    let if1 = c .before .before .before .before .before .before .if1 in
+    let write-segments = c .before .before .write-segments in
+    on-run (args .silent) (args .t1) (args .enabled) (args .limits) (args .rate) (args .first) _ (if1 .taken) _ (write-segments .ensures)
 
 same-length-4 : tie.Need-same-length-4
 same-length-4 c = search needs
 
 returns-4 : tie.Need-returns-4
-returns-4 c = c .before .before .fill3 .ensures ∙ off-run (c .before .before .before .before .before .before .args .silent) (c .before .before .before .before .before .before .args .t1) (c .before .before .before .before .before .before .args .enabled) (c .before .before .before .before .before .before .args .limits) (c .before .before .before .before .before .before .args .rate) (c .before .before .before .before .before .before .args .first) _ (c .before .before .before .before .if1 .left)
+returns-4 c =
+    let args = c .before .before .before .before .before .before .args in
+    let if1 = c .before .before .before .before .if1 in
+    let fill3 = c .before .before .fill3 in
+    fill3 .ensures ∙ off-run (args .silent) (args .t1) (args .enabled) (args .limits) (args .rate) (args .first) _ (if1 .left)
 
 pub write-samples-spec : {M : Type 1} → statement M
 write-samples-spec =

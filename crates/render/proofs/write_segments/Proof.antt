@@ -5,15 +5,17 @@ use mathlib.Core.Bool.{true}
 use mathlib.Core.List.{_++_}
 use native.Mathlib.Omega.{arith}
 use lib.ListN.{length, take, drop, length-set}
-use Rattle.lookup.specs.LookupLaws.{valid-count}
+use Rattle.lookup.proofs.LookupLaws.{valid-count}
 use Rattle.render.specs.Render.{sampleOr}
-use Rattle.lookup.specs.Runs.{run, run-turn, run-over, run-part, run-end, part-long}
+use Rattle.lookup.specs.Runs.{run}
+use Rattle.lookup.proofs.RunLaws.{run-turn, run-over, run-part, run-end, part-long}
 use Rattle.render.proofs.Writing.{search-inside, stretch-written, outside-sample}
 use Rattle.render.proofs.write_segments.Statement.{statement}
 use Rattle.render.proofs.write_segments.Tie as tie
 
 abbrev Inv-loop : tie.InvT-loop
-Inv-loop limits rate first silent out₀ points n ends keys end i₀ k₀ out i k = (i ≤ length out₀) × (length out ≡ length out₀) × (k ≡ first + i) × (out ≡ run (sampleOr silent points true limits rate) first i ++ drop i out₀)
+Inv-loop limits rate first silent out₀ points n ends keys end i₀ k₀ out i k =
+    (i ≤ length out₀) × (length out ≡ length out₀) × (k ≡ first + i) × (out ≡ run (sampleOr silent points true limits rate) first i ++ drop i out₀)
 
 abbrev μ-loop : tie.MeasureT-loop
 μ-loop limits rate first silent out₀ points n ends keys end i₀ k₀ out i k = length out₀ - i
@@ -54,38 +56,68 @@ search-requires c κs = tt
 
 sub-a : tie.Need-sub-a Inv-loop μ-loop
 sub-a c =
+    let good = c .before .before .before .before .before .before .before .before .before .before .before .before .before .before .before .good in
+    let pre = c .before .before .before .before .before .before .before .before .before .before .before .before .before .before .before .pre in
+    let keys = c .before .before .before .before .before .before .before .before .before .keys in
+    let if1 = c .before .before .before .if1 in
+    let order-key = c .before .before .order-key in
     let a = c .before .before .before .before .before .before .before .before .before .before .before .before .before .before .before .args in
     let h = c .before .before .before .before .before .before .before .before .loop in
-    let p = search-inside (a .t1) _ (c .before .before .before .before .before .before .before .before .before .before .before .before .before .before .before .good .0) (c .before .before .before .before .before .before .before .before .before .before .before .before .before .before .before .pre .0) (c .before .before .before .before .before .before .before .before .before .before .before .before .before .before .before .pre .1) (c .before .before .before .before .before .before .before .before .before .keys .result) (c .before .before .before .before .before .before .before .before .before .keys .ensures) (a .rate) (h .k) (c .before .before .before .if1 .taken) (c .before .before .order-key .result) (c .search .result) (c .before .before .order-key .ensures) (c .search .ensures) in
-    omega (arith, valid-count (a .t1) (c .before .before .before .before .before .before .before .before .before .before .before .before .before .before .before .pre .0))
+    let p = search-inside (a .t1) _ (good .0) (pre .0) (pre .1) (keys .result) (keys .ensures) (a .rate) (h .k) (if1 .taken) (order-key .result) (c .search .result) (order-key .ensures)
+    (c .search .ensures) in
+    omega (arith, valid-count (a .t1) (pre .0))
 
 mul-a : tie.Need-mul-a Inv-loop μ-loop
 mul-a c =
+    let good = c .before .before .before .before .before .before .before .before .before .before .before .before .before .before .before .good in
+    let pre = c .before .before .before .before .before .before .before .before .before .before .before .before .before .before .before .pre in
+    let keys = c .before .before .before .before .before .before .before .before .before .keys in
+    let if1 = c .before .before .before .if1 in
+    let order-key = c .before .before .order-key in
     let a = c .before .before .before .before .before .before .before .before .before .before .before .before .before .before .before .args in
     let h = c .before .before .before .before .before .before .before .before .loop in
-    let p = search-inside (a .t1) _ (c .before .before .before .before .before .before .before .before .before .before .before .before .before .before .before .good .0) (c .before .before .before .before .before .before .before .before .before .before .before .before .before .before .before .pre .0) (c .before .before .before .before .before .before .before .before .before .before .before .before .before .before .before .pre .1) (c .before .before .before .before .before .before .before .before .before .keys .result) (c .before .before .before .before .before .before .before .before .before .keys .ensures) (a .rate) (h .k) (c .before .before .before .if1 .taken) (c .before .before .order-key .result) (c .search .result) (c .before .before .order-key .ensures) (c .search .ensures) in
-    omega (arith, valid-count (a .t1) (c .before .before .before .before .before .before .before .before .before .before .before .before .before .before .before .pre .0))
+    let p = search-inside (a .t1) _ (good .0) (pre .0) (pre .1) (keys .result) (keys .ensures) (a .rate) (h .k) (if1 .taken) (order-key .result) (c .search .result) (order-key .ensures)
+    (c .search .ensures) in
+    omega (arith, valid-count (a .t1) (pre .0))
 
 element-copy-out-a : tie.Need-element-copy-out-a Inv-loop μ-loop
 element-copy-out-a c =
+    let good = c .before .before .before .before .before .before .before .before .before .before .before .before .before .before .before .good in
+    let pre = c .before .before .before .before .before .before .before .before .before .before .before .before .before .before .before .pre in
+    let keys = c .before .before .before .before .before .before .before .before .before .keys in
+    let if1 = c .before .before .before .if1 in
+    let order-key = c .before .before .order-key in
     let a = c .before .before .before .before .before .before .before .before .before .before .before .before .before .before .before .args in
     let h = c .before .before .before .before .before .before .before .before .loop in
-    let p = search-inside (a .t1) _ (c .before .before .before .before .before .before .before .before .before .before .before .before .before .before .before .good .0) (c .before .before .before .before .before .before .before .before .before .before .before .before .before .before .before .pre .0) (c .before .before .before .before .before .before .before .before .before .before .before .before .before .before .before .pre .1) (c .before .before .before .before .before .before .before .before .before .keys .result) (c .before .before .before .before .before .before .before .before .before .keys .ensures) (a .rate) (h .k) (c .before .before .before .if1 .taken) (c .before .before .order-key .result) (c .search .result) (c .before .before .order-key .ensures) (c .search .ensures) in
-    omega (arith, valid-count (a .t1) (c .before .before .before .before .before .before .before .before .before .before .before .before .before .before .before .pre .0))
+    let p = search-inside (a .t1) _ (good .0) (pre .0) (pre .1) (keys .result) (keys .ensures) (a .rate) (h .k) (if1 .taken) (order-key .result) (c .search .result) (order-key .ensures)
+    (c .search .ensures) in
+    omega (arith, valid-count (a .t1) (pre .0))
 
 mul-b : tie.Need-mul-b Inv-loop μ-loop
 mul-b c =
+    let good = c .before .before .before .before .before .before .before .before .before .before .before .before .before .before .before .before .good in
+    let pre = c .before .before .before .before .before .before .before .before .before .before .before .before .before .before .before .before .pre in
+    let keys = c .before .before .before .before .before .before .before .before .before .before .keys in
+    let if1 = c .before .before .before .before .if1 in
+    let order-key = c .before .before .before .order-key in
     let a = c .before .before .before .before .before .before .before .before .before .before .before .before .before .before .before .before .args in
     let h = c .before .before .before .before .before .before .before .before .before .loop in
-    let p = search-inside (a .t1) _ (c .before .before .before .before .before .before .before .before .before .before .before .before .before .before .before .before .good .0) (c .before .before .before .before .before .before .before .before .before .before .before .before .before .before .before .before .pre .0) (c .before .before .before .before .before .before .before .before .before .before .before .before .before .before .before .before .pre .1) (c .before .before .before .before .before .before .before .before .before .before .keys .result) (c .before .before .before .before .before .before .before .before .before .before .keys .ensures) (a .rate) (h .k) (c .before .before .before .before .if1 .taken) (c .before .before .before .order-key .result) (c .before .search .result) (c .before .before .before .order-key .ensures) (c .before .search .ensures) in
-    omega (arith, valid-count (a .t1) (c .before .before .before .before .before .before .before .before .before .before .before .before .before .before .before .before .pre .0))
+    let p = search-inside (a .t1) _ (good .0) (pre .0) (pre .1) (keys .result) (keys .ensures) (a .rate) (h .k) (if1 .taken) (order-key .result) (c .before .search .result)
+    (order-key .ensures) (c .before .search .ensures) in
+    omega (arith, valid-count (a .t1) (pre .0))
 
 element-copy-out-b : tie.Need-element-copy-out-b Inv-loop μ-loop
 element-copy-out-b c =
+    let good = c .before .before .before .before .before .before .before .before .before .before .before .before .before .before .before .before .good in
+    let pre = c .before .before .before .before .before .before .before .before .before .before .before .before .before .before .before .before .pre in
+    let keys = c .before .before .before .before .before .before .before .before .before .before .keys in
+    let if1 = c .before .before .before .before .if1 in
+    let order-key = c .before .before .before .order-key in
     let a = c .before .before .before .before .before .before .before .before .before .before .before .before .before .before .before .before .args in
     let h = c .before .before .before .before .before .before .before .before .before .loop in
-    let p = search-inside (a .t1) _ (c .before .before .before .before .before .before .before .before .before .before .before .before .before .before .before .before .good .0) (c .before .before .before .before .before .before .before .before .before .before .before .before .before .before .before .before .pre .0) (c .before .before .before .before .before .before .before .before .before .before .before .before .before .before .before .before .pre .1) (c .before .before .before .before .before .before .before .before .before .before .keys .result) (c .before .before .before .before .before .before .before .before .before .before .keys .ensures) (a .rate) (h .k) (c .before .before .before .before .if1 .taken) (c .before .before .before .order-key .result) (c .before .search .result) (c .before .before .before .order-key .ensures) (c .before .search .ensures) in
-    omega (arith, valid-count (a .t1) (c .before .before .before .before .before .before .before .before .before .before .before .before .before .before .before .before .pre .0))
+    let p = search-inside (a .t1) _ (good .0) (pre .0) (pre .1) (keys .result) (keys .ensures) (a .rate) (h .k) (if1 .taken) (order-key .result) (c .before .search .result)
+    (order-key .ensures) (c .before .search .ensures) in
+    omega (arith, valid-count (a .t1) (pre .0))
 
 around-requires : tie.Need-around-requires Inv-loop μ-loop
 around-requires c κs = tt
@@ -104,22 +136,31 @@ part-write-stretch-end c = omega arith
 
 write-stretch-requires : tie.Need-write-stretch-requires Inv-loop μ-loop
 write-stretch-requires c κs =
+    let pre = c .before .before .before .before .before .before .before .before .before .before .before .before .before .before .before .before .before .before .before .pre in
     let a = c .before .before .before .before .before .before .before .before .before .before .before .before .before .before .before .before .before .before .before .args in
     let h = c .before .before .before .before .before .before .before .before .before .before .before .before .loop in
     let l = part-long (h .i) (length (a .out .now)) (h .out) (h .inv .1) (h .inv .0) in
-    (omega arith, omega (arith, c .before .before .before .before .before .before .before .before .before .before .before .before .before .before .before .before .before .before .before .pre .2, h .inv .2))
+    (omega arith, omega (arith, pre .2, h .inv .2))
 
 -- the stretch ends inside the buffer, and its samples are a u32's
-ends-inside : (c : tie.After-write-stretch Inv-loop μ-loop) → (c .before .before .before .before .before .before .before .before .before .before .before .before .before .loop .i + c .write-stretch .result ≤ length (c .before .before .before .before .before .before .before .before .before .before .before .before .before .before .before .before .before .before .before .before .args .out .now)) × (c .before .before .before .before .before .before .before .before .before .before .before .before .before .loop .k + c .write-stretch .result ≤ 4294967295)
+ends-inside : (c : tie.After-write-stretch Inv-loop μ-loop) →
+    let args = c .before .before .before .before .before .before .before .before .before .before .before .before .before .before .before .before .before .before .before .before .args in
+    let loop = c .before .before .before .before .before .before .before .before .before .before .before .before .before .loop in
+    (loop .i + c .write-stretch .result ≤ length (args .out .now)) × (loop .k + c .write-stretch .result ≤ 4294967295)
 ends-inside c =
+    let pre = c .before .before .before .before .before .before .before .before .before .before .before .before .before .before .before .before .before .before .before .before .pre in
     let a = c .before .before .before .before .before .before .before .before .before .before .before .before .before .before .before .before .before .before .before .before .args in
     let h = c .before .before .before .before .before .before .before .before .before .before .before .before .before .loop in
     let l = part-long (h .i) (length (a .out .now)) (h .out) (h .inv .1) (h .inv .0) in
     let q = c .write-stretch .ensures .most in
-    (omega arith, omega (arith, c .before .before .before .before .before .before .before .before .before .before .before .before .before .before .before .before .before .before .before .before .pre .2, h .inv .2))
+    (omega arith, omega (arith, pre .2, h .inv .2))
 
 add-i : tie.Need-add-i Inv-loop μ-loop
-add-i c = let e = ends-inside (c .before .before) in omega (arith, e .0, e .1, c .before .before .before .before .before .before .before .before .before .before .before .before .before .before .before .before .before .before .before .before .before .before .pre .2)
+add-i c =
+    let pre = c .before .before .before .before .before .before .before .before .before .before .before .before .before .before .before .before .before .before .before .before .before
+    .before .pre in
+    let e = ends-inside (c .before .before) in
+    omega (arith, e .0, e .1, pre .2)
 
 cast-k : tie.Need-cast-k Inv-loop μ-loop
 cast-k c = omega (arith, ends-inside (c .before .before) .1)
@@ -132,14 +173,25 @@ loop-less c = omega (arith, ends-inside (c .before .before) .0, c .before .befor
 
 loop-again : tie.Need-loop-again Inv-loop μ-loop
 loop-again c =
+    let good = c .before .before .before .before .before .before .before .before .before .before .before .before .before .before .before .before .before .before .before .before .before
+    .before .good in
+    let pre = c .before .before .before .before .before .before .before .before .before .before .before .before .before .before .before .before .before .before .before .before .before
+    .before .pre in
+    let keys = c .before .before .before .before .before .before .before .before .before .before .before .before .before .before .before .before .keys in
+    let if1 = c .before .before .before .before .before .before .before .before .before .before .if1 in
+    let order-key = c .before .before .before .before .before .before .before .before .before .order-key in
+    let search′ = c .before .before .before .before .before .before .before .search in
+    let around = c .before .before .before .before .around in
+    let write-stretch = c .before .before .write-stretch in
     let a = c .before .before .before .before .before .before .before .before .before .before .before .before .before .before .before .before .before .before .before .before .before .before .args in
     let h = c .before .before .before .before .before .before .before .before .before .before .before .before .before .before .before .loop in
     let o = a .out .now in
     let f = sampleOr (a .silent) (a .t1) true (a .limits) (a .rate) in
-    let m = c .before .before .write-stretch .result in
+    let m = write-stretch .result in
     let l = part-long (h .i) (length (a .out .now)) (h .out) (h .inv .1) (h .inv .0) in
-    let q = c .before .before .write-stretch .ensures .most in
-    let w = stretch-written (a .t1) _ (c .before .before .before .before .before .before .before .before .before .before .before .before .before .before .before .before .before .before .before .before .before .before .good .0) (c .before .before .before .before .before .before .before .before .before .before .before .before .before .before .before .before .before .before .before .before .before .before .pre .0) (c .before .before .before .before .before .before .before .before .before .before .before .before .before .before .before .before .before .before .before .before .before .before .pre .1) (c .before .before .before .before .before .before .before .before .before .before .before .before .before .before .before .before .keys .result) (c .before .before .before .before .before .before .before .before .before .before .before .before .before .before .before .before .keys .ensures) (a .rate) (h .k) (c .before .before .before .before .before .before .before .before .before .before .if1 .taken) (c .before .before .before .before .before .before .before .before .before .order-key .result) (c .before .before .before .before .before .before .before .search .result) (c .before .before .before .before .before .before .before .before .before .order-key .ensures) (c .before .before .before .before .before .before .before .search .ensures) (a .silent) (a .limits) (c .before .before .before .before .around .result) m _ _ (c .before .before .before .before .around .ensures) (c .before .before .write-stretch .ensures) in
+    let q = write-stretch .ensures .most in
+    let w = stretch-written (a .t1) _ (good .0) (pre .0) (pre .1) (keys .result) (keys .ensures) (a .rate) (h .k) (if1 .taken) (order-key .result) (search′ .result) (order-key .ensures)
+    (search′ .ensures) (a .silent) (a .limits) (around .result) m _ _ (around .ensures) (write-stretch .ensures) in
     let e = run-part f (a .first) (h .i) m o (h .out) _ (h .inv .0) (h .inv .3) (w ∙ ap (λ (n : ℕ). run f n m ++ drop m (take (length o - h .i) (drop (h .i) (h .out)))) (h .inv .2)) in
     (omega arith, ap length e ∙ run-over f (a .first) (h .i + m) o (omega arith), omega arith, e)
 
@@ -163,10 +215,15 @@ loop-less-2 c = omega arith
 
 loop-again-2 : tie.Need-loop-again-2 Inv-loop μ-loop
 loop-again-2 c =
+    let good = c .before .before .before .before .before .before .before .before .before .before .before .before .before .good in
+    let pre = c .before .before .before .before .before .before .before .before .before .before .before .before .before .pre in
+    let apply-constraints = c .before .before .before .before .before .before .before .before .before .apply-constraints in
+    let apply-constraints2 = c .before .before .before .before .before .before .before .before .apply-constraints2 in
     let a = c .before .before .before .before .before .before .before .before .before .before .before .before .before .args in
     let h = c .before .before .before .before .before .before .loop in
     let f = sampleOr (a .silent) (a .t1) true (a .limits) (a .rate) in
-    let w = outside-sample (a .t1) _ (c .before .before .before .before .before .before .before .before .before .before .before .before .before .good .0) (c .before .before .before .before .before .before .before .before .before .before .before .before .before .pre .0) (c .before .before .before .before .before .before .before .before .before .before .before .before .before .pre .1) (a .silent) (a .rate) (h .k) (a .limits) (c .before .if1 .left) _ _ _ (c .before .before .before .before .before .before .before .before .before .apply-constraints .ensures) (c .before .before .before .before .before .before .before .before .apply-constraints2 .ensures) (c .value-at .ensures) in (
+    let w = outside-sample (a .t1) _ (good .0) (pre .0) (pre .1) (a .silent) (a .rate) (h .k) (a .limits) (c .before .if1 .left) _ _ _ (apply-constraints .ensures)
+    (apply-constraints2 .ensures) (c .value-at .ensures) in (
       omega arith,
       length-set (h .out) (h .i) (c .value-at .result) ∙ h .inv .1,
       omega arith,

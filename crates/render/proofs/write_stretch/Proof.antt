@@ -9,7 +9,8 @@ use lib.ListN.{length, drop, set, length-set}
 use lib.Seq.{drop-set-lt}
 use lib.Ieee.{Float}
 use borrow.Author.Count.{below-more}
-use Rattle.lookup.specs.Runs.{run, run-turn}
+use Rattle.lookup.specs.Runs.{run}
+use Rattle.lookup.proofs.RunLaws.{run-turn}
 use Rattle.render.specs.Render.{timeOf}
 use Rattle.render.specs.Writer.{inside, segmentAt}
 use Rattle.render.proofs.Segments.{stretch-end}
@@ -17,7 +18,9 @@ use Rattle.render.proofs.write_stretch.Statement.{statement}
 use Rattle.render.proofs.write_stretch.Tie as tie
 
 abbrev Inv-loop : tie.InvT-loop
-Inv-loop seg limits rate first out₀ i₀ k₀ out i k = (1 ≤ i) × (i ≤ length out₀) × (length out ≡ length out₀) × (k ≡ first + i) × ((j : ℕ) → j < i → 0 < j → inside seg (timeOf rate (first + j)) ≡ true) × (out ≡ run (λ n. segmentAt limits seg (timeOf rate n)) first i ++ drop i out₀)
+Inv-loop seg limits rate first out₀ i₀ k₀ out i k =
+    (1 ≤ i) × (i ≤ length out₀) × (length out ≡ length out₀) × (k ≡ first + i) × ((j : ℕ) → j < i → 0 < j → inside seg (timeOf rate (first + j)) ≡ true)
+    × (out ≡ run (λ n. segmentAt limits seg (timeOf rate n)) first i ++ drop i out₀)
 
 abbrev μ-loop : tie.MeasureT-loop
 μ-loop seg limits rate first out₀ i₀ k₀ out i k = length out₀ - i
@@ -66,13 +69,17 @@ add-i : tie.Need-add-i Inv-loop μ-loop
 add-i c = omega arith
 
 add-k-2 : tie.Need-add-k-2 Inv-loop μ-loop
-add-k-2 c = omega (arith, length-set (c .before .before .before .before .before .before .before .before .before .before .args .out .now) 0 (c .before .before .before .before .before .before .before .value-at .result))
+add-k-2 c =
+    let args = c .before .before .before .before .before .before .before .before .before .before .args in
+    let value-at = c .before .before .before .before .before .before .before .value-at in
+    omega (arith, length-set (args .out .now) 0 (value-at .result))
 
 loop-less : tie.Need-loop-less Inv-loop μ-loop
 loop-less c = omega arith
 
 loop-again : tie.Need-loop-again Inv-loop μ-loop
 loop-again c =
+    let value-at = c .before .before .before .before .before .before .before .value-at in
     let a = c .before .before .before .before .before .before .before .before .before .before .args in
     let f : ℕ → Float = λ n. segmentAt (a .limits) (a .seg) (timeOf (a .rate) n) in
     let h = c .before .before .before .before .before .before .loop in (
@@ -81,26 +88,35 @@ loop-again c =
       length-set (h .out) (h .i) (c .value-at2 .result) ∙ h .inv .2,
       omega arith,
       below-more _ _ (h .inv .4) (λ p. ap (λ (n : ℕ). inside (a .seg) (timeOf (a .rate) n)) (sym (h .inv .3)) ∙ c .before .if1 .taken),
-      run-turn f (a .first) (h .i) (set (a .out .now) 0 (c .before .before .before .before .before .before .before .value-at .result)) (h .out) (c .value-at2 .result) (omega arith) (h .inv .5) (c .value-at2 .ensures ∙ ap f (h .inv .3)),
+      run-turn f (a .first) (h .i) (set (a .out .now) 0 (value-at .result)) (h .out) (c .value-at2 .result) (omega arith) (h .inv .5) (c .value-at2 .ensures ∙ ap f (h .inv .3)),
     )
 
 same-length : tie.Need-same-length Inv-loop μ-loop
-same-length c = c .before .before .before .before .before .loop .inv .2 ∙ length-set (c .before .before .before .before .before .before .before .before .before .args .out .now) 0 (c .before .before .before .before .before .before .value-at .result)
+same-length c =
+    let args = c .before .before .before .before .before .before .before .before .before .args in
+    let value-at = c .before .before .before .before .before .before .value-at in
+    let loop = c .before .before .before .before .before .loop in
+    loop .inv .2 ∙ length-set (args .out .now) 0 (value-at .result)
 
 returns : tie.Need-returns Inv-loop μ-loop
 returns c =
+    let value-at = c .before .before .before .before .before .before .value-at in
     let a = c .before .before .before .before .before .before .before .before .before .args in
     let h = c .before .before .before .before .before .loop in
-    stretch-end (a .seg) (a .limits) (a .rate) (a .first) (h .i) (a .out .now) (h .out) (c .before .before .before .before .before .before .value-at .result) (h .inv .0) (h .inv .1) (h .inv .4) (h .inv .5)
+    stretch-end (a .seg) (a .limits) (a .rate) (a .first) (h .i) (a .out .now) (h .out) (value-at .result) (h .inv .0) (h .inv .1) (h .inv .4) (h .inv .5)
 
 same-length-2 : tie.Need-same-length-2 Inv-loop μ-loop
-same-length-2 c = c .before .loop .inv .2 ∙ length-set (c .before .before .before .before .before .args .out .now) 0 (c .before .before .value-at .result)
+same-length-2 c =
+    let args = c .before .before .before .before .before .args in
+    let value-at = c .before .before .value-at in
+    c .before .loop .inv .2 ∙ length-set (args .out .now) 0 (value-at .result)
 
 returns-2 : tie.Need-returns-2 Inv-loop μ-loop
 returns-2 c =
+    let value-at = c .before .before .value-at in
     let a = c .before .before .before .before .before .args in
     let h = c .before .loop in
-    stretch-end (a .seg) (a .limits) (a .rate) (a .first) (h .i) (a .out .now) (h .out) (c .before .before .value-at .result) (h .inv .0) (h .inv .1) (h .inv .4) (h .inv .5)
+    stretch-end (a .seg) (a .limits) (a .rate) (a .first) (h .i) (a .out .now) (h .out) (value-at .result) (h .inv .0) (h .inv .1) (h .inv .4) (h .inv .5)
 
 pub write-stretch-spec : {M : Type 1} → statement M
 write-stretch-spec =

@@ -6,7 +6,7 @@ use Rattle.envelope.specs.declared.edit.Edit.the-variants.{OfPoints}
 use Rattle.envelope.specs.declared.edit.Join.the-variants.{Merge}
 use Rattle.envelope.specs.declared.edit.PointsEdit.the-variants.{AddPoint}
 use Rattle.session.specs.Calls.{Call, edit, alone, joined, callOf}
-use Rattle.replay.specs.Replay.{is-back, is-forward, is-off, is-on, is-shift, is-scale, is-merge, is-add, call-typed}
+use Rattle.replay.proofs.ReplayLaws.{is-back, is-forward, is-off, is-on, is-shift, is-scale, is-merge, is-add, call-typed}
 use borrow.Author.Needs.{needs}
 use Rattle.replay.proofs.call.Statement.{statement}
 use Rattle.replay.proofs.call.Tie as tie
@@ -46,58 +46,92 @@ same-length c = search needs
 
 returns : tie.Need-returns
 returns c =
-    let a = c .before .before .before .before .before .before .args in
-    (c .before .before .back .ensures ∙ ap (λ (c : Call). callOf c (a .session) (now (a .memory))) (sym (is-back (a .kind) (a .x) (a .y) (c .before .before .before .before .match .keys1))), call-typed (a .kind) (a .x) (a .y) (c .before .before .before .before .before .before .good .1 .1 .0 .1) (c .before .before .before .before .before .before .good .1 .1 .1 .0 .1))
+    let entry = c .before .before .before .before .before .before in
+    let match = c .before .before .before .before .match in
+    let back = c .before .before .back in
+    let a = entry .args in (
+      back .ensures ∙ ap (λ (c : Call). callOf c (a .session) (now (a .memory))) (sym (is-back (a .kind) (a .x) (a .y) (match .keys1))),
+      call-typed (a .kind) (a .x) (a .y) (entry .good .1 .1 .0 .1) (entry .good .1 .1 .1 .0 .1),
+    )
 
 same-length-2 : tie.Need-same-length-2
 same-length-2 c = search needs
 
 returns-2 : tie.Need-returns-2
 returns-2 c =
-    let a = c .before .before .before .before .before .before .args in
-    (c .before .before .forward .ensures ∙ ap (λ (c : Call). callOf c (a .session) (now (a .memory))) (sym (is-forward (a .kind) (a .x) (a .y) (c .before .before .before .before .match .keys2))), call-typed (a .kind) (a .x) (a .y) (c .before .before .before .before .before .before .good .1 .1 .0 .1) (c .before .before .before .before .before .before .good .1 .1 .1 .0 .1))
+    let entry = c .before .before .before .before .before .before in
+    let match = c .before .before .before .before .match in
+    let forward = c .before .before .forward in
+    let a = entry .args in (
+      forward .ensures ∙ ap (λ (c : Call). callOf c (a .session) (now (a .memory))) (sym (is-forward (a .kind) (a .x) (a .y) (match .keys2))),
+      call-typed (a .kind) (a .x) (a .y) (entry .good .1 .1 .0 .1) (entry .good .1 .1 .1 .0 .1),
+    )
 
 same-length-3 : tie.Need-same-length-3
 same-length-3 c = search needs
 
 returns-3 : tie.Need-returns-3
 returns-3 c =
-    let a = c .before .before .before .before .before .before .args in
-    (c .before .before .edit .ensures ∙ ap (λ (c : Call). callOf c (a .session) (now (a .memory))) (sym (is-off (a .kind) (a .x) (a .y) (c .before .before .before .before .match .keys3))), call-typed (a .kind) (a .x) (a .y) (c .before .before .before .before .before .before .good .1 .1 .0 .1) (c .before .before .before .before .before .before .good .1 .1 .1 .0 .1))
+    let entry = c .before .before .before .before .before .before in
+    let match = c .before .before .before .before .match in
+    let edit′ = c .before .before .edit in
+    let a = entry .args in (
+      edit′ .ensures ∙ ap (λ (c : Call). callOf c (a .session) (now (a .memory))) (sym (is-off (a .kind) (a .x) (a .y) (match .keys3))),
+      call-typed (a .kind) (a .x) (a .y) (entry .good .1 .1 .0 .1) (entry .good .1 .1 .1 .0 .1),
+    )
 
 same-length-4 : tie.Need-same-length-4
 same-length-4 c = search needs
 
 returns-4 : tie.Need-returns-4
 returns-4 c =
-    let a = c .before .before .before .before .before .before .args in
-    (c .before .before .edit2 .ensures ∙ ap (λ (c : Call). callOf c (a .session) (now (a .memory))) (sym (is-on (a .kind) (a .x) (a .y) (c .before .before .before .before .match .keys4))), call-typed (a .kind) (a .x) (a .y) (c .before .before .before .before .before .before .good .1 .1 .0 .1) (c .before .before .before .before .before .before .good .1 .1 .1 .0 .1))
+    let entry = c .before .before .before .before .before .before in
+    let match = c .before .before .before .before .match in
+    let edit2 = c .before .before .edit2 in
+    let a = entry .args in (
+      edit2 .ensures ∙ ap (λ (c : Call). callOf c (a .session) (now (a .memory))) (sym (is-on (a .kind) (a .x) (a .y) (match .keys4))),
+      call-typed (a .kind) (a .x) (a .y) (entry .good .1 .1 .0 .1) (entry .good .1 .1 .1 .0 .1),
+    )
 
 same-length-5 : tie.Need-same-length-5
 same-length-5 c = search needs
 
 returns-5 : tie.Need-returns-5
 returns-5 c =
-    let a = c .before .before .before .before .before .before .args in
-    (c .before .before .edit3 .ensures ∙ ap (λ (c : Call). callOf c (a .session) (now (a .memory))) (sym (is-shift (a .kind) (a .x) (a .y) (c .before .before .before .before .match .keys5))), call-typed (a .kind) (a .x) (a .y) (c .before .before .before .before .before .before .good .1 .1 .0 .1) (c .before .before .before .before .before .before .good .1 .1 .1 .0 .1))
+    let entry = c .before .before .before .before .before .before in
+    let match = c .before .before .before .before .match in
+    let edit3 = c .before .before .edit3 in
+    let a = entry .args in (
+      edit3 .ensures ∙ ap (λ (c : Call). callOf c (a .session) (now (a .memory))) (sym (is-shift (a .kind) (a .x) (a .y) (match .keys5))),
+      call-typed (a .kind) (a .x) (a .y) (entry .good .1 .1 .0 .1) (entry .good .1 .1 .1 .0 .1),
+    )
 
 same-length-6 : tie.Need-same-length-6
 same-length-6 c = search needs
 
 returns-6 : tie.Need-returns-6
 returns-6 c =
-    let a = c .before .before .before .before .before .before .args in
-    (c .before .before .edit4 .ensures ∙ ap (λ (c : Call). callOf c (a .session) (now (a .memory))) (sym (is-scale (a .kind) (a .x) (a .y) (c .before .before .before .before .match .keys6))), call-typed (a .kind) (a .x) (a .y) (c .before .before .before .before .before .before .good .1 .1 .0 .1) (c .before .before .before .before .before .before .good .1 .1 .1 .0 .1))
+    let entry = c .before .before .before .before .before .before in
+    let match = c .before .before .before .before .match in
+    let edit4 = c .before .before .edit4 in
+    let a = entry .args in (
+      edit4 .ensures ∙ ap (λ (c : Call). callOf c (a .session) (now (a .memory))) (sym (is-scale (a .kind) (a .x) (a .y) (match .keys6))),
+      call-typed (a .kind) (a .x) (a .y) (entry .good .1 .1 .0 .1) (entry .good .1 .1 .1 .0 .1),
+    )
 
 same-length-7 : tie.Need-same-length-7
 same-length-7 c = search needs
 
 returns-7 : tie.Need-returns-7
 returns-7 c =
-    let a = c .before .before .before .before .before .before .before .args in (
-      c .before .before .join .ensures ∙ ap (λ (o : AutomationEnvelope). callOf (edit (joined (Merge (a .x)) o)) (a .session) (now (a .memory))) (c .before .before .before .before .other .ensures)
-          ∙ ap (λ (c : Call). callOf c (a .session) (now (a .memory))) (sym (is-merge (a .kind) (a .x) (a .y) (c .before .before .before .before .before .match .keys7))),
-      call-typed (a .kind) (a .x) (a .y) (c .before .before .before .before .before .before .before .good .1 .1 .0 .1) (c .before .before .before .before .before .before .before .good .1 .1 .1 .0 .1),
+    let entry = c .before .before .before .before .before .before .before in
+    let match = c .before .before .before .before .before .match in
+    let other = c .before .before .before .before .other in
+    let join = c .before .before .join in
+    let a = entry .args in (
+      join .ensures ∙ ap (λ (o : AutomationEnvelope). callOf (edit (joined (Merge (a .x)) o)) (a .session) (now (a .memory))) (other .ensures)
+          ∙ ap (λ (c : Call). callOf c (a .session) (now (a .memory))) (sym (is-merge (a .kind) (a .x) (a .y) (match .keys7))),
+      call-typed (a .kind) (a .x) (a .y) (entry .good .1 .1 .0 .1) (entry .good .1 .1 .1 .0 .1),
     )
 
 same-length-8 : tie.Need-same-length-8
@@ -105,12 +139,16 @@ same-length-8 c = search needs
 
 returns-8 : tie.Need-returns-8
 returns-8 c =
-    let a = c .before .before .before .before .before .before .before .args in
-    let r = c .before .before .before .before .before .match .rest in (
-      c .before .before .edit5 .ensures ∙ ap (λ (p : AutomationPoint). callOf (edit (alone (OfPoints (AddPoint p)))) (a .session) (now (a .memory))) (c .before .before .before .before .new .ensures)
+    let entry = c .before .before .before .before .before .before .before in
+    let match = c .before .before .before .before .before .match in
+    let new = c .before .before .before .before .new in
+    let edit5 = c .before .before .edit5 in
+    let a = entry .args in
+    let r = match .rest in (
+      edit5 .ensures ∙ ap (λ (p : AutomationPoint). callOf (edit (alone (OfPoints (AddPoint p)))) (a .session) (now (a .memory))) (new .ensures)
           ∙ ap (λ (c : Call). callOf c (a .session) (now (a .memory)))
           (sym (is-add (a .kind) (a .x) (a .y) (r .0 .0 .0 .0 .0 .0 .1) (r .0 .0 .0 .0 .0 .1) (r .0 .0 .0 .0 .1) (r .0 .0 .0 .1) (r .0 .0 .1) (r .0 .1) (r .1))),
-      call-typed (a .kind) (a .x) (a .y) (c .before .before .before .before .before .before .before .good .1 .1 .0 .1) (c .before .before .before .before .before .before .before .good .1 .1 .1 .0 .1),
+      call-typed (a .kind) (a .x) (a .y) (entry .good .1 .1 .0 .1) (entry .good .1 .1 .1 .0 .1),
     )
 
 pub call-spec : {M : Type 1} → statement M

@@ -1,5 +1,6 @@
 use mathlib.Core.Path.{ap, sym}
-use Rattle.replay.specs.Replay.{saidOf, refusal-said}
+use Rattle.replay.specs.Replay.{saidOf}
+use Rattle.replay.proofs.ReplayLaws.{refusal-said}
 use Rattle.points.specs.Refusal.{said}
 use borrow.Author.Needs.{needs}
 use Rattle.replay.proofs.code.Statement.{statement}

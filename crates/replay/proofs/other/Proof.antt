@@ -23,9 +23,12 @@ add-point-requires c κs = search needs
 returns : tie.Need-returns
 unfolding otherFrom
 returns c =
+    let args = c .before .before .before .before .args in
+    let new = c .before .before .before .new in
+    let new2 = c .before .before .new2 in
     ap (λ (t : EditTold). t .envelope) (c .before .add-point .ensures)
-    ∙ ap (λ (p : AutomationPoint). editOf (OfPoints (AddPoint p)) (c .before .before .before .new .result) .envelope) (c .before .before .new2 .ensures)
-    ∙ ap (λ (e : AutomationEnvelope). editOf (OfPoints (AddPoint (pointWith (c .before .before .before .before .args .x) (c .before .before .before .before .args .y) Linear))) e .envelope) (c .before .before .before .new .ensures)
+    ∙ ap (λ (p : AutomationPoint). editOf (OfPoints (AddPoint p)) (new .result) .envelope) (new2 .ensures)
+    ∙ ap (λ (e : AutomationEnvelope). editOf (OfPoints (AddPoint (pointWith (args .x) (args .y) Linear))) e .envelope) (new .ensures)
 
 pub other-spec : {M : Type 1} → statement M
 other-spec = tie.close (tie.spec new-requires new-requires-2 add-point-requires returns)

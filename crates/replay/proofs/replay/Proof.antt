@@ -4,15 +4,9 @@ use mathlib.Core.Path.{_≡_, refl, _∙_}
 use native.Mathlib.Omega.{arith}
 use lib.ListN.{length, length-set}
 use denote.Ref.{now}
-use Rattle.replay.specs.Replay.{Replaying, begun, again, ended}
+use Rattle.replay.proofs.ReplayLaws.{Replaying, begun, again, ended}
 use Rattle.replay.proofs.replay.Statement.{statement}
 use Rattle.replay.proofs.replay.Tie as tie
-use Rattle.replay.proofs.replay.Reads as reads
-use Rattle.replay.proofs.replay.Lts as lts
-use Rattle.replay.proofs.call.Reads as call-reads
-use Rattle.replay.proofs.code.Reads as code-reads
-use Rattle.replay.proofs.shorter.Reads as shorter-reads
-use Rattle.session.proofs.Session.open.Reads as open-reads
 
 abbrev Inv-loop : tie.InvT-loop
 Inv-loop target kinds xs ys codes₀ memory₀ n session₀ i₀ codes memory session i =
@@ -36,9 +30,12 @@ open-requires c κs = search needs
 
 loop-holds : tie.Need-loop-holds Inv-loop μ-loop
 loop-holds c =
+    let shorter = c .before .before .before .before .shorter in
+    let shorter2 = c .before .before .before .shorter2 in
+    let shorter3 = c .before .before .shorter3 in
     let a = c .before .before .before .before .before .before .before .before .before .before .args in (
       omega arith,
-      c .before .before .shorter3 .ensures ∙ (λ i. min (c .before .before .before .before .shorter .ensures i) (c .before .before .before .shorter2 .ensures i)),
+      shorter3 .ensures ∙ (λ i. min (shorter .ensures i) (shorter2 .ensures i)),
       refl,
       refl,
       begun (a .target) (now (a .memory)) (now (a .kinds)) (now (a .xs)) (now (a .ys)) (now (a .codes)) _ (c .«open» .ensures),
@@ -66,7 +63,11 @@ code-requires : tie.Need-code-requires Inv-loop μ-loop
 code-requires c κs = search needs
 
 mul-codes : tie.Need-mul-codes Inv-loop μ-loop
-mul-codes c = omega (arith, c .before .before .before .before .before .before .before .before .before .before .before .before .before .before .before .before .before .before .before .before .good, c .before .before .before .before .before .before .before .before .loop-test .taken, c .before .before .before .before .before .before .before .before .before .loop .inv .1)
+mul-codes c =
+    let good = c .before .before .before .before .before .before .before .before .before .before .before .before .before .before .before .before .before .before .before .before .good in
+    let loop = c .before .before .before .before .before .before .before .before .before .loop in
+    let loop-test = c .before .before .before .before .before .before .before .before .loop-test in
+    omega (arith, good, loop-test .taken, loop .inv .1)
 
 slice-write-codes : tie.Need-slice-write-codes Inv-loop μ-loop
 slice-write-codes c = search needs
@@ -79,16 +80,18 @@ loop-less c = search needs
 
 loop-again : tie.Need-loop-again Inv-loop μ-loop
 loop-again c =
+    let loop-test = c .before .before .before .before .before .before .before .before .before .loop-test in
+    let call = c .before .before .before .before .call in
     let a = c .before .before .before .before .before .before .before .before .before .before .before .before .before .before .before .before .before .before .before .before .before .args in
     let l = c .before .before .before .before .before .before .before .before .before .before .loop in
-    let t = c .before .before .before .before .before .before .before .before .before .loop-test .taken in (
+    let t = loop-test .taken in (
       omega (arith, t),
       l .inv .1,
-      c .before .before .before .before .call .kept .1 .1 .1 .1 .0 ∙ l .inv .2,
+      call .kept .1 .1 .1 .1 .0 ∙ l .inv .2,
       simp length-set (l .inv .3),
       again (a .target) (now (a .memory)) (now (a .kinds)) (now (a .xs)) (now (a .ys)) (now (a .codes)) (l .codes) (l .i) (l .session) (l .memory) (l .inv .4)
-          (c .before .before .before .before .call .result) _ (c .before .code .result) (omega (arith, t, l .inv .1)) (omega (arith, t, l .inv .1)) (omega (arith, t, l .inv .1)) (omega (arith, t, l .inv .1, l .inv .3))
-          (c .before .before .before .before .call .ensures .0) (c .before .before .before .before .call .ensures .1) (c .before .code .ensures),
+          (call .result) _ (c .before .code .result) (omega (arith, t, l .inv .1)) (omega (arith, t, l .inv .1)) (omega (arith, t, l .inv .1)) (omega (arith, t, l .inv .1, l .inv .3))
+          (call .ensures .0) (call .ensures .1) (c .before .code .ensures),
     )
 
 same-length : tie.Need-same-length Inv-loop μ-loop
@@ -99,10 +102,11 @@ same-length-2 c = search needs
 
 returns : tie.Need-returns Inv-loop μ-loop
 returns c =
+    let fits = c .before .before .before .before .before .before .before .before .before .before .before .before .fits in
     let a = c .before .before .before .before .before .before .before .before .before .before .before .before .args in
     let l = c .before .loop in
     ended (a .target) (now (a .memory)) (now (a .kinds)) (now (a .xs)) (now (a .ys)) (now (a .codes)) (l .codes) (l .i) (l .session) (l .memory) (l .inv .4)
-    (omega (arith, c .before .before .before .before .before .before .before .before .before .before .before .before .fits .target)) (omega (arith, c .loop-test .left, l .inv .0, l .inv .1))
+    (omega (arith, fits .target)) (omega (arith, c .loop-test .left, l .inv .0, l .inv .1))
 
 pub replay-spec : {M : Type 1} → statement M
 replay-spec =

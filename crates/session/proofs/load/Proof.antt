@@ -8,9 +8,6 @@ use Rattle.session.specs.Session.{stateAt}
 use borrow.Author.Needs.{needs}
 use Rattle.session.proofs.load.Statement.{statement}
 use Rattle.session.proofs.load.Tie as tie
-use Rattle.session.proofs.load.Reads as reads
-use Rattle.session.proofs.load.Lts as lts
-use Rattle.state.proofs.read.read_state.Reads as read-state-reads
 
 mul-from : tie.Need-mul-from
 mul-from c = search needs

@@ -1,8 +1,6 @@
 use borrow.Author.Tests.{eq-eqb, ne-eqb}
 use Rattle.session.proofs.place_below.Statement.{statement}
 use Rattle.session.proofs.place_below.Tie as tie
-use Rattle.session.proofs.place_below.Reads as reads
-use Rattle.session.proofs.place_below.Lts as lts
 
 returns : tie.Need-returns
 returns c = rw (eq-eqb (c .before .args .depth) 0 (c .if1 .taken))

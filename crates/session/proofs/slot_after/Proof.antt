@@ -1,9 +1,7 @@
-use Rattle.session.specs.Ways.{after-yes, after-no}
+use Rattle.session.proofs.Ways.{after-yes, after-no}
 use borrow.Author.Needs.{needs}
 use Rattle.session.proofs.slot_after.Statement.{statement}
 use Rattle.session.proofs.slot_after.Tie as tie
-use Rattle.session.proofs.slot_after.Reads as reads
-use Rattle.session.proofs.slot_after.Lts as lts
 
 sub-if1 : tie.Need-sub-if1
 sub-if1 c = search needs

@@ -1,9 +1,7 @@
-use Rattle.session.specs.Ways.{before-zero, before-some}
+use Rattle.session.proofs.Ways.{before-zero, before-some}
 use borrow.Author.Needs.{needs}
 use Rattle.session.proofs.slot_before.Statement.{statement}
 use Rattle.session.proofs.slot_before.Tie as tie
-use Rattle.session.proofs.slot_before.Reads as reads
-use Rattle.session.proofs.slot_before.Lts as lts
 
 sub-result : tie.Need-sub-result
 sub-result c = search needs

@@ -7,13 +7,10 @@ use lib.ListN.{take}
 use borrow.Rule.Slice.PartMut.{postOf, post-is}
 use Rattle.state.specs.State.{pack}
 use Rattle.session.specs.Session.{stored}
-use Rattle.session.specs.Ways.{part-words, part-written}
+use Rattle.session.proofs.Ways.{part-words, part-written}
 use borrow.Author.Needs.{needs}
 use Rattle.session.proofs.store.Statement.{statement}
 use Rattle.session.proofs.store.Tie as tie
-use Rattle.session.proofs.store.Reads as reads
-use Rattle.session.proofs.store.Lts as lts
-use Rattle.state.proofs.write.fit_state.Reads as fit-state-reads
 
 mul-from : tie.Need-mul-from
 mul-from c = search needs
@@ -42,10 +39,11 @@ same-length c = search needs
 returns : tie.Need-returns
 unfolding stored
 returns c =
+    let fit-state = c .before .before .fit-state in
     let entry = c .before .before .before .before .before in
     let a = entry .args in
     ap (λ (l : List ℕ). take (a .slot * 1028) (now (a .memory)) ++ (l ++ postOf (a .slot * 1028) (a .slot * 1028 + 1028 - a .slot * 1028) (now (a .memory))))
-    (part-written (a .envelope) _ _ (part-words (a .slot * 1028) (now (a .memory)) (entry .pre)) (c .before .before .fit-state .ensures))
+    (part-written (a .envelope) _ _ (part-words (a .slot * 1028) (now (a .memory)) (entry .pre)) (fit-state .ensures))
     ∙ ap (λ (l : List ℕ). take (a .slot * 1028) (now (a .memory)) ++ (pack (a .envelope) ++ l)) (post-is (a .slot * 1028) (a .slot * 1028 + 1028) (now (a .memory)) (omega arith))
 
 pub store-spec : {M : Type 1} → statement M

@@ -5,7 +5,7 @@ use native.Mathlib.Omega.{arith}
 use lib.ListN.{length, take}
 use Rattle.points.specs.Point.{finitePoint}
 use Rattle.points.specs.Points.{every, risingBy, rising, listOf}
-use Rattle.points.specs.Laws.{take-min}
+use Rattle.points.proofs.Laws.{take-min}
 use Rattle.points.proofs.Good.{places}
 use Rattle.settle.proofs.Ends.{as-edit}
 use Rattle.settle.proofs.Tested.{LastKey, finite-more, rise-more, last-more, out-valid, out-ok, out-finite, out-rise, out-accepted}
@@ -73,59 +73,75 @@ refuse-requires-4 c κs = tt
 
 returns : tie.Need-returns Inv-loop μ-loop
 returns c =
+    let good = c .before .before .before .before .before .before .before .before .good in
+    let is-valid = c .before .before .before .before .before .before .before .is-valid in
+    let if1 = c .before .before .before .before .before .before .if1 in
+    let if2 = c .before .before .before .before .before .if2 in
     let args = c .before .before .before .before .before .before .before .before .args in
     let new = args .t3 in
-    let len = places new _ (c .before .before .before .before .before .before .before .before .good .1 .1 .0) in
+    let len = places new _ (good .1 .1 .0) in
     let h = c .before .before .before .loop in
     let used = c .before .before .before .before .used in
     let at : h .i ≡ used .result = omega arith in
     let whole : take (h .i) (new .places) ≡ listOf new = ap (λ (k : ℕ). take k (new .places)) (at ∙ used .ensures) ∙ take-min (new .count) (new .places) 256 len in
     as-edit (args .points) new (args .ok)
-    (out-accepted (args .points) new (args .ok) (c .before .before .before .before .before .before .before .is-valid .ensures)
-    (c .before .before .before .before .before .before .if1 .taken) (c .before .before .before .before .before .if2 .taken)
+    (out-accepted (args .points) new (args .ok) (is-valid .ensures)
+    (if1 .taken) (if2 .taken)
     (h .inv .1 ∙ ap (every finitePoint) whole) (c .before .if3 .taken) (h .inv .2 ∙ ap rising whole) (c .if4 .taken) len)
 
 returns-2 : tie.Need-returns-2 Inv-loop μ-loop
 returns-2 c =
+    let good = c .before .before .before .before .before .before .before .before .before .good in
+    let is-valid = c .before .before .before .before .before .before .before .before .is-valid in
+    let if1 = c .before .before .before .before .before .before .before .if1 in
+    let if2 = c .before .before .before .before .before .before .if2 in
+    let if3 = c .before .before .if3 in
     let args = c .before .before .before .before .before .before .before .before .before .args in
     let new = args .t3 in
-    let len = places new _ (c .before .before .before .before .before .before .before .before .before .good .1 .1 .0) in
+    let len = places new _ (good .1 .1 .0) in
     let h = c .before .before .before .before .loop in
     let used = c .before .before .before .before .before .used in
     let at : h .i ≡ used .result = omega arith in
     let whole : take (h .i) (new .places) ≡ listOf new = ap (λ (k : ℕ). take k (new .places)) (at ∙ used .ensures) ∙ take-min (new .count) (new .places) 256 len in
     as-edit (args .points) new (args .ok)
     (c .refuse .ensures
-    ∙ out-rise (args .points) new (args .ok) (c .before .before .before .before .before .before .before .before .is-valid .ensures)
-    (c .before .before .before .before .before .before .before .if1 .taken) (c .before .before .before .before .before .before .if2 .taken)
-    (h .inv .1 ∙ ap (every finitePoint) whole) (c .before .before .if3 .taken) (h .inv .2 ∙ ap rising whole) (c .before .if4 .left))
+    ∙ out-rise (args .points) new (args .ok) (is-valid .ensures)
+    (if1 .taken) (if2 .taken)
+    (h .inv .1 ∙ ap (every finitePoint) whole) (if3 .taken) (h .inv .2 ∙ ap rising whole) (c .before .if4 .left))
 
 returns-3 : tie.Need-returns-3 Inv-loop μ-loop
 returns-3 c =
+    let good = c .before .before .before .before .before .before .before .before .good in
+    let is-valid = c .before .before .before .before .before .before .before .is-valid in
+    let if1 = c .before .before .before .before .before .before .if1 in
+    let if2 = c .before .before .before .before .before .if2 in
     let args = c .before .before .before .before .before .before .before .before .args in
     let new = args .t3 in
-    let len = places new _ (c .before .before .before .before .before .before .before .before .good .1 .1 .0) in
+    let len = places new _ (good .1 .1 .0) in
     let h = c .before .before .before .loop in
     let used = c .before .before .before .before .used in
     let at : h .i ≡ used .result = omega arith in
     let whole : take (h .i) (new .places) ≡ listOf new = ap (λ (k : ℕ). take k (new .places)) (at ∙ used .ensures) ∙ take-min (new .count) (new .places) 256 len in
     as-edit (args .points) new (args .ok)
     (c .refuse2 .ensures
-    ∙ out-finite (args .points) new (args .ok) (c .before .before .before .before .before .before .before .is-valid .ensures)
-    (c .before .before .before .before .before .before .if1 .taken) (c .before .before .before .before .before .if2 .taken)
+    ∙ out-finite (args .points) new (args .ok) (is-valid .ensures)
+    (if1 .taken) (if2 .taken)
     (h .inv .1 ∙ ap (every finitePoint) whole) (c .before .if3 .left))
 
 returns-4 : tie.Need-returns-4 Inv-loop μ-loop
 returns-4 c =
+    let is-valid = c .before .before .before .is-valid in
+    let if1 = c .before .before .if1 in
     let args = c .before .before .before .before .args in
     as-edit (args .points) (args .t3) (args .ok)
-    (c .refuse3 .ensures ∙ out-ok (args .points) (args .t3) (args .ok) (c .before .before .before .is-valid .ensures) (c .before .before .if1 .taken) (c .before .if2 .left))
+    (c .refuse3 .ensures ∙ out-ok (args .points) (args .t3) (args .ok) (is-valid .ensures) (if1 .taken) (c .before .if2 .left))
 
 returns-5 : tie.Need-returns-5 Inv-loop μ-loop
 returns-5 c =
+    let is-valid = c .before .before .is-valid in
     let args = c .before .before .before .args in
     as-edit (args .points) (args .t3) (args .ok)
-    (c .refuse4 .ensures ∙ out-valid (args .points) (args .t3) (args .ok) (c .before .before .is-valid .ensures) (c .before .if1 .left))
+    (c .refuse4 .ensures ∙ out-valid (args .points) (args .t3) (args .ok) (is-valid .ensures) (c .before .if1 .left))
 
 pub finish-spec : {M : Type 1} → statement M
 finish-spec =

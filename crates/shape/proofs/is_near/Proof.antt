@@ -1,6 +1,6 @@
 use mathlib.Core.Path.{sym}
 use lib.Ieee.{ofBits}
-use Rattle.points.specs.FloatLaws.{abs-below}
+use Rattle.points.proofs.FloatLaws.{abs-below}
 use Rattle.shape.proofs.is_near.Statement.{statement}
 use Rattle.shape.proofs.is_near.Tie as tie
 

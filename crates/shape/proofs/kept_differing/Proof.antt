@@ -9,7 +9,8 @@ use Rattle.points.specs.declared.Points.{Points}
 use Rattle.points.specs.Point.{anyPoint}
 use Rattle.points.specs.Points.{listOf, holding}
 use Rattle.points.proofs.Good.{places}
-use Rattle.points.specs.Middles.{middles, middles-two}
+use Rattle.points.specs.Middles.{middles}
+use Rattle.points.proofs.MiddleLaws.{middles-two}
 use Rattle.settle.proofs.Ends.{pushed}
 use Rattle.shape.specs.Shape.{differs}
 use Rattle.shape.proofs.Kept.{simplified-is, simplified-few, middles-push, middles-pass}
@@ -30,9 +31,14 @@ first-only-requires c κs = tt
 
 loop-holds : tie.Need-loop-holds Inv-loop μ-loop
 loop-holds c =
-    let l = listOf (c .before .before .args .t1) in
-    let q = differs (c .before .before .args .tolerance) in
-    (omega arith, omega arith, omega (arith, ap (λ (x : Points). x .count) (c .first-only .ensures), length-take 1 l), c .first-only .ensures ∙ ap holding (sym (ap (λ (k : List AutomationPoint). take 1 l ++ k) (middles-two q l) ∙ append-nil (take 1 l))))
+    let args = c .before .before .args in
+    let l = listOf (args .t1) in
+    let q = differs (args .tolerance) in (
+      omega arith,
+      omega arith,
+      omega (arith, ap (λ (x : Points). x .count) (c .first-only .ensures), length-take 1 l),
+      c .first-only .ensures ∙ ap holding (sym (ap (λ (k : List AutomationPoint). take 1 l ++ k) (middles-two q l) ∙ append-nil (take 1 l))),
+    )
 
 sub-a : tie.Need-sub-a Inv-loop μ-loop
 sub-a c = omega arith
@@ -78,26 +84,51 @@ loop-less c = omega arith
 
 loop-again : tie.Need-loop-again Inv-loop μ-loop
 loop-again c =
-    let h = c .before .before .before .before .before .before .loop in
-    (omega arith, omega arith, omega arith, middles-push (c .before .before .before .before .before .before .before .before .before .args .t1) (c .before .before .before .before .before .before .before .before .used .result) (h .i) (places (c .before .before .before .before .before .before .before .before .before .args .t1) _ (c .before .before .before .before .before .before .before .before .before .good .0)) (c .before .before .before .before .before .before .before .before .used .ensures) (differs (c .before .before .before .before .before .before .before .before .before .args .tolerance)) (h .inv .0) (c .before .before .before .before .before .loop-test .taken) (h .out) (h .inv .3) (omega arith) (sym (c .before .differs .ensures) ∙ c .if1 .taken))
+    let args = c .before .before .before .before .before .before .before .before .before .args in
+    let good = c .before .before .before .before .before .before .before .before .before .good in
+    let used = c .before .before .before .before .before .before .before .before .used in
+    let loop-test = c .before .before .before .before .before .loop-test in
+    let h = c .before .before .before .before .before .before .loop in (
+      omega arith,
+      omega arith,
+      omega arith,
+      middles-push (args .t1) (used .result) (h .i) (places (args .t1) _ (good .0)) (used .ensures) (differs (args .tolerance)) (h .inv .0) (loop-test .taken) (h .out) (h .inv .3)
+          (omega arith) (sym (c .before .differs .ensures) ∙ c .if1 .taken),
+    )
 
 loop-less-2 : tie.Need-loop-less-2 Inv-loop μ-loop
 loop-less-2 c = omega arith
 
 loop-again-2 : tie.Need-loop-again-2 Inv-loop μ-loop
 loop-again-2 c =
-    let h = c .before .before .before .before .before .before .loop in
-    (omega arith, omega arith, omega arith, middles-pass (c .before .before .before .before .before .before .before .before .before .args .t1) (c .before .before .before .before .before .before .before .before .used .result) (h .i) (places (c .before .before .before .before .before .before .before .before .before .args .t1) _ (c .before .before .before .before .before .before .before .before .before .good .0)) (c .before .before .before .before .before .before .before .before .used .ensures) (differs (c .before .before .before .before .before .before .before .before .before .args .tolerance)) (h .inv .0) (c .before .before .before .before .before .loop-test .taken) (h .out) (h .inv .3) (sym (c .before .differs .ensures) ∙ c .if1 .left))
+    let args = c .before .before .before .before .before .before .before .before .before .args in
+    let good = c .before .before .before .before .before .before .before .before .before .good in
+    let used = c .before .before .before .before .before .before .before .before .used in
+    let loop-test = c .before .before .before .before .before .loop-test in
+    let h = c .before .before .before .before .before .before .loop in (
+      omega arith,
+      omega arith,
+      omega arith,
+      middles-pass (args .t1) (used .result) (h .i) (places (args .t1) _ (good .0)) (used .ensures) (differs (args .tolerance)) (h .inv .0) (loop-test .taken) (h .out) (h .inv .3)
+          (sym (c .before .differs .ensures) ∙ c .if1 .left),
+    )
 
 returns : tie.Need-returns Inv-loop μ-loop
 returns c =
-    let ps = c .before .before .before .before .before .args .t1 in
+    let args = c .before .before .before .before .before .args in
+    let good = c .before .before .before .before .before .good in
+    let used = c .before .before .before .before .used in
+    let loop = c .before .before .loop in
+    let ps = args .t1 in
     let l = listOf ps in
-    let t = differs (c .before .before .before .before .before .args .tolerance) in
-    let len = places ps _ (c .before .before .before .before .before .good .0) in
-    let n : length l ≡ c .before .before .before .before .used .result = omega (arith, length-take (ps .count) (ps .places), c .before .before .before .before .used .ensures) in
-    let two : c .before .before .loop .i ≡ 2 = omega arith in
-    c .before .before .loop .inv .3 ∙ ap holding (ap (λ (k : List AutomationPoint). take 1 l ++ k) (ap (λ (j : ℕ). middles t (take j l)) two ∙ middles-two t l) ∙ append-nil (take 1 l) ∙ sym (simplified-few (c .before .before .before .before .before .args .tolerance) l (omega arith)))
+    let t = differs (args .tolerance) in
+    let len = places ps _ (good .0) in
+    let n : length l ≡ used .result = omega (arith, length-take (ps .count) (ps .places), used .ensures) in
+    let two : loop .i ≡ 2 = omega arith in
+    loop .inv .3
+    ∙ ap holding
+    (ap (λ (k : List AutomationPoint). take 1 l ++ k) (ap (λ (j : ℕ). middles t (take j l)) two ∙ middles-two t l) ∙ append-nil (take 1 l)
+    ∙ sym (simplified-few (args .tolerance) l (omega arith)))
 
 sub-last : tie.Need-sub-last Inv-loop μ-loop
 sub-last c = omega arith
@@ -119,17 +150,20 @@ add-out-2 c = omega arith
 
 returns-2 : tie.Need-returns-2 Inv-loop μ-loop
 returns-2 c =
-    let ps = c .before .before .before .before .before .before .args .t1 in
+    let args = c .before .before .before .before .before .before .args in
+    let good = c .before .before .before .before .before .before .good in
+    let used = c .before .before .before .before .before .used in
+    let ps = args .t1 in
     let h = c .before .before .before .loop in
     let l = listOf ps in
-    let t = differs (c .before .before .before .before .before .before .args .tolerance) in
-    let len = places ps _ (c .before .before .before .before .before .before .good .0) in
-    let n : length l ≡ c .before .before .before .before .before .used .result = omega (arith, length-take (ps .count) (ps .places), c .before .before .before .before .before .used .ensures) in
+    let t = differs (args .tolerance) in
+    let len = places ps _ (good .0) in
+    let n : length l ≡ used .result = omega (arith, length-take (ps .count) (ps .places), used .ensures) in
     let m : h .out .count ≡ length (take 1 l ++ middles t (take (h .i) l)) = ap (λ (x : Points). x .count) (h .inv .3) in
-    let p : getD (ps .places) (c .before .before .before .before .before .used .result - 1) anyPoint ≡ getD l (length l - 1) anyPoint =
-    sym (getD-take (ps .count) (ps .places) (c .before .before .before .before .before .used .result - 1) anyPoint (omega (arith, c .before .before .before .before .before .used .ensures))) ∙ ap (λ (j : ℕ). getD l (j - 1) anyPoint) (sym n) in
-    pushed (h .out) (take 1 l ++ middles t (take (h .i) l)) (getD (ps .places) (c .before .before .before .before .before .used .result - 1) anyPoint) (omega arith) (h .inv .3)
-    ∙ ap holding ((λ j. (take 1 l ++ middles t (take-all (h .i) l (omega arith) j)) ++ (p j ∷ [])) ∙ sym (simplified-is (c .before .before .before .before .before .before .args .tolerance) l anyPoint (omega arith)))
+    let p : getD (ps .places) (used .result - 1) anyPoint ≡ getD l (length l - 1) anyPoint =
+    sym (getD-take (ps .count) (ps .places) (used .result - 1) anyPoint (omega (arith, used .ensures))) ∙ ap (λ (j : ℕ). getD l (j - 1) anyPoint) (sym n) in
+    pushed (h .out) (take 1 l ++ middles t (take (h .i) l)) (getD (ps .places) (used .result - 1) anyPoint) (omega arith) (h .inv .3)
+    ∙ ap holding ((λ j. (take 1 l ++ middles t (take-all (h .i) l (omega arith) j)) ++ (p j ∷ [])) ∙ sym (simplified-is (args .tolerance) l anyPoint (omega arith)))
 
 pub kept-differing-spec : {M : Type 1} → statement M
 kept-differing-spec =

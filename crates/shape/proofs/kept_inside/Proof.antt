@@ -7,7 +7,7 @@ use Rattle.points.specs.declared.AutomationPoint.{AutomationPoint}
 use Rattle.points.specs.declared.Points.{Points}
 use Rattle.points.specs.Point.{anyPoint}
 use Rattle.points.specs.Points.{holding}
-use Rattle.points.specs.Laws.{take-min}
+use Rattle.points.proofs.Laws.{take-min}
 use Rattle.points.proofs.Good.{places}
 use Rattle.settle.proofs.Ends.{pushed}
 use Rattle.shape.specs.Shape.{keepIf, inside}
@@ -57,10 +57,12 @@ loop-less c = omega arith
 
 loop-again : tie.Need-loop-again Inv-loop μ-loop
 loop-again c =
-    let l = c .before .before .before .before .before .before .before .args .t1 .places in
-    let q = inside (c .before .before .before .before .before .before .before .args .start-time) (c .before .before .before .before .before .before .before .args .end-time) in
+    let args = c .before .before .before .before .before .before .before .args in
+    let good = c .before .before .before .before .before .before .before .good in
+    let l = args .t1 .places in
+    let q = inside (args .start-time) (args .end-time) in
     let h = c .before .before .before .before .loop in
-    let len = places (c .before .before .before .before .before .before .before .args .t1) _ (c .before .before .before .before .before .before .before .good .0) in
+    let len = places (args .t1) _ (good .0) in
     let ps = keepIf q (take (h .i) l) in
     let n : h .out .count ≡ length ps = ap (λ (x : Points). x .count) (h .inv .2) in
     let y = keep-yes q l (h .i) anyPoint (omega arith) (sym (c .before .is-inside .ensures) ∙ c .if1 .taken) in
@@ -71,19 +73,24 @@ loop-less-2 c = omega arith
 
 loop-again-2 : tie.Need-loop-again-2 Inv-loop μ-loop
 loop-again-2 c =
-    let l = c .before .before .before .before .before .before .before .args .t1 .places in
-    let q = inside (c .before .before .before .before .before .before .before .args .start-time) (c .before .before .before .before .before .before .before .args .end-time) in
+    let args = c .before .before .before .before .before .before .before .args in
+    let good = c .before .before .before .before .before .before .before .good in
+    let l = args .t1 .places in
+    let q = inside (args .start-time) (args .end-time) in
     let h = c .before .before .before .before .loop in
-    let len = places (c .before .before .before .before .before .before .before .args .t1) _ (c .before .before .before .before .before .before .before .good .0) in
+    let len = places (args .t1) _ (good .0) in
     let y = keep-no q l (h .i) anyPoint (omega arith) (sym (c .before .is-inside .ensures) ∙ c .if1 .left) in
     (omega arith, omega arith, h .inv .2 ∙ ap holding (sym y))
 
 returns : tie.Need-returns Inv-loop μ-loop
 returns c =
-    let ps = c .before .before .before .before .args .t1 in
-    let at : c .before .loop .i ≡ c .before .before .before .used .result = omega arith in
-    c .before .loop .inv .2 ∙ ap (λ (l : List AutomationPoint). holding (keepIf (inside (c .before .before .before .before .args .start-time) (c .before .before .before .before .args .end-time)) l))
-    (ap (λ (k : ℕ). take k (ps .places)) (at ∙ c .before .before .before .used .ensures) ∙ take-min (ps .count) (ps .places) 256 (places ps _ (c .before .before .before .before .good .0)))
+    let args = c .before .before .before .before .args in
+    let good = c .before .before .before .before .good in
+    let used = c .before .before .before .used in
+    let ps = args .t1 in
+    let at : c .before .loop .i ≡ used .result = omega arith in
+    c .before .loop .inv .2 ∙ ap (λ (l : List AutomationPoint). holding (keepIf (inside (args .start-time) (args .end-time)) l))
+    (ap (λ (k : ℕ). take k (ps .places)) (at ∙ used .ensures) ∙ take-min (ps .count) (ps .places) 256 (places ps _ (good .0)))
 
 pub kept-inside-spec : {M : Type 1} → statement M
 kept-inside-spec =

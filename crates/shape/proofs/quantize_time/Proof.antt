@@ -35,20 +35,25 @@ finish-requires-2 c κs = search needs
 
 returns : tie.Need-returns
 returns c =
+    let is-finite = c .before .before .is-finite in
     let start = c .before .before .before in
     let ps = start .args .points in
-    ends-same ps (c .finish .ensures .0) (c .before .before .is-finite .ensures) (places ps _ (start .good .0)) ∙ ap (editPoints ps (finite (start .args .grid))) (sym (quantized-stays (start .args .grid) (listOf ps) (c .before .if1 .taken)))
+    ends-same ps (c .finish .ensures .0) (is-finite .ensures) (places ps _ (start .good .0))
+    ∙ ap (editPoints ps (finite (start .args .grid))) (sym (quantized-stays (start .args .grid) (listOf ps) (c .before .if1 .taken)))
 
 returns-2 : tie.Need-returns-2
 returns-2 c =
+    let is-finite = c .before .before .before .before .is-finite in
+    let if1 = c .before .before .before .if1 in
+    let map-points = c .before .before .map-points in
     let start = c .before .before .before .before .before in
     let ps = start .args .points in
     let grid = start .args .grid in
     let len = places ps _ (start .good .0) in
-    ends-quantized ps (c .before .without-repeats .result) grid (c .finish2 .ensures .0) (c .before .before .before .before .is-finite .ensures)
-    (c .before .before .before .if1 .left) (times-fit ps _ (start .good .0))
-    (λ v. c .before .without-repeats .ensures ∙ ap (λ (k : List AutomationPoint). holding (withoutRepeats k)) (ap listOf (c .before .before .map-points .ensures) ∙ mapped-list (changed (Quantize grid)) ps v len))
-    ∙ ap (λ (b : Bool). editPoints ps (finite grid) (cond b (listOf ps) (firsts (map (changed (Quantize grid)) (listOf ps))))) (sym (c .before .before .before .if1 .left))
+    ends-quantized ps (c .before .without-repeats .result) grid (c .finish2 .ensures .0) (is-finite .ensures)
+    (if1 .left) (times-fit ps _ (start .good .0))
+    (λ v. c .before .without-repeats .ensures ∙ ap (λ (k : List AutomationPoint). holding (withoutRepeats k)) (ap listOf (map-points .ensures) ∙ mapped-list (changed (Quantize grid)) ps v len))
+    ∙ ap (λ (b : Bool). editPoints ps (finite grid) (cond b (listOf ps) (firsts (map (changed (Quantize grid)) (listOf ps))))) (sym (if1 .left))
 
 pub quantize-time-spec : {M : Type 1} → statement M
 quantize-time-spec =

@@ -16,9 +16,11 @@ finish-requires c κs = search needs
 
 returns : tie.Need-returns
 returns c =
-    let ps = c .before .before .before .args .points in
-    let q = near (c .before .before .before .args .time) in
-    ends ps (c .before .without-first-near .result) (removeFirst q (listOf ps)) (c .finish .ensures .0) (c .before .before .is-finite .ensures) (c .before .without-first-near .ensures)
+    let args = c .before .before .before .args in
+    let is-finite = c .before .before .is-finite in
+    let ps = args .points in
+    let q = near (args .time) in
+    ends ps (c .before .without-first-near .result) (removeFirst q (listOf ps)) (c .finish .ensures .0) (is-finite .ensures) (c .before .without-first-near .ensures)
 
 pub remove-point-at-spec : {M : Type 1} → statement M
 remove-point-at-spec =

@@ -29,11 +29,15 @@ finish-requires c κs = search needs
 
 returns : tie.Need-returns
 returns c =
-    let ps = c .before .before .before .before .args .points in
+    let entry = c .before .before .before .before in
+    let args = entry .args in
+    let last-time = c .before .before .before .last-time in
+    let map-points = c .before .before .map-points in
+    let ps = args .points in
     let l = listOf ps in
     let f = changed (Reflect (lastTime l)) in
-    let len = places ps _ (c .before .before .before .before .good .0) in
-    let m : c .before .before .map-points .result ≡ mappedIn f ps = c .before .before .map-points .ensures ∙ ap (λ (t : Float). mappedIn (changed (Reflect t)) ps) (c .before .before .before .last-time .ensures) in
+    let len = places ps _ (entry .good .0) in
+    let m : map-points .result ≡ mappedIn f ps = map-points .ensures ∙ ap (λ (t : Float). mappedIn (changed (Reflect t)) ps) (last-time .ensures) in
     ends-valid ps (c .before .turned .result) (reversed l) (c .finish .ensures .0) refl
     (λ v a. c .before .turned .ensures ∙ ap (λ (k : List AutomationPoint). holding (lists.reverse k)) (ap listOf m ∙ mapped-list f ps v len))
 

@@ -16,9 +16,11 @@ finish-requires c κs = search needs
 
 returns : tie.Need-returns
 returns c =
-    let ps = c .before .before .before .args .points in
-    let t = c .before .before .before .args .tolerance in
-    ends ps (c .before .kept-differing .result) (simplified t (listOf ps)) (c .finish .ensures .0) (c .before .before .is-finitef .ensures) (c .before .kept-differing .ensures)
+    let args = c .before .before .before .args in
+    let is-finitef = c .before .before .is-finitef in
+    let ps = args .points in
+    let t = args .tolerance in
+    ends ps (c .before .kept-differing .result) (simplified t (listOf ps)) (c .finish .ensures .0) (is-finitef .ensures) (c .before .kept-differing .ensures)
 
 pub simplify-spec : {M : Type 1} → statement M
 simplify-spec =

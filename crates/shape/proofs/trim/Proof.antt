@@ -1,5 +1,5 @@
 use Rattle.points.specs.Points.{listOf}
-use Rattle.points.specs.Laws.{and-both}
+use Rattle.points.proofs.Laws.{and-both}
 use Rattle.settle.proofs.Ends.{ends}
 use Rattle.shape.specs.Shape.{keepIf, inside}
 use borrow.Author.Needs.{needs}
@@ -20,10 +20,13 @@ finish-requires c κs = search needs
 
 returns : tie.Need-returns
 returns c =
-    let ps = c .before .before .before .before .args .points in
-    let q = inside (c .before .before .before .before .args .start-time) (c .before .before .before .before .args .end-time) in
+    let args = c .before .before .before .before .args in
+    let is-finite = c .before .before .before .is-finite in
+    let is-finite2 = c .before .before .is-finite2 in
+    let ps = args .points in
+    let q = inside (args .start-time) (args .end-time) in
     ends ps (c .before .kept-inside .result) (keepIf q (listOf ps)) (c .finish .ensures .0)
-    (and-both (c .before .before .before .is-finite .ensures) (c .before .before .is-finite2 .ensures)) (c .before .kept-inside .ensures)
+    (and-both (is-finite .ensures) (is-finite2 .ensures)) (c .before .kept-inside .ensures)
 
 pub trim-spec : {M : Type 1} → statement M
 trim-spec =

@@ -28,10 +28,15 @@ none-requires c κs = tt
 
 loop-holds : tie.Need-loop-holds Inv-loop μ-loop
 loop-holds c =
-    let ps = c .before .before .args .t1 in
-    let len = places ps _ (c .before .before .good .0) in
-    let n : length (listOf ps) ≡ c .before .used .result = omega (arith, length-take (ps .count) (ps .places), c .before .used .ensures) in
-    (omega arith, omega (arith, ap (λ (x : Points). x .count) (c .none .ensures)), c .none .ensures ∙ ap (λ (l : List AutomationPoint). holding (reverse l)) (sym (ap (λ (k : ℕ). drop k (listOf ps)) (sym n) ∙ drop-length (listOf ps))))
+    let args = c .before .before .args in
+    let good = c .before .before .good in
+    let ps = args .t1 in
+    let len = places ps _ (good .0) in
+    let n : length (listOf ps) ≡ c .before .used .result = omega (arith, length-take (ps .count) (ps .places), c .before .used .ensures) in (
+      omega arith,
+      omega (arith, ap (λ (x : Points). x .count) (c .none .ensures)),
+      c .none .ensures ∙ ap (λ (l : List AutomationPoint). holding (reverse l)) (sym (ap (λ (k : ℕ). drop k (listOf ps)) (sym n) ∙ drop-length (listOf ps))),
+    )
 
 sub-i : tie.Need-sub-i Inv-loop μ-loop
 sub-i c = omega arith
@@ -56,16 +61,21 @@ loop-less c = omega arith
 
 loop-again : tie.Need-loop-again Inv-loop μ-loop
 loop-again c =
-    let ps = c .before .before .before .before .before .args .t1 in
+    let args = c .before .before .before .before .before .args in
+    let good = c .before .before .before .before .before .good in
+    let used = c .before .before .before .before .used in
+    let ps = args .t1 in
     let h = c .before .before .loop in
     let i = h .i - 1 in
-    let len = places ps _ (c .before .before .before .before .before .good .0) in
-    let n : length (listOf ps) ≡ c .before .before .before .before .used .result = omega (arith, length-take (ps .count) (ps .places), c .before .before .before .before .used .ensures) in
+    let len = places ps _ (good .0) in
+    let n : length (listOf ps) ≡ used .result = omega (arith, length-take (ps .count) (ps .places), used .ensures) in
     let e : h .i ≡ i + 1 = omega arith in
     let l = reverse (drop (h .i) (listOf ps)) in
     let m : h .out .count ≡ length l = ap (λ (x : Points). x .count) (h .inv .2) in
-    let p : getD (ps .places) i anyPoint ≡ getD (listOf ps) i anyPoint = sym (getD-take (ps .count) (ps .places) i anyPoint (omega (arith, c .before .before .before .before .used .ensures))) in
-    let d : drop i (listOf ps) ≡ getD (listOf ps) i anyPoint ∷ drop (h .i) (listOf ps) = drop-cons (listOf ps) i anyPoint (omega arith) ∙ ap (λ (k : ℕ). getD (listOf ps) i anyPoint ∷ drop k (listOf ps)) (sym (e ∙ add-one i)) in (
+    let p : getD (ps .places) i anyPoint ≡ getD (listOf ps) i anyPoint = sym (getD-take (ps .count) (ps .places) i anyPoint (omega (arith, used .ensures))) in
+    let d : drop i (listOf ps)
+    ≡ getD (listOf ps) i anyPoint ∷ drop (h .i) (listOf ps) = drop-cons (listOf ps) i anyPoint (omega arith)
+    ∙ ap (λ (k : ℕ). getD (listOf ps) i anyPoint ∷ drop k (listOf ps)) (sym (e ∙ add-one i)) in (
       omega arith,
       omega arith,
       pushed (h .out) l (getD (ps .places) i anyPoint) (omega arith) (h .inv .2)
@@ -74,8 +84,9 @@ loop-again c =
 
 returns : tie.Need-returns Inv-loop μ-loop
 returns c =
+    let args = c .before .before .before .before .args in
     let at : c .before .loop .i ≡ 0 = omega arith in
-    c .before .loop .inv .2 ∙ ap (λ (k : ℕ). holding (reverse (drop k (listOf (c .before .before .before .before .args .t1))))) at
+    c .before .loop .inv .2 ∙ ap (λ (k : ℕ). holding (reverse (drop k (listOf (args .t1))))) at
 
 pub turned-spec : {M : Type 1} → statement M
 turned-spec =

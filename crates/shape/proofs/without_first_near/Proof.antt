@@ -7,7 +7,7 @@ use Rattle.points.specs.declared.AutomationPoint.{AutomationPoint}
 use Rattle.points.specs.declared.Points.{Points}
 use Rattle.points.specs.Point.{anyPoint}
 use Rattle.points.specs.Points.{holding}
-use Rattle.points.specs.Laws.{take-min, every-more, and-both}
+use Rattle.points.proofs.Laws.{take-min, every-more, and-both}
 use Rattle.points.proofs.Good.{places}
 use mathlib.Core.Bool.{not}
 use Rattle.points.specs.Points.{every}
@@ -18,7 +18,8 @@ use Rattle.shape.proofs.without_first_near.Statement.{statement}
 use Rattle.shape.proofs.without_first_near.Tie as tie
 
 abbrev Inv-loop : tie.InvT-loop
-Inv-loop time points n out₀ looking₀ i₀ out looking i = (i ≤ n) × (out .count ≤ i) × (looking ≡ noneOf (near time) (take i (points .places))) × (out ≡ holding (removeFirst (near time) (take i (points .places))))
+Inv-loop time points n out₀ looking₀ i₀ out looking i =
+    (i ≤ n) × (out .count ≤ i) × (looking ≡ noneOf (near time) (take i (points .places))) × (out ≡ holding (removeFirst (near time) (take i (points .places))))
 
 abbrev μ-loop : tie.MeasureT-loop
 μ-loop time points n out₀ looking₀ i₀ out looking i = n - i
@@ -50,12 +51,18 @@ loop-less c = omega arith
 
 loop-again : tie.Need-loop-again Inv-loop μ-loop
 loop-again c =
-    let l = c .before .before .before .before .before .before .before .args .t1 .places in
-    let q = near (c .before .before .before .before .before .before .before .args .time) in
+    let args = c .before .before .before .before .before .before .before .args in
+    let good = c .before .before .before .before .before .before .before .good in
+    let l = args .t1 .places in
+    let q = near (args .time) in
     let h = c .before .before .before .before .loop in
-    let len = places (c .before .before .before .before .before .before .before .args .t1) _ (c .before .before .before .before .before .before .before .good .0) in
-    let found = sym (and-both (h .inv .2) (c .before .is-near .ensures)) ∙ c .if1 .taken in
-    (omega arith, omega arith, none-here (noneOf q (take (h .i) l)) (q (getD l (h .i) anyPoint)) found ∙ sym (every-more (λ x. not (q x)) l (h .i) anyPoint (omega arith)), h .inv .3 ∙ ap holding (sym (remove-here q l (h .i) anyPoint (omega arith) found)))
+    let len = places (args .t1) _ (good .0) in
+    let found = sym (and-both (h .inv .2) (c .before .is-near .ensures)) ∙ c .if1 .taken in (
+      omega arith,
+      omega arith,
+      none-here (noneOf q (take (h .i) l)) (q (getD l (h .i) anyPoint)) found ∙ sym (every-more (λ x. not (q x)) l (h .i) anyPoint (omega arith)),
+      h .inv .3 ∙ ap holding (sym (remove-here q l (h .i) anyPoint (omega arith) found)),
+    )
 
 mul-p-2 : tie.Need-mul-p-2 Inv-loop μ-loop
 mul-p-2 c = omega arith
@@ -71,21 +78,30 @@ loop-less-2 c = omega arith
 
 loop-again-2 : tie.Need-loop-again-2 Inv-loop μ-loop
 loop-again-2 c =
-    let l = c .before .before .before .before .before .before .before .args .t1 .places in
-    let q = near (c .before .before .before .before .before .before .before .args .time) in
+    let args = c .before .before .before .before .before .before .before .args in
+    let good = c .before .before .before .before .before .before .before .good in
+    let l = args .t1 .places in
+    let q = near (args .time) in
     let h = c .before .before .before .before .loop in
-    let len = places (c .before .before .before .before .before .before .before .args .t1) _ (c .before .before .before .before .before .before .before .good .0) in
+    let len = places (args .t1) _ (good .0) in
     let ps = removeFirst q (take (h .i) l) in
     let n : h .out .count ≡ length ps = ap (λ (x : Points). x .count) (h .inv .3) in
-    let past = sym (and-both (h .inv .2) (c .before .is-near .ensures)) ∙ c .if1 .left in
-    (omega arith, omega arith, h .inv .2 ∙ none-past (noneOf q (take (h .i) l)) (q (getD l (h .i) anyPoint)) past ∙ sym (every-more (λ x. not (q x)) l (h .i) anyPoint (omega arith)), pushed (h .out) ps (getD l (h .i) anyPoint) (omega arith) (h .inv .3) ∙ ap holding (sym (remove-past q l (h .i) anyPoint (omega arith) past)))
+    let past = sym (and-both (h .inv .2) (c .before .is-near .ensures)) ∙ c .if1 .left in (
+      omega arith,
+      omega arith,
+      h .inv .2 ∙ none-past (noneOf q (take (h .i) l)) (q (getD l (h .i) anyPoint)) past ∙ sym (every-more (λ x. not (q x)) l (h .i) anyPoint (omega arith)),
+      pushed (h .out) ps (getD l (h .i) anyPoint) (omega arith) (h .inv .3) ∙ ap holding (sym (remove-past q l (h .i) anyPoint (omega arith) past)),
+    )
 
 returns : tie.Need-returns Inv-loop μ-loop
 returns c =
-    let ps = c .before .before .before .before .args .t1 in
-    let at : c .before .loop .i ≡ c .before .before .before .used .result = omega arith in
-    c .before .loop .inv .3 ∙ ap (λ (l : List AutomationPoint). holding (removeFirst (near (c .before .before .before .before .args .time)) l))
-    (ap (λ (k : ℕ). take k (ps .places)) (at ∙ c .before .before .before .used .ensures) ∙ take-min (ps .count) (ps .places) 256 (places ps _ (c .before .before .before .before .good .0)))
+    let args = c .before .before .before .before .args in
+    let good = c .before .before .before .before .good in
+    let used = c .before .before .before .used in
+    let ps = args .t1 in
+    let at : c .before .loop .i ≡ used .result = omega arith in
+    c .before .loop .inv .3 ∙ ap (λ (l : List AutomationPoint). holding (removeFirst (near (args .time)) l))
+    (ap (λ (k : ℕ). take k (ps .places)) (at ∙ used .ensures) ∙ take-min (ps .count) (ps .places) 256 (places ps _ (good .0)))
 
 pub without-first-near-spec : {M : Type 1} → statement M
 without-first-near-spec =

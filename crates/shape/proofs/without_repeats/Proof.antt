@@ -27,7 +27,8 @@ first-only-requires c κs = tt
 
 loop-holds : tie.Need-loop-holds Inv-loop μ-loop
 loop-holds c =
-    let l = listOf (c .before .before .args .t1) in
+    let args = c .before .before .args in
+    let l = listOf (args .t1) in
     (omega arith, omega arith, omega (arith, ap (λ (x : Points). x .count) (c .first-only .ensures), length-take 1 l), c .first-only .ensures ∙ ap holding (sym (repeats-one l)))
 
 sub-p : tie.Need-sub-p Inv-loop μ-loop
@@ -68,22 +69,45 @@ loop-less c = omega arith
 
 loop-again : tie.Need-loop-again Inv-loop μ-loop
 loop-again c =
-    let h = c .before .before .before .before .before .before .loop in
-    (omega arith, omega arith, omega arith, repeats-push (c .before .before .before .before .before .before .before .before .before .args .t1) (c .before .before .before .before .before .before .before .before .used .result) (h .i) (places (c .before .before .before .before .before .before .before .before .before .args .t1) _ (c .before .before .before .before .before .before .before .before .before .good .0)) (c .before .before .before .before .before .before .before .before .used .ensures) (h .inv .0) (c .before .before .before .before .before .loop-test .taken) (h .out) (h .inv .3) (omega arith) (λ e. c .if1 .taken (c .before .before .order-key .ensures ∙ e ∙ sym (c .before .order-key2 .ensures))))
+    let args = c .before .before .before .before .before .before .before .before .before .args in
+    let good = c .before .before .before .before .before .before .before .before .before .good in
+    let used = c .before .before .before .before .before .before .before .before .used in
+    let loop-test = c .before .before .before .before .before .loop-test in
+    let order-key = c .before .before .order-key in
+    let h = c .before .before .before .before .before .before .loop in (
+      omega arith,
+      omega arith,
+      omega arith,
+      repeats-push (args .t1) (used .result) (h .i) (places (args .t1) _ (good .0)) (used .ensures) (h .inv .0) (loop-test .taken) (h .out) (h .inv .3) (omega arith)
+          (λ e. c .if1 .taken (order-key .ensures ∙ e ∙ sym (c .before .order-key2 .ensures))),
+    )
 
 loop-less-2 : tie.Need-loop-less-2 Inv-loop μ-loop
 loop-less-2 c = omega arith
 
 loop-again-2 : tie.Need-loop-again-2 Inv-loop μ-loop
 loop-again-2 c =
-    let h = c .before .before .before .before .before .before .loop in
-    (omega arith, omega arith, omega arith, repeats-pass (c .before .before .before .before .before .before .before .before .before .args .t1) (c .before .before .before .before .before .before .before .before .used .result) (h .i) (places (c .before .before .before .before .before .before .before .before .before .args .t1) _ (c .before .before .before .before .before .before .before .before .before .good .0)) (c .before .before .before .before .before .before .before .before .used .ensures) (h .inv .0) (c .before .before .before .before .before .loop-test .taken) (h .out) (h .inv .3) (sym (c .before .before .order-key .ensures) ∙ c .if1 .left ∙ c .before .order-key2 .ensures))
+    let args = c .before .before .before .before .before .before .before .before .before .args in
+    let good = c .before .before .before .before .before .before .before .before .before .good in
+    let used = c .before .before .before .before .before .before .before .before .used in
+    let loop-test = c .before .before .before .before .before .loop-test in
+    let order-key = c .before .before .order-key in
+    let h = c .before .before .before .before .before .before .loop in (
+      omega arith,
+      omega arith,
+      omega arith,
+      repeats-pass (args .t1) (used .result) (h .i) (places (args .t1) _ (good .0)) (used .ensures) (h .inv .0) (loop-test .taken) (h .out) (h .inv .3)
+          (sym (order-key .ensures) ∙ c .if1 .left ∙ c .before .order-key2 .ensures),
+    )
 
 returns : tie.Need-returns Inv-loop μ-loop
 returns c =
-    let ps = c .before .before .before .before .args .t1 in
-    let len = places ps _ (c .before .before .before .before .good .0) in
-    let n : length (listOf ps) ≡ c .before .before .before .used .result = omega (arith, length-take (ps .count) (ps .places), c .before .before .before .used .ensures) in
+    let args = c .before .before .before .before .args in
+    let good = c .before .before .before .before .good in
+    let used = c .before .before .before .used in
+    let ps = args .t1 in
+    let len = places ps _ (good .0) in
+    let n : length (listOf ps) ≡ used .result = omega (arith, length-take (ps .count) (ps .places), used .ensures) in
     c .before .loop .inv .3 ∙ ap (λ (l : List AutomationPoint). holding (withoutRepeats l)) (take-all (c .before .loop .i) (listOf ps) (omega arith))
 
 pub without-repeats-spec : {M : Type 1} → statement M

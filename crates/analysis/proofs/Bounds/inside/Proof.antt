@@ -4,7 +4,7 @@ use mathlib.Core.Path.{_≡_, refl, ap, _∙_}
 use mathlib.Core.List.{List, foldl}
 use native.Mathlib.Omega.{arith}
 use lib.ListN.{take}
-use Rattle.points.specs.Laws.{take-min}
+use Rattle.points.proofs.Laws.{take-min}
 use Rattle.points.specs.declared.AutomationPoint.{AutomationPoint}
 use Rattle.analysis.specs.Analysis.{rawInside}
 use Rattle.analysis.specs.Ranges.{widen}
@@ -43,24 +43,36 @@ loop-less c = omega arith
 
 loop-again : tie.Need-loop-again Inv-loop μ-loop
 loop-again c =
-    let len = places (c .before .before .before .before .before .before .before .before .args .t2) _ (c .before .before .before .before .before .before .before .before .good .1 .0) in
-    (omega arith, inside-yes (c .before .before .before .before .before .before .before .before .args .start) (c .before .before .before .before .before .before .before .before .args .end) (c .before .before .before .before .before .before .before .before .args .t2 .places) (c .before .before .before .before .before .before .loop .i) (c .before .before .before .before .before .before .before .before .args .self) (c .before .before .before .before .before .before .loop .bounds) (c .widen .result) (omega arith) (c .before .before .before .before .before .before .loop .inv .1) (c .before .if1 .taken) (c .widen .ensures))
+    let args = c .before .before .before .before .before .before .before .before .args in
+    let good = c .before .before .before .before .before .before .before .before .good in
+    let loop = c .before .before .before .before .before .before .loop in
+    let len = places (args .t2) _ (good .1 .0) in (
+      omega arith,
+      inside-yes (args .start) (args .end) (args .t2 .places) (loop .i) (args .self) (loop .bounds) (c .widen .result) (omega arith) (loop .inv .1) (c .before .if1 .taken)
+          (c .widen .ensures),
+    )
 
 loop-less-2 : tie.Need-loop-less-2 Inv-loop μ-loop
 loop-less-2 c = omega arith
 
 loop-again-2 : tie.Need-loop-again-2 Inv-loop μ-loop
 loop-again-2 c =
-    let len = places (c .before .before .before .before .before .before .before .args .t2) _ (c .before .before .before .before .before .before .before .good .1 .0) in
-    (omega arith, inside-no (c .before .before .before .before .before .before .before .args .start) (c .before .before .before .before .before .before .before .args .end) (c .before .before .before .before .before .before .before .args .t2 .places) (c .before .before .before .before .before .loop .i) (c .before .before .before .before .before .before .before .args .self) (c .before .before .before .before .before .loop .bounds) (c .before .before .before .before .before .loop .bounds) (omega arith) (c .before .before .before .before .before .loop .inv .1) (c .if1 .left))
+    let args = c .before .before .before .before .before .before .before .args in
+    let good = c .before .before .before .before .before .before .before .good in
+    let loop = c .before .before .before .before .before .loop in
+    let len = places (args .t2) _ (good .1 .0) in
+    (omega arith, inside-no (args .start) (args .end) (args .t2 .places) (loop .i) (args .self) (loop .bounds) (loop .bounds) (omega arith) (loop .inv .1) (c .if1 .left))
 
 returns : tie.Need-returns Inv-loop μ-loop
 returns c =
-    let ps = c .before .before .before .args .t2 in
-    let at : c .before .loop .i ≡ min (ps .count) 256 = omega (arith, c .before .before .used .ensures) in
+    let args = c .before .before .before .args in
+    let good = c .before .before .before .good in
+    let used = c .before .before .used in
+    let ps = args .t2 in
+    let at : c .before .loop .i ≡ min (ps .count) 256 = omega (arith, used .ensures) in
     c .before .loop .inv .1
-    ∙ ap (λ (k : ℕ). foldl widen (c .before .before .before .args .self) (rawInside (c .before .before .before .args .start) (c .before .before .before .args .end) (take k (ps .places)))) at
-    ∙ ap (λ (l : List AutomationPoint). foldl widen (c .before .before .before .args .self) (rawInside (c .before .before .before .args .start) (c .before .before .before .args .end) l)) (take-min (ps .count) (ps .places) 256 (places ps _ (c .before .before .before .good .1 .0)))
+    ∙ ap (λ (k : ℕ). foldl widen (args .self) (rawInside (args .start) (args .end) (take k (ps .places)))) at
+    ∙ ap (λ (l : List AutomationPoint). foldl widen (args .self) (rawInside (args .start) (args .end) l)) (take-min (ps .count) (ps .places) 256 (places ps _ (good .1 .0)))
 
 pub inside-spec : {M : Type 1} → statement M
 inside-spec =

@@ -2,46 +2,6 @@ use Prim.Native.Nat.{_≤_, _-_}
 use native.Mathlib.Omega.{arith}
 use Rattle.bench_exports.proofs.bench.rattle_edit.Statement.{statement}
 use Rattle.bench_exports.proofs.bench.rattle_edit.Tie as tie
-use Rattle.bench_exports.proofs.bench.rattle_edit.Reads as reads
-use Rattle.bench_exports.proofs.bench.rattle_edit.Lts as lts
-use Rattle.bench_exports.proofs.made.curve_of.Reads as curve-of-reads
-use Rattle.bench_exports.proofs.made.made.Reads as made-reads
-use Rattle.bench_exports.proofs.made.point.Reads as point-reads
-use Rattle.bench_exports.proofs.made.shown.Reads as shown-reads
-use Rattle.envelope.proofs.AutomationEnvelope.add.Reads as add-reads
-use Rattle.envelope.proofs.AutomationEnvelope.add_point.Reads as add-point-reads
-use Rattle.envelope.proofs.AutomationEnvelope.apply_compression.Reads as apply-compression-reads
-use Rattle.envelope.proofs.AutomationEnvelope.apply_fade_in.Reads as apply-fade-in-reads
-use Rattle.envelope.proofs.AutomationEnvelope.apply_fade_out.Reads as apply-fade-out-reads
-use Rattle.envelope.proofs.AutomationEnvelope.apply_fades.Reads as apply-fades-reads
-use Rattle.envelope.proofs.AutomationEnvelope.apply_gate.Reads as apply-gate-reads
-use Rattle.envelope.proofs.AutomationEnvelope.blend.Reads as blend-reads
-use Rattle.envelope.proofs.AutomationEnvelope.clamp_values.Reads as clamp-values-reads
-use Rattle.envelope.proofs.AutomationEnvelope.fade_in.Reads as fade-in-reads
-use Rattle.envelope.proofs.AutomationEnvelope.fade_out.Reads as fade-out-reads
-use Rattle.envelope.proofs.AutomationEnvelope.invert_values.Reads as invert-values-reads
-use Rattle.envelope.proofs.AutomationEnvelope.max.Reads as max-reads
-use Rattle.envelope.proofs.AutomationEnvelope.merge.Reads as merge-reads
-use Rattle.envelope.proofs.AutomationEnvelope.min.Reads as min-reads
-use Rattle.envelope.proofs.AutomationEnvelope.multiply.Reads as multiply-reads
-use Rattle.envelope.proofs.AutomationEnvelope.normalize.Reads as normalize-reads
-use Rattle.envelope.proofs.AutomationEnvelope.offset.Reads as offset-reads
-use Rattle.envelope.proofs.AutomationEnvelope.pulse.Reads as pulse-reads
-use Rattle.envelope.proofs.AutomationEnvelope.quantize_time.Reads as quantize-time-reads
-use Rattle.envelope.proofs.AutomationEnvelope.ramp.Reads as ramp-reads
-use Rattle.envelope.proofs.AutomationEnvelope.remove_point_at.Reads as remove-point-at-reads
-use Rattle.envelope.proofs.AutomationEnvelope.reverse.Reads as reverse-reads
-use Rattle.envelope.proofs.AutomationEnvelope.scale.Reads as scale-reads
-use Rattle.envelope.proofs.AutomationEnvelope.scale_time.Reads as scale-time-reads
-use Rattle.envelope.proofs.AutomationEnvelope.set_enabled.Reads as set-enabled-reads
-use Rattle.envelope.proofs.AutomationEnvelope.set_max.Reads as set-max-reads
-use Rattle.envelope.proofs.AutomationEnvelope.set_min.Reads as set-min-reads
-use Rattle.envelope.proofs.AutomationEnvelope.set_step.Reads as set-step-reads
-use Rattle.envelope.proofs.AutomationEnvelope.shift_points.Reads as shift-points-reads
-use Rattle.envelope.proofs.AutomationEnvelope.simplify.Reads as simplify-reads
-use Rattle.envelope.proofs.AutomationEnvelope.subtract.Reads as subtract-reads
-use Rattle.envelope.proofs.AutomationEnvelope.trim.Reads as trim-reads
-use Rattle.numbers.proofs.convert.f64_to_f32.Reads as f64-to-f32-reads
 
 abbrev Inv-loop : tie.InvT-loop
 Inv-loop times values curve which x y turns out-times out-values e c xf yf p limit other answer₀ last₀ i₀ answer last i = (i ≤ turns)
@@ -173,7 +133,9 @@ subtract-requires : tie.Need-subtract-requires Inv-loop μ-loop
 subtract-requires c κs = tt
 
 add-i : tie.Need-add-i Inv-loop μ-loop
-add-i c = omega (arith, c .before .before .before .before .before .before .before .before .before .before .before .before .before .before .before .before .fits .turns .fits)
+add-i c =
+    let fits = c .before .before .before .before .before .before .before .before .before .before .before .before .before .before .before .before .fits in
+    omega (arith, fits .turns .fits)
 
 loop-less : tie.Need-loop-less Inv-loop μ-loop
 loop-less c = omega arith

@@ -42,7 +42,9 @@ loop-less : tie.Need-loop-less Inv-loop μ-loop
 loop-less c = omega arith
 
 loop-again : tie.Need-loop-again Inv-loop μ-loop
-loop-again c = (omega arith, simp length-set (c .before .before .loop .inv .1), simp length-set (c .before .before .loop .inv .2))
+loop-again c =
+    let loop = c .before .before .loop in
+    (omega arith, simp length-set (loop .inv .1), simp length-set (loop .inv .2))
 
 used-requires : tie.Need-used-requires Inv-loop μ-loop
 used-requires c κs = tt

@@ -6,7 +6,8 @@ use Rattle.bench_exports.proofs.ranges.rattle_find_peaks.Statement.{sta
 use Rattle.bench_exports.proofs.ranges.rattle_find_peaks.Tie as tie
 
 abbrev Inv-loop : tie.InvT-loop
-Inv-loop times values curve turns out-times₀ out-values₀ points limits sum₀ i₀ out-times out-values sum i = (i ≤ turns) × (length out-times ≡ length out-times₀) × (length out-values ≡ length out-values₀)
+Inv-loop times values curve turns out-times₀ out-values₀ points limits sum₀ i₀ out-times out-values sum i =
+    (i ≤ turns) × (length out-times ≡ length out-times₀) × (length out-values ≡ length out-values₀)
 
 abbrev μ-loop : tie.MeasureT-loop
 μ-loop times values curve turns out-times₀ out-values₀ points limits sum₀ i₀ out-times out-values sum i = turns - i
@@ -36,7 +37,10 @@ loop-less : tie.Need-loop-less Inv-loop μ-loop
 loop-less c = omega arith
 
 loop-again : tie.Need-loop-again Inv-loop μ-loop
-loop-again c = (omega arith, c .before .before .before .before .before .before .find-peaks .kept .1 .1 .0 ∙ c .before .before .before .before .before .before .before .before .before .before .loop .inv .1, c .before .before .before .before .before .before .find-peaks .kept .1 .1 .1 .0 ∙ c .before .before .before .before .before .before .before .before .before .before .loop .inv .2)
+loop-again c =
+    let loop = c .before .before .before .before .before .before .before .before .before .before .loop in
+    let find-peaks = c .before .before .before .before .before .before .find-peaks in
+    (omega arith, find-peaks .kept .1 .1 .0 ∙ loop .inv .1, find-peaks .kept .1 .1 .1 .0 ∙ loop .inv .2)
 
 same-length : tie.Need-same-length Inv-loop μ-loop
 same-length c = c .before .loop .inv .1

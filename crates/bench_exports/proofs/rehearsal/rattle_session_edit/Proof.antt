@@ -4,13 +4,6 @@ use lib.ListN.{length}
 use mathlib.Core.Path.{_≡_, refl, _∙_}
 use Rattle.bench_exports.proofs.rehearsal.rattle_session_edit.Statement.{statement}
 use Rattle.bench_exports.proofs.rehearsal.rattle_session_edit.Tie as tie
-use Rattle.bench_exports.proofs.rehearsal.rattle_session_edit.Reads as reads
-use Rattle.bench_exports.proofs.rehearsal.rattle_session_edit.Lts as lts
-use Rattle.bench_exports.proofs.made.made.Reads as made-reads
-use Rattle.bench_exports.proofs.rehearsal.shift.Reads as shift-reads
-use Rattle.bench_exports.proofs.rehearsal.started.Reads as started-reads
-use Rattle.bench_exports.proofs.rehearsal.turn.Reads as turn-reads
-use Rattle.session.proofs.Session.edit.Reads as edit-reads
 
 abbrev Inv-loop : tie.InvT-loop
 Inv-loop times values curve turns memory₀ s₀ i₀ memory s i = (i ≤ turns) × (length memory ≡ length memory₀)
@@ -46,7 +39,10 @@ loop-less : tie.Need-loop-less Inv-loop μ-loop
 loop-less c = omega arith
 
 loop-again : tie.Need-loop-again Inv-loop μ-loop
-loop-again c = (omega arith, c .before .before .before .edit .kept .1 .1 .0 ∙ c .before .before .before .before .before .before .before .before .loop .inv .1)
+loop-again c =
+    let loop = c .before .before .before .before .before .before .before .before .loop in
+    let edit = c .before .before .before .edit in
+    (omega arith, edit .kept .1 .1 .0 ∙ loop .inv .1)
 
 same-length : tie.Need-same-length Inv-loop μ-loop
 same-length c = c .before .loop .inv .1

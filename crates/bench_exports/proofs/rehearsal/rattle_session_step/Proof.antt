@@ -4,14 +4,6 @@ use lib.ListN.{length}
 use mathlib.Core.Path.{_≡_, refl, _∙_}
 use Rattle.bench_exports.proofs.rehearsal.rattle_session_step.Statement.{statement}
 use Rattle.bench_exports.proofs.rehearsal.rattle_session_step.Tie as tie
-use Rattle.bench_exports.proofs.rehearsal.rattle_session_step.Reads as reads
-use Rattle.bench_exports.proofs.rehearsal.rattle_session_step.Lts as lts
-use Rattle.bench_exports.proofs.made.made.Reads as made-reads
-use Rattle.bench_exports.proofs.rehearsal.shift.Reads as shift-reads
-use Rattle.bench_exports.proofs.rehearsal.started.Reads as started-reads
-use Rattle.session.proofs.Session.back.Reads as back-reads
-use Rattle.session.proofs.Session.edit.Reads as edit-reads
-use Rattle.session.proofs.Session.forward.Reads as forward-reads
 
 abbrev Inv-loop : tie.InvT-loop
 Inv-loop times values curve turns memory₀ s₀ i₀ memory s i = (i ≤ turns) × (length memory ≡ length memory₀)

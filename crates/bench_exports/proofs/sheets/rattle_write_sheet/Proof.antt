@@ -26,7 +26,9 @@ bytes-requires : tie.Need-bytes-requires Inv-loop μ-loop
 bytes-requires c κs = tt
 
 add-i : tie.Need-add-i Inv-loop μ-loop
-add-i c = omega (arith, c .before .before .before .before .before .before .before .before .before .before .before .fits .turns .fits)
+add-i c =
+    let fits = c .before .before .before .before .before .before .before .before .before .before .before .fits in
+    omega (arith, fits .turns .fits)
 
 loop-less : tie.Need-loop-less Inv-loop μ-loop
 loop-less c = omega arith

@@ -34,7 +34,10 @@ enum-told-5 : tie.Need-enum-told-5
 enum-told-5 c = search needs
 
 returns : tie.Need-returns
-returns c = rw (c .before .before .self .given .1) (ap (λ (k : Float). c .before .before .before .before .args .a *ᶠ (f1 -ᶠ k) +ᶠ c .before .before .before .before .args .b *ᶠ k) (c .clamp .ensures))
+returns c =
+    let args = c .before .before .before .before .args in
+    let self = c .before .before .self in
+    rw (self .given .1) (ap (λ (k : Float). args .a *ᶠ (f1 -ᶠ k) +ᶠ args .b *ᶠ k) (c .clamp .ensures))
 
 returns-2 : tie.Need-returns-2
 returns-2 c = rw (c .enum-told .given .1)

@@ -18,7 +18,12 @@ code-requires-2 c κs = search needs
 
 returns : tie.Need-returns
 unfolding sameCurve
-returns c = rw (c .before .before .before .before .before .before .before .controls .ensures, c .before .before .before .before .before .before .controls2 .ensures, c .before .before .before .before .before .code .ensures, c .before .before .before .before .code2 .ensures)
+returns c =
+    let controls = c .before .before .before .before .before .before .before .controls in
+    let controls2 = c .before .before .before .before .before .before .controls2 in
+    let code = c .before .before .before .before .before .code in
+    let code2 = c .before .before .before .before .code2 in
+    rw (controls .ensures, controls2 .ensures, code .ensures, code2 .ensures)
 
 pub eq-spec : {M : Type 1} → statement M
 eq-spec =

@@ -25,10 +25,12 @@ renew-requires c κs = search needs
 returns : tie.Need-returns
 unfolding combinedPoints joinOf
 returns c =
+    let side = c .before .before .before .side in
+    let side2 = c .before .before .side2 in
     let args = c .before .before .before .before .args in
     let e = args .self in
     let o = args .other in
-    let sides = c .before .combine .ensures ∙ (λ i. combinedPoints (args .operation) (c .before .before .before .side .ensures i) (c .before .before .side2 .ensures i)) in
+    let sides = c .before .combine .ensures ∙ (λ i. combinedPoints (args .operation) (side .ensures i) (side2 .ensures i)) in
     c .renew .ensures ∙ ap (renewed e) sides ∙ renewed-is e (joinProposal (Combine (args .operation)) e o) (validEnvelope e && validEnvelope o)
 
 pub combine-with-spec : {M : Type 1} → statement M

@@ -33,8 +33,10 @@ returns c =
 returns-2 : tie.Need-returns-2
 unfolding editOf
 returns-2 c =
+    let limits = c .before .before .before .limits in
+    let is-finite = c .before .before .is-finite in
     let args = c .before .before .before .before .args in
-    let l = sym (c .before .before .is-finite .ensures ∙ ap finiteLimits (c .before .before .before .limits .ensures)) ∙ c .before .if1 .left in
+    let l = sym (is-finite .ensures ∙ ap finiteLimits (limits .ensures)) ∙ c .before .if1 .left in
     ap toldEdit (c .refuse .ensures) ∙ limits-lost (args .self) (proposed (args .edit) (listOf (args .self .points))) _ l
 
 pub edit-points-spec : {M : Type 1} → statement M

@@ -1,15 +1,10 @@
 use mathlib.Core.Path.{sym, ap, _∙_}
 use Rattle.points.specs.Refusal.{gives}
-use Rattle.points.specs.Laws.{and-both}
+use Rattle.points.proofs.Laws.{and-both}
 use Rattle.envelope.specs.Envelope.{envelopesEqual}
 use borrow.Author.Needs.{needs}
 use Rattle.envelope.proofs.AutomationEnvelope.equal.Statement.{statement}
 use Rattle.envelope.proofs.AutomationEnvelope.equal.Tie as tie
-use Rattle.envelope.proofs.AutomationEnvelope.equal.Reads as reads
-use Rattle.envelope.proofs.AutomationEnvelope.equal.Lts as lts
-use Rattle.envelope.proofs.AutomationEnvelope.is_valid.Reads as is-valid-reads
-use Rattle.envelope.proofs.AutomationEnvelope.same_settings.Reads as same-settings-reads
-use Rattle.points.proofs.Points.same.Reads as same-reads
 
 is-valid-requires : tie.Need-is-valid-requires
 is-valid-requires c κs = search needs
@@ -25,11 +20,17 @@ same-requires c κs = search needs
 
 returns : tie.Need-returns
 unfolding envelopesEqual
-returns c = rw (sym (and-both (c .before .before .before .before .before .before .is-valid .ensures) (c .before .before .before .before .before .is-valid2 .ensures)) ∙ c .before .before .before .before .if1 .taken) (ap gives (and-both (c .before .same-settings .ensures) (c .same .ensures)))
+returns c =
+    let is-valid = c .before .before .before .before .before .before .is-valid in
+    let is-valid2 = c .before .before .before .before .before .is-valid2 in
+    let if1 = c .before .before .before .before .if1 in
+    rw (sym (and-both (is-valid .ensures) (is-valid2 .ensures)) ∙ if1 .taken) (ap gives (and-both (c .before .same-settings .ensures) (c .same .ensures)))
 
 returns-2 : tie.Need-returns-2
 unfolding envelopesEqual
-returns-2 c = rw (sym (and-both (c .before .before .is-valid .ensures) (c .before .is-valid2 .ensures)) ∙ c .if1 .left)
+returns-2 c =
+    let is-valid = c .before .before .is-valid in
+    rw (sym (and-both (is-valid .ensures) (c .before .is-valid2 .ensures)) ∙ c .if1 .left)
 
 pub equal-spec : {M : Type 1} → statement M
 equal-spec =

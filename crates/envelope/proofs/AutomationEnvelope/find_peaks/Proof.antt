@@ -17,7 +17,10 @@ same-length-2 : tie.Need-same-length-2
 same-length-2 c = search needs
 
 returns : tie.Need-returns
-returns c = rw (sym (c .before .before .before .before .before .before .before .limits .ensures)) (c .before .before .before .before .find-peaks .ensures)
+returns c =
+    let limits = c .before .before .before .before .before .before .before .limits in
+    let find-peaks = c .before .before .before .before .find-peaks in
+    rw (sym (limits .ensures)) (find-peaks .ensures)
 
 pub find-peaks-spec : {M : Type 1} → statement M
 find-peaks-spec =

@@ -2,10 +2,6 @@ use mathlib.Core.Path.{sym}
 use borrow.Author.Needs.{needs}
 use Rattle.envelope.proofs.AutomationEnvelope.get_value_at.Statement.{statement}
 use Rattle.envelope.proofs.AutomationEnvelope.get_value_at.Tie as tie
-use Rattle.envelope.proofs.AutomationEnvelope.get_value_at.Reads as reads
-use Rattle.envelope.proofs.AutomationEnvelope.get_value_at.Lts as lts
-use Rattle.envelope.proofs.AutomationEnvelope.limits.Reads as limits-reads
-use Rattle.lookup.proofs.time.get_value_at.Reads as get-value-at-reads
 
 limits-requires : tie.Need-limits-requires
 limits-requires c κs = search needs

@@ -2,10 +2,6 @@ use mathlib.Core.Path.{sym}
 use borrow.Author.Needs.{needs}
 use Rattle.envelope.proofs.AutomationEnvelope.get_value_at_sample.Statement.{statement}
 use Rattle.envelope.proofs.AutomationEnvelope.get_value_at_sample.Tie as tie
-use Rattle.envelope.proofs.AutomationEnvelope.get_value_at_sample.Reads as reads
-use Rattle.envelope.proofs.AutomationEnvelope.get_value_at_sample.Lts as lts
-use Rattle.envelope.proofs.AutomationEnvelope.limits.Reads as limits-reads
-use Rattle.lookup.proofs.sample.get_value_at_sample.Reads as get-value-at-sample-reads
 
 limits-requires : tie.Need-limits-requires
 limits-requires c κs = search needs

@@ -4,10 +4,6 @@ use Rattle.lookup.specs.declared.Limits.{Limits}
 use borrow.Author.Needs.{needs}
 use Rattle.envelope.proofs.AutomationEnvelope.is_valid.Statement.{statement}
 use Rattle.envelope.proofs.AutomationEnvelope.is_valid.Tie as tie
-use Rattle.envelope.proofs.AutomationEnvelope.is_valid.Reads as reads
-use Rattle.envelope.proofs.AutomationEnvelope.is_valid.Lts as lts
-use Rattle.envelope.proofs.AutomationEnvelope.limits.Reads as limits-reads
-use Rattle.lookup.proofs.is_valid.Reads as is-valid-reads
 
 limits-requires : tie.Need-limits-requires
 limits-requires c κs = search needs
@@ -16,7 +12,9 @@ is-valid-requires : tie.Need-is-valid-requires
 is-valid-requires c κs = search needs
 
 returns : tie.Need-returns
-returns c = c .is-valid .ensures ∙ ap (λ (l : Limits). valid (c .before .before .before .args .self .points) l) (c .before .limits .ensures)
+returns c =
+    let args = c .before .before .before .args in
+    c .is-valid .ensures ∙ ap (λ (l : Limits). valid (args .self .points) l) (c .before .limits .ensures)
 
 pub is-valid-spec : {M : Type 1} → statement M
 is-valid-spec = tie.close (tie.spec limits-requires is-valid-requires returns)

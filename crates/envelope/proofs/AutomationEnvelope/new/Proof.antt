@@ -2,9 +2,6 @@ use Rattle.envelope.specs.Envelope.{new}
 use borrow.Author.Needs.{needs}
 use Rattle.envelope.proofs.AutomationEnvelope.new.Statement.{statement}
 use Rattle.envelope.proofs.AutomationEnvelope.new.Tie as tie
-use Rattle.envelope.proofs.AutomationEnvelope.new.Reads as reads
-use Rattle.envelope.proofs.AutomationEnvelope.new.Lts as lts
-use Rattle.points.proofs.list.none.Reads as none-reads
 
 none-requires : tie.Need-none-requires
 none-requires c κs = search needs

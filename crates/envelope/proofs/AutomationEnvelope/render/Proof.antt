@@ -2,10 +2,6 @@ use mathlib.Core.Path.{sym}
 use borrow.Author.Needs.{needs}
 use Rattle.envelope.proofs.AutomationEnvelope.render.Statement.{statement}
 use Rattle.envelope.proofs.AutomationEnvelope.render.Tie as tie
-use Rattle.envelope.proofs.AutomationEnvelope.render.Reads as reads
-use Rattle.envelope.proofs.AutomationEnvelope.render.Lts as lts
-use Rattle.envelope.proofs.AutomationEnvelope.limits.Reads as limits-reads
-use Rattle.render.proofs.render.Reads as render-reads
 
 limits-requires : tie.Need-limits-requires
 limits-requires c κs = search needs

@@ -1,9 +1,6 @@
 use borrow.Author.Needs.{needs}
 use Rattle.envelope.proofs.AutomationEnvelope.same_settings.Statement.{statement}
 use Rattle.envelope.proofs.AutomationEnvelope.same_settings.Tie as tie
-use Rattle.envelope.proofs.AutomationEnvelope.same_settings.Reads as reads
-use Rattle.envelope.proofs.AutomationEnvelope.same_settings.Lts as lts
-use Rattle.envelope.proofs.same_limit.Reads as same-limit-reads
 
 same-limit-requires : tie.Need-same-limit-requires
 same-limit-requires c κs = search needs

@@ -22,19 +22,24 @@ refuse-requires-2 c κs = search needs
 
 returns : tie.Need-returns
 returns c =
+    let is-valid = c .before .before .before .is-valid in
+    let if1 = c .before .before .if1 in
     let args = c .before .before .before .before .args in
     ap {B = EditTold} (λ (e : AutomationEnvelope). record { said = gives tt; envelope = e }) (c .with-settings .ensures)
-    ∙ set-made (args .self) _ (args .ok) (sym (c .before .before .before .is-valid .ensures) ∙ c .before .before .if1 .taken) (c .before .if2 .taken)
+    ∙ set-made (args .self) _ (args .ok) (sym (is-valid .ensures) ∙ if1 .taken) (c .before .if2 .taken)
 
 returns-2 : tie.Need-returns-2
 returns-2 c =
+    let is-valid = c .before .before .before .is-valid in
+    let if1 = c .before .before .if1 in
     let args = c .before .before .before .before .args in
-    ap toldEdit (c .refuse .ensures) ∙ set-lost (args .self) _ (args .ok) (sym (c .before .before .before .is-valid .ensures) ∙ c .before .before .if1 .taken) (c .before .if2 .left)
+    ap toldEdit (c .refuse .ensures) ∙ set-lost (args .self) _ (args .ok) (sym (is-valid .ensures) ∙ if1 .taken) (c .before .if2 .left)
 
 returns-3 : tie.Need-returns-3
 returns-3 c =
+    let is-valid = c .before .before .is-valid in
     let args = c .before .before .before .args in
-    ap toldEdit (c .refuse2 .ensures) ∙ set-invalid (args .self) _ (args .ok) (sym (c .before .before .is-valid .ensures) ∙ c .before .if1 .left)
+    ap toldEdit (c .refuse2 .ensures) ∙ set-invalid (args .self) _ (args .ok) (sym (is-valid .ensures) ∙ c .before .if1 .left)
 
 pub set-spec : {M : Type 1} → statement M
 set-spec =

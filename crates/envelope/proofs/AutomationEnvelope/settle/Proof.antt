@@ -23,13 +23,19 @@ refuse-requires c κs = search needs
 returns : tie.Need-returns
 unfolding edited
 returns c =
-    let f = sym (c .before .before .before .is-finite .ensures ∙ ap (λ (l : Limits). finiteLimits l) (c .before .before .before .before .limits .ensures)) ∙ c .before .before .if1 .taken in
-    rw f (ap {B = EditTold} (λ (e : AutomationEnvelope). record { said = said (c .before .before .before .before .before .args .r .answer); envelope = e }) (c .with-points .ensures))
+    let args = c .before .before .before .before .before .args in
+    let limits = c .before .before .before .before .limits in
+    let is-finite = c .before .before .before .is-finite in
+    let if1 = c .before .before .if1 in
+    let f = sym (is-finite .ensures ∙ ap (λ (l : Limits). finiteLimits l) (limits .ensures)) ∙ if1 .taken in
+    rw f (ap {B = EditTold} (λ (e : AutomationEnvelope). record { said = said (args .r .answer); envelope = e }) (c .with-points .ensures))
 
 returns-2 : tie.Need-returns-2
 unfolding edited
 returns-2 c =
-    let f = sym (c .before .before .is-finite .ensures ∙ ap (λ (l : Limits). finiteLimits l) (c .before .before .before .limits .ensures)) ∙ c .before .if1 .left in
+    let limits = c .before .before .before .limits in
+    let is-finite = c .before .before .is-finite in
+    let f = sym (is-finite .ensures ∙ ap (λ (l : Limits). finiteLimits l) (limits .ensures)) ∙ c .before .if1 .left in
     rw f (ap toldEdit (c .refuse .ensures))
 
 pub settle-spec : {M : Type 1} → statement M

@@ -10,7 +10,9 @@ limits-requires : tie.Need-limits-requires
 limits-requires c κs = search needs
 
 returns : tie.Need-returns
-returns c = ap {B = Side} (λ (l : Limits). record { points = c .before .before .args .self .points; enabled = c .before .before .args .self .enabled; limits = l }) (c .limits .ensures)
+returns c =
+    let args = c .before .before .args in
+    ap {B = Side} (λ (l : Limits). record { points = args .self .points; enabled = args .self .enabled; limits = l }) (c .limits .ensures)
 
 pub side-spec : {M : Type 1} → statement M
 side-spec = tie.close (tie.spec limits-requires returns)

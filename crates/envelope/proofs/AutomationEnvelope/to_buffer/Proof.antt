@@ -2,10 +2,6 @@ use mathlib.Core.Path.{sym}
 use borrow.Author.Needs.{needs}
 use Rattle.envelope.proofs.AutomationEnvelope.to_buffer.Statement.{statement}
 use Rattle.envelope.proofs.AutomationEnvelope.to_buffer.Tie as tie
-use Rattle.envelope.proofs.AutomationEnvelope.to_buffer.Reads as reads
-use Rattle.envelope.proofs.AutomationEnvelope.to_buffer.Lts as lts
-use Rattle.envelope.proofs.AutomationEnvelope.limits.Reads as limits-reads
-use Rattle.render.proofs.to_buffer.Reads as to-buffer-reads
 
 limits-requires : tie.Need-limits-requires
 limits-requires c κs = search needs

@@ -3,8 +3,6 @@ use Rattle.fields.proofs.Fields.{next-in, next-out}
 use borrow.Author.Needs.{needs}
 use Rattle.fields.proofs.bytes.next_is.Statement.{statement}
 use Rattle.fields.proofs.bytes.next_is.Tie as tie
-use Rattle.fields.proofs.bytes.next_is.Reads as reads
-use Rattle.fields.proofs.bytes.next_is.Lts as lts
 
 shared-slice-read-result : tie.Need-shared-slice-read-result
 shared-slice-read-result c = search needs

@@ -7,8 +7,6 @@ use Rattle.fields.specs.Form.{startsWith}
 use Rattle.fields.proofs.Starts.{starts-with-short, starts-with-step, starts-with-stop, starts-with-end}
 use Rattle.fields.proofs.bytes.starts_with.Statement.{statement}
 use Rattle.fields.proofs.bytes.starts_with.Tie as tie
-use Rattle.fields.proofs.bytes.starts_with.Reads as reads
-use Rattle.fields.proofs.bytes.starts_with.Lts as lts
 
 abbrev Inv-loop : tie.InvT-loop
 Inv-loop s at w i₀ i = (i ≤ length w) × (at + length w ≤ length s) × (startsWith w (drop at s) ≡ startsWith (drop i w) (drop (at + i) s))
@@ -41,7 +39,10 @@ shared-slice-read-if4-2 : tie.Need-shared-slice-read-if4-2 Inv-loop μ-loop
 shared-slice-read-if4-2 c = omega arith
 
 returns-4 : tie.Need-returns-4 Inv-loop μ-loop
-returns-4 c = sym (c .before .before .before .before .loop .inv .2 ∙ starts-with-stop (c .before .before .before .before .before .before .before .before .args .w .now) (c .before .before .before .before .before .before .before .before .args .s .now) (c .before .before .before .before .before .before .before .before .args .at) (c .before .before .before .before .loop .i) (omega arith) (omega arith) (c .if4 .taken))
+returns-4 c =
+    let args = c .before .before .before .before .before .before .before .before .args in
+    let loop = c .before .before .before .before .loop in
+    sym (loop .inv .2 ∙ starts-with-stop (args .w .now) (args .s .now) (args .at) (loop .i) (omega arith) (omega arith) (c .if4 .taken))
 
 add-i : tie.Need-add-i Inv-loop μ-loop
 add-i c = omega arith
@@ -50,10 +51,15 @@ loop-less : tie.Need-loop-less Inv-loop μ-loop
 loop-less c = omega arith
 
 loop-again : tie.Need-loop-again Inv-loop μ-loop
-loop-again c = (omega arith, omega arith, c .before .before .before .before .loop .inv .2 ∙ starts-with-step (c .before .before .before .before .before .before .before .before .args .w .now) (c .before .before .before .before .before .before .before .before .args .s .now) (c .before .before .before .before .before .before .before .before .args .at) (c .before .before .before .before .loop .i) (omega arith) (omega arith) (c .if4 .left))
+loop-again c =
+    let args = c .before .before .before .before .before .before .before .before .args in
+    let loop = c .before .before .before .before .loop in
+    (omega arith, omega arith, loop .inv .2 ∙ starts-with-step (args .w .now) (args .s .now) (args .at) (loop .i) (omega arith) (omega arith) (c .if4 .left))
 
 returns-5 : tie.Need-returns-5 Inv-loop μ-loop
-returns-5 c = sym (c .before .loop .inv .2 ∙ starts-with-end (c .before .before .before .before .before .args .w .now) _ (c .before .loop .i) (omega arith))
+returns-5 c =
+    let args = c .before .before .before .before .before .args in
+    sym (c .before .loop .inv .2 ∙ starts-with-end (args .w .now) _ (c .before .loop .i) (omega arith))
 
 pub starts-with-spec : {M : Type 1} → statement M
 starts-with-spec =

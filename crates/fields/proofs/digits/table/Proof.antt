@@ -2,8 +2,6 @@ use mathlib.Core.Path.{refl}
 use Rattle.fields.proofs.ReadDigits.{rule}
 use Rattle.fields.proofs.digits.table.Statement.{statement}
 use Rattle.fields.proofs.digits.table.Tie as tie
-use Rattle.fields.proofs.digits.table.Reads as reads
-use Rattle.fields.proofs.digits.table.Lts as lts
 
 returns : tie.Need-returns
 returns c = rule _ tt refl

@@ -3,8 +3,6 @@ use Rattle.fields.specs.Text.{digitByte}
 use borrow.Author.Needs.{needs}
 use Rattle.fields.proofs.write.digit_byte.Statement.{statement}
 use Rattle.fields.proofs.write.digit_byte.Tie as tie
-use Rattle.fields.proofs.write.digit_byte.Reads as reads
-use Rattle.fields.proofs.write.digit_byte.Lts as lts
 
 add-result : tie.Need-add-result
 add-result c = search needs

@@ -1,10 +1,6 @@
 use borrow.Author.Needs.{needs}
 use Rattle.fields.proofs.write.fit_decimal.Statement.{statement}
 use Rattle.fields.proofs.write.fit_decimal.Tie as tie
-use Rattle.fields.proofs.write.fit_decimal.Reads as reads
-use Rattle.fields.proofs.write.fit_decimal.Lts as lts
-use Rattle.fields.proofs.write.fit_number.Reads as fit-number-reads
-use Rattle.fields.proofs.write.places_of.Reads as places-of-reads
 
 places-of-requires : tie.Need-places-of-requires
 places-of-requires c κs = search needs

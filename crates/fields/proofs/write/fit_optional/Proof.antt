@@ -6,10 +6,6 @@ use Rattle.fields.proofs.Stores.{some-is, none-is}
 use borrow.Author.Needs.{needs}
 use Rattle.fields.proofs.write.fit_optional.Statement.{statement}
 use Rattle.fields.proofs.write.fit_optional.Tie as tie
-use Rattle.fields.proofs.write.fit_optional.Reads as reads
-use Rattle.fields.proofs.write.fit_optional.Lts as lts
-use Rattle.fields.proofs.write.fit_hex.Reads as fit-hex-reads
-use Rattle.fields.proofs.write.fit_text.Reads as fit-text-reads
 
 enum-known-p : tie.Need-enum-known-p
 enum-known-p c = search needs
@@ -30,13 +26,21 @@ same-length : tie.Need-same-length
 same-length c = search needs
 
 returns : tie.Need-returns
-returns c = subst (λ (l : List ℕ). Fitted (c .before .before .before .before .before .before .before .before .args .out .now) (c .before .before .before .before .before .before .before .before .args .at) l (c .before .before .fit-hex .last .0) (c .before .before .fit-hex .result)) (some-is (c .before .before .before .before .before .before .before .before .args .width) (c .before .before .before .before .before .before .before .before .args .end) _ (c .before .before .before .before .before .p .given .1)) (c .before .before .fit-hex .ensures)
+returns c =
+    let args = c .before .before .before .before .before .before .before .before .args in
+    let p = c .before .before .before .before .before .p in
+    let fit-hex = c .before .before .fit-hex in
+    subst (λ (l : List ℕ). Fitted (args .out .now) (args .at) l (fit-hex .last .0) (fit-hex .result)) (some-is (args .width) (args .end) _ (p .given .1)) (fit-hex .ensures)
 
 same-length-2 : tie.Need-same-length-2
 same-length-2 c = search needs
 
 returns-2 : tie.Need-returns-2
-returns-2 c = subst (λ (l : List ℕ). Fitted (c .before .before .before .before .before .before .before .before .args .out .now) (c .before .before .before .before .before .before .before .before .args .at) l (c .before .before .fit-text .last .0) (c .before .before .fit-text .result)) (none-is (c .before .before .before .before .before .before .before .before .args .width) (c .before .before .before .before .before .before .before .before .args .end) (c .before .before .before .before .before .enum-told .given .1)) (c .before .before .fit-text .ensures)
+returns-2 c =
+    let args = c .before .before .before .before .before .before .before .before .args in
+    let enum-told = c .before .before .before .before .before .enum-told in
+    let fit-text = c .before .before .fit-text in
+    subst (λ (l : List ℕ). Fitted (args .out .now) (args .at) l (fit-text .last .0) (fit-text .result)) (none-is (args .width) (args .end) (enum-told .given .1)) (fit-text .ensures)
 
 pub fit-optional-spec : {M : Type 1} → statement M
 fit-optional-spec =

@@ -2,8 +2,6 @@ use native.Mathlib.Omega.{arith}
 use Rattle.fields.proofs.Places.{Counting, counting, again, counted, counts}
 use Rattle.fields.proofs.write.places_of.Statement.{statement}
 use Rattle.fields.proofs.write.places_of.Tie as tie
-use Rattle.fields.proofs.write.places_of.Reads as reads
-use Rattle.fields.proofs.write.places_of.Lts as lts
 
 abbrev Inv-loop : tie.InvT-loop
 Inv-loop v left₀ places₀ left places = Counting v left places

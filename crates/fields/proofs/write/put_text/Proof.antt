@@ -7,8 +7,6 @@ use lib.Seq.{sets}
 use Rattle.fields.proofs.Stores.{text-step, text-end}
 use Rattle.fields.proofs.write.put_text.Statement.{statement}
 use Rattle.fields.proofs.write.put_text.Tie as tie
-use Rattle.fields.proofs.write.put_text.Reads as reads
-use Rattle.fields.proofs.write.put_text.Lts as lts
 
 abbrev Inv-loop : tie.InvT-loop
 Inv-loop out₀ at w i₀ out i = (i ≤ length w) × (length out ≡ length out₀) × (sets out₀ at w ≡ sets out (at + i) (drop i w))
@@ -35,7 +33,13 @@ loop-less : tie.Need-loop-less Inv-loop μ-loop
 loop-less c = omega arith
 
 loop-again : tie.Need-loop-again Inv-loop μ-loop
-loop-again c = (omega arith, length-set (c .before .before .loop .out) (c .before .before .before .args .at + c .before .before .loop .i) (getD (c .before .before .before .args .w .now) (c .before .before .loop .i) 0) ∙ c .before .before .loop .inv .1, c .before .before .loop .inv .2 ∙ text-step (c .before .before .loop .out) (c .before .before .before .args .w .now) (c .before .before .before .args .at) (c .before .before .loop .i) (omega arith))
+loop-again c =
+    let args = c .before .before .before .args in
+    let loop = c .before .before .loop in (
+      omega arith,
+      length-set (loop .out) (args .at + loop .i) (getD (args .w .now) (loop .i) 0) ∙ loop .inv .1,
+      loop .inv .2 ∙ text-step (loop .out) (args .w .now) (args .at) (loop .i) (omega arith),
+    )
 
 add-result : tie.Need-add-result Inv-loop μ-loop
 add-result c = omega arith
@@ -44,7 +48,9 @@ same-length : tie.Need-same-length Inv-loop μ-loop
 same-length c = c .before .loop .inv .1
 
 returns : tie.Need-returns Inv-loop μ-loop
-returns c = record { next = refl; bytes = sym (c .before .loop .inv .2 ∙ text-end (c .before .loop .out) (c .before .before .args .w .now) (c .before .before .args .at) (c .before .loop .i) (omega arith)) }
+returns c =
+    let args = c .before .before .args in
+    record { next = refl; bytes = sym (c .before .loop .inv .2 ∙ text-end (c .before .loop .out) (args .w .now) (args .at) (c .before .loop .i) (omega arith)) }
 
 pub put-text-spec : {M : Type 1} → statement M
 put-text-spec =

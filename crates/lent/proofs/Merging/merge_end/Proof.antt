@@ -4,10 +4,6 @@ use Rattle.lent.proofs.Folds.{end-good}
 use borrow.Author.Needs.{needs}
 use Rattle.lent.proofs.Merging.merge_end.Statement.{statement}
 use Rattle.lent.proofs.Merging.merge_end.Tie as tie
-use Rattle.lent.proofs.Merging.merge_end.Reads as reads
-use Rattle.lent.proofs.Merging.merge_end.Lts as lts
-use Rattle.envelope.proofs.AutomationEnvelope.merge.Reads as merge-reads
-use Rattle.envelope.proofs.AutomationEnvelope.new.Reads as new-reads
 
 new-requires : tie.Need-new-requires
 new-requires c κs = search needs

@@ -2,11 +2,6 @@ use Rattle.lent.specs.Merge.{mergeStep}
 use borrow.Author.Needs.{needs}
 use Rattle.lent.proofs.Merging.merge_step.Statement.{statement}
 use Rattle.lent.proofs.Merging.merge_step.Tie as tie
-use Rattle.lent.proofs.Merging.merge_step.Reads as reads
-use Rattle.lent.proofs.Merging.merge_step.Lts as lts
-use Rattle.insert.proofs.add_point.Reads as add-point-reads
-use Rattle.lent.proofs.is_accepted.Reads as is-accepted-reads
-use Rattle.numbers.proofs.order.order_key.Reads as order-key-reads
 
 order-key-requires : tie.Need-order-key-requires
 order-key-requires c κs = search needs

@@ -6,9 +6,6 @@ use Rattle.lines.proofs.Ends.{reached}
 use borrow.Author.Needs.{needs}
 use Rattle.lines.proofs.block.block_form.Statement.{statement}
 use Rattle.lines.proofs.block.block_form.Tie as tie
-use Rattle.lines.proofs.block.block_form.Reads as reads
-use Rattle.lines.proofs.block.block_form.Lts as lts
-use Rattle.lines.proofs.field.number_at.Reads as number-at-reads
 
 number-at-requires : tie.Need-number-at-requires
 number-at-requires c κs = search needs
@@ -34,11 +31,21 @@ enum-told-2 c = search needs
 
 returns-2 : tie.Need-returns-2
 unfolding blockForm toldNumber toldBlockForm blockFormEnd
-returns-2 c = (rw (told (toldNumber _) (c .before .before .before .before .before .before .number-at .ensures .0) (c .before .before .before .before .rate .given .1), told (toldNumber _) (c .before .before .number-at2 .ensures .0) (c .enum-told2 .given .1)), omega arith)
+returns-2 c =
+    let number-at = c .before .before .before .before .before .before .number-at in
+    let rate = c .before .before .before .before .rate in
+    let number-at2 = c .before .before .number-at2 in
+    (rw (told (toldNumber _) (number-at .ensures .0) (rate .given .1), told (toldNumber _) (number-at2 .ensures .0) (c .enum-told2 .given .1)), omega arith)
 
 returns-3 : tie.Need-returns-3
 unfolding blockForm toldNumber toldBlockForm numberEnd blockFormEnd
-returns-3 c = (rw (told (toldNumber _) (c .before .before .before .before .before .before .before .number-at .ensures .0) (c .before .before .before .before .before .rate .given .1), told (toldNumber _) (c .before .before .before .number-at2 .ensures .0) (c .before .duration .given .1)), reached numberEnd (c .before .before .before .number-at2 .ensures .1) (c .before .duration .given .1))
+returns-3 c =
+    let number-at = c .before .before .before .before .before .before .before .number-at in
+    let rate = c .before .before .before .before .before .rate in
+    let number-at2 = c .before .before .before .number-at2 in (
+      rw (told (toldNumber _) (number-at .ensures .0) (rate .given .1), told (toldNumber _) (number-at2 .ensures .0) (c .before .duration .given .1)),
+      reached numberEnd (number-at2 .ensures .1) (c .before .duration .given .1),
+    )
 
 pub block-form-spec : {M : Type 1} → statement M
 block-form-spec =

@@ -6,11 +6,6 @@ use Rattle.lines.proofs.Ends.{reached}
 use borrow.Author.Needs.{needs}
 use Rattle.lines.proofs.block.block_line.Statement.{statement}
 use Rattle.lines.proofs.block.block_line.Tie as tie
-use Rattle.lines.proofs.block.block_line.Reads as reads
-use Rattle.lines.proofs.block.block_line.Lts as lts
-use Rattle.fields.proofs.digits.table.Reads as table-reads
-use Rattle.lines.proofs.block.block_form.Reads as block-form-reads
-use Rattle.lines.proofs.block.block_of.Reads as block-of-reads
 
 table-requires : tie.Need-table-requires
 table-requires c κs = search needs
@@ -26,7 +21,9 @@ enum-told c = search needs
 
 returns : tie.Need-returns
 unfolding blockLine toldBlockForm toldBlockLine blockEnd
-returns c = (rw (told (toldBlockForm _) (c .before .before .block-form .ensures .0) (c .enum-told .given .1)), omega arith)
+returns c =
+    let block-form = c .before .before .block-form in
+    (rw (told (toldBlockForm _) (block-form .ensures .0) (c .enum-told .given .1)), omega arith)
 
 block-of-requires : tie.Need-block-of-requires
 block-of-requires c κs = search needs
@@ -39,11 +36,19 @@ enum-known-b c = search needs
 
 returns-2 : tie.Need-returns-2
 unfolding blockLine toldBlockForm toldBlock toldBlockLine blockEnd
-returns-2 c = (rw (told (toldBlockForm _) (c .before .before .before .before .before .before .before .block-form .ensures .0) (c .before .before .before .before .before .raw .given .1), told toldBlock (c .before .before .before .block-of .ensures) (c .before .r .given .1)), omega arith)
+returns-2 c =
+    let block-form = c .before .before .before .before .before .before .before .block-form in
+    let raw = c .before .before .before .before .before .raw in
+    let block-of = c .before .before .before .block-of in
+    (rw (told (toldBlockForm _) (block-form .ensures .0) (raw .given .1), told toldBlock (block-of .ensures) (c .before .r .given .1)), omega arith)
 
 returns-3 : tie.Need-returns-3
 unfolding blockLine toldBlockForm toldBlock toldBlockLine blockFormEnd blockEnd
-returns-3 c = (rw (told (toldBlockForm _) (c .before .before .before .before .before .before .before .block-form .ensures .0) (c .before .before .before .before .before .raw .given .1), told toldBlock (c .before .before .before .block-of .ensures) (c .before .b .given .1)), reached blockFormEnd (c .before .before .before .before .before .before .before .block-form .ensures .1) (c .before .before .before .before .before .raw .given .1))
+returns-3 c =
+    let block-form = c .before .before .before .before .before .before .before .block-form in
+    let raw = c .before .before .before .before .before .raw in
+    let block-of = c .before .before .before .block-of in
+    (rw (told (toldBlockForm _) (block-form .ensures .0) (raw .given .1), told toldBlock (block-of .ensures) (c .before .b .given .1)), reached blockFormEnd (block-form .ensures .1) (raw .given .1))
 
 pub block-line-spec : {M : Type 1} → statement M
 block-line-spec =

@@ -20,17 +20,31 @@ finite-bits-requires-2 c κs = search needs
 
 returns-2 : tie.Need-returns-2
 unfolding blockMeaning toldBlock
-returns-2 c = rw (sym (c .before .before .before .finite-bits .ensures) ∙ not-false _ (c .before .before .if1 .left), sym (c .before .finite-bits2 .ensures) ∙ not-true _ (c .if2 .taken))
+returns-2 c =
+    let finite-bits = c .before .before .before .finite-bits in
+    let if1 = c .before .before .if1 in
+    rw (sym (finite-bits .ensures) ∙ not-false _ (if1 .left), sym (c .before .finite-bits2 .ensures) ∙ not-true _ (c .if2 .taken))
 
 float-from-bits-t6 : tie.Need-float-from-bits-t6
-float-from-bits-t6 c = finite-no-nan binary64 _ (sym (c .before .before .before .before .finite-bits .ensures) ∙ not-false _ (c .before .before .before .if1 .left))
+float-from-bits-t6 c =
+    let finite-bits = c .before .before .before .before .finite-bits in
+    let if1 = c .before .before .before .if1 in
+    finite-no-nan binary64 _ (sym (finite-bits .ensures) ∙ not-false _ (if1 .left))
 
 float-from-bits-t7 : tie.Need-float-from-bits-t7
-float-from-bits-t7 c = finite-no-nan binary64 _ (sym (c .before .before .before .finite-bits2 .ensures) ∙ not-false _ (c .before .before .if2 .left))
+float-from-bits-t7 c =
+    let finite-bits2 = c .before .before .before .finite-bits2 in
+    let if2 = c .before .before .if2 in
+    finite-no-nan binary64 _ (sym (finite-bits2 .ensures) ∙ not-false _ (if2 .left))
 
 returns-3 : tie.Need-returns-3
 unfolding blockMeaning toldBlock
-returns-3 c = rw (sym (c .before .before .before .before .before .finite-bits .ensures) ∙ not-false _ (c .before .before .before .before .if1 .left), sym (c .before .before .before .finite-bits2 .ensures) ∙ not-false _ (c .before .before .if2 .left))
+returns-3 c =
+    let finite-bits = c .before .before .before .before .before .finite-bits in
+    let if1 = c .before .before .before .before .if1 in
+    let finite-bits2 = c .before .before .before .finite-bits2 in
+    let if2 = c .before .before .if2 in
+    rw (sym (finite-bits .ensures) ∙ not-false _ (if1 .left), sym (finite-bits2 .ensures) ∙ not-false _ (if2 .left))
 
 pub block-of-spec : {M : Type 1} → statement M
 block-of-spec =

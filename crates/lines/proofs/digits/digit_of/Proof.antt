@@ -3,8 +3,6 @@ use Rattle.fields.proofs.ReadDigits.{entry, entry-le}
 use borrow.Author.Needs.{needs}
 use Rattle.lines.proofs.digits.digit_of.Statement.{statement}
 use Rattle.lines.proofs.digits.digit_of.Tie as tie
-use Rattle.lines.proofs.digits.digit_of.Reads as reads
-use Rattle.lines.proofs.digits.digit_of.Lts as lts
 
 element-copy-out-result : tie.Need-element-copy-out-result
 element-copy-out-result c = search needs

@@ -8,9 +8,6 @@ use Rattle.lines.specs.Told.{toldNumber}
 use Rattle.fields.proofs.ReadDigits.{digits-short, digits-step, digits-stop, horner, horner-fits}
 use Rattle.lines.proofs.digits.digits_at.Statement.{statement}
 use Rattle.lines.proofs.digits.digits_at.Tie as tie
-use Rattle.lines.proofs.digits.digits_at.Reads as reads
-use Rattle.lines.proofs.digits.digits_at.Lts as lts
-use Rattle.lines.proofs.digits.digit_of.Reads as digit-of-reads
 
 abbrev Inv-loop : tie.InvT-loop
 Inv-loop t s at base width v₀ i₀ v i = (i ≤ width) × (v < base ^ i) × (readDigits base width 0 (drop at s) ≡ readDigits base (width - i) v (drop (at + i) s))
@@ -43,13 +40,23 @@ digit-of-requires c κs = c .before .before .before .before .before .before .pre
 
 returns-3 : tie.Need-returns-3 Inv-loop μ-loop
 unfolding toldNumber
-returns-3 c = sym (c .before .before .before .before .loop .inv .2 ∙ digits-stop _ _ _ _ _ _ (omega arith) (omega arith) _ (c .before .digit-of .ensures) (omega arith))
+returns-3 c =
+    let loop = c .before .before .before .before .loop in
+    sym (loop .inv .2 ∙ digits-stop _ _ _ _ _ _ (omega arith) (omega arith) _ (c .before .digit-of .ensures) (omega arith))
 
 mul-v : tie.Need-mul-v Inv-loop μ-loop
-mul-v c = omega (arith, horner-fits (c .before .before .before .before .before .before .before .before .args .base) (c .before .before .before .before .loop .i) (c .before .before .before .before .before .before .before .before .args .width) (c .before .before .before .before .loop .v) (c .before .digit-of .result) (c .before .before .before .before .loop .inv .1) (omega arith) (omega arith) (c .before .before .before .before .before .before .before .before .pre .1 .1))
+mul-v c =
+    let args = c .before .before .before .before .before .before .before .before .args in
+    let pre = c .before .before .before .before .before .before .before .before .pre in
+    let loop = c .before .before .before .before .loop in
+    omega (arith, horner-fits (args .base) (loop .i) (args .width) (loop .v) (c .before .digit-of .result) (loop .inv .1) (omega arith) (omega arith) (pre .1 .1))
 
 add-v : tie.Need-add-v Inv-loop μ-loop
-add-v c = omega (arith, horner-fits (c .before .before .before .before .before .before .before .before .args .base) (c .before .before .before .before .loop .i) (c .before .before .before .before .before .before .before .before .args .width) (c .before .before .before .before .loop .v) (c .before .digit-of .result) (c .before .before .before .before .loop .inv .1) (omega arith) (omega arith) (c .before .before .before .before .before .before .before .before .pre .1 .1))
+add-v c =
+    let args = c .before .before .before .before .before .before .before .before .args in
+    let pre = c .before .before .before .before .before .before .before .before .pre in
+    let loop = c .before .before .before .before .loop in
+    omega (arith, horner-fits (args .base) (loop .i) (args .width) (loop .v) (c .before .digit-of .result) (loop .inv .1) (omega arith) (omega arith) (pre .1 .1))
 
 add-i : tie.Need-add-i Inv-loop μ-loop
 add-i c = omega arith
@@ -58,15 +65,19 @@ loop-less : tie.Need-loop-less Inv-loop μ-loop
 loop-less c = omega arith
 
 loop-again : tie.Need-loop-again Inv-loop μ-loop
-loop-again c = (omega arith, horner _ _ _ _ (c .before .before .before .before .loop .inv .1) (omega arith), c .before .before .before .before .loop .inv .2 ∙ digits-step _ _ _ _ _ _ (omega arith) (omega arith) _ (c .before .digit-of .ensures) (omega arith))
+loop-again c =
+    let loop = c .before .before .before .before .loop in
+    (omega arith, horner _ _ _ _ (loop .inv .1) (omega arith), loop .inv .2 ∙ digits-step _ _ _ _ _ _ (omega arith) (omega arith) _ (c .before .digit-of .ensures) (omega arith))
 
 add-t9 : tie.Need-add-t9 Inv-loop μ-loop
 add-t9 c = omega arith
 
 returns-4 : tie.Need-returns-4 Inv-loop μ-loop
 unfolding toldNumber readDigits
-returns-4 c = let e : c .before .loop .i ≡ c .before .before .before .before .before .args .width = omega arith in
-    sym (c .before .loop .inv .2 ∙ ap (λ (k : ℕ). readDigits (c .before .before .before .before .before .args .base) (c .before .before .before .before .before .args .width - k) (c .before .loop .v) (drop (c .before .before .before .before .before .args .at + k) (c .before .before .before .before .before .args .s .now))) e ∙ rw sub-self)
+returns-4 c =
+    let args = c .before .before .before .before .before .args in
+    let e : c .before .loop .i ≡ args .width = omega arith in
+    sym (c .before .loop .inv .2 ∙ ap (λ (k : ℕ). readDigits (args .base) (args .width - k) (c .before .loop .v) (drop (args .at + k) (args .s .now))) e ∙ rw sub-self)
 
 pub digits-at-spec : {M : Type 1} → statement M
 digits-at-spec =

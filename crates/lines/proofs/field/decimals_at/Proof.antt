@@ -7,9 +7,6 @@ use Rattle.lines.specs.Told.{toldNumber}
 use Rattle.fields.proofs.Decimal.{decimals-end, decimals-stop, decimals-over, decimals-step}
 use Rattle.lines.proofs.field.decimals_at.Statement.{statement}
 use Rattle.lines.proofs.field.decimals_at.Tie as tie
-use Rattle.lines.proofs.field.decimals_at.Reads as reads
-use Rattle.lines.proofs.field.decimals_at.Lts as lts
-use Rattle.lines.proofs.digits.digit_of.Reads as digit-of-reads
 
 abbrev Inv-loop : tie.InvT-loop
 Inv-loop t s start v₀ at₀ v at = (v < 0x1_0000_0000) × (decimals 0 (drop start s) ≡ decimals v (drop at s))
@@ -34,7 +31,12 @@ add-u c = omega arith
 
 returns : tie.Need-returns Inv-loop μ-loop
 unfolding toldNumber
-returns c = decimals-over (c .before .before .before .before .before .loop .v) (c .before .before .before .before .before .before .before .args .s .now) (c .before .before .before .before .before .loop .at) (c .before .before .digit-of .result) (c .before .before .before .before .loop-test .taken) (c .before .before .digit-of .ensures) (omega arith) (omega arith) ∙ sym (c .before .before .before .before .before .loop .inv .1)
+returns c =
+    let args = c .before .before .before .before .before .before .before .args in
+    let loop = c .before .before .before .before .before .loop in
+    let loop-test = c .before .before .before .before .loop-test in
+    let digit-of = c .before .before .digit-of in
+    decimals-over (loop .v) (args .s .now) (loop .at) (digit-of .result) (loop-test .taken) (digit-of .ensures) (omega arith) (omega arith) ∙ sym (loop .inv .1)
 
 add-at : tie.Need-add-at Inv-loop μ-loop
 add-at c = omega arith
@@ -43,15 +45,26 @@ loop-less : tie.Need-loop-less Inv-loop μ-loop
 loop-less c = omega arith
 
 loop-again : tie.Need-loop-again Inv-loop μ-loop
-loop-again c = (omega arith, c .before .before .before .before .before .loop .inv .1 ∙ decimals-step (c .before .before .before .before .before .loop .v) (c .before .before .before .before .before .before .before .args .s .now) (c .before .before .before .before .before .loop .at) (c .before .before .digit-of .result) (c .before .before .before .before .loop-test .taken) (c .before .before .digit-of .ensures) (omega arith) (omega arith))
+loop-again c =
+    let args = c .before .before .before .before .before .before .before .args in
+    let loop = c .before .before .before .before .before .loop in
+    let loop-test = c .before .before .before .before .loop-test in
+    let digit-of = c .before .before .digit-of in
+    (omega arith, loop .inv .1 ∙ decimals-step (loop .v) (args .s .now) (loop .at) (digit-of .result) (loop-test .taken) (digit-of .ensures) (omega arith) (omega arith))
 
 returns-2 : tie.Need-returns-2 Inv-loop μ-loop
 unfolding toldNumber
-returns-2 c = decimals-end (c .before .loop .v) (c .before .before .before .args .s .now) (c .before .loop .at) (c .loop-test .left) ∙ sym (c .before .loop .inv .1)
+returns-2 c =
+    let args = c .before .before .before .args in
+    decimals-end (c .before .loop .v) (args .s .now) (c .before .loop .at) (c .loop-test .left) ∙ sym (c .before .loop .inv .1)
 
 returns-3 : tie.Need-returns-3 Inv-loop μ-loop
 unfolding toldNumber
-returns-3 c = decimals-stop (c .before .before .before .before .loop .v) (c .before .before .before .before .before .before .args .s .now) (c .before .before .before .before .loop .at) (c .before .digit-of .result) (c .before .before .before .loop-test .taken) (c .before .digit-of .ensures) (c .if1 .taken) ∙ sym (c .before .before .before .before .loop .inv .1)
+returns-3 c =
+    let args = c .before .before .before .before .before .before .args in
+    let loop = c .before .before .before .before .loop in
+    let loop-test = c .before .before .before .loop-test in
+    decimals-stop (loop .v) (args .s .now) (loop .at) (c .before .digit-of .result) (loop-test .taken) (c .before .digit-of .ensures) (c .if1 .taken) ∙ sym (loop .inv .1)
 
 pub decimals-at-spec : {M : Type 1} → statement M
 decimals-at-spec =

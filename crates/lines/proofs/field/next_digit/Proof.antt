@@ -3,9 +3,6 @@ use Rattle.fields.proofs.Decimal.{next-digit-in, next-digit-out}
 use borrow.Author.Needs.{needs}
 use Rattle.lines.proofs.field.next_digit.Statement.{statement}
 use Rattle.lines.proofs.field.next_digit.Tie as tie
-use Rattle.lines.proofs.field.next_digit.Reads as reads
-use Rattle.lines.proofs.field.next_digit.Lts as lts
-use Rattle.lines.proofs.digits.digit_of.Reads as digit-of-reads
 
 shared-slice-read-digit-of : tie.Need-shared-slice-read-digit-of
 shared-slice-read-digit-of c = search needs
@@ -14,7 +11,10 @@ digit-of-requires : tie.Need-digit-of-requires
 digit-of-requires c κs = search needs
 
 returns : tie.Need-returns
-returns c = c .digit-of .ensures ∙ next-digit-in (c .before .before .before .before .args .s .now) (c .before .before .before .before .args .at) (c .before .before .if1 .taken)
+returns c =
+    let args = c .before .before .before .before .args in
+    let if1 = c .before .before .if1 in
+    c .digit-of .ensures ∙ next-digit-in (args .s .now) (args .at) (if1 .taken)
 
 returns-2 : tie.Need-returns-2
 returns-2 c = next-digit-out (c .before .before .args .s .now) (c .before .before .args .at) (c .if1 .left)

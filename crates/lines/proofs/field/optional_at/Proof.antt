@@ -9,33 +9,46 @@ use Rattle.lines.proofs.Ends.{reached}
 use borrow.Author.Needs.{needs}
 use Rattle.lines.proofs.field.optional_at.Statement.{statement}
 use Rattle.lines.proofs.field.optional_at.Tie as tie
-use Rattle.lines.proofs.field.optional_at.Reads as reads
-use Rattle.lines.proofs.field.optional_at.Lts as lts
-use Rattle.fields.proofs.bytes.next_is.Reads as next-is-reads
-use Rattle.lines.proofs.field.number_at.Reads as number-at-reads
 
 next-is-requires : tie.Need-next-is-requires
 next-is-requires c κs = search needs
 
 add-next : tie.Need-add-next
-add-next c = omega (arith, next-inside 45 (c .before .before .before .args .s .now) (c .before .before .before .args .at) (sym (c .before .next-is .ensures) ∙ c .if1 .taken), c .before .before .before .good)
+add-next c =
+    let args = c .before .before .before .args in
+    let good = c .before .before .before .good in
+    omega (arith, next-inside 45 (args .s .now) (args .at) (sym (c .before .next-is .ensures) ∙ c .if1 .taken), good)
 
 next-is-requires-2 : tie.Need-next-is-requires-2
 next-is-requires-2 c κs = search needs
 
 add-t12 : tie.Need-add-t12
-add-t12 c = omega (arith, next-inside (c .before .before .before .before .before .args .end) (c .before .before .before .before .before .args .s .now) (c .before .before .before .before .before .args .at + 1) (sym (c .before .next-is2 .ensures) ∙ c .if2 .taken), c .before .before .before .before .before .good)
+add-t12 c =
+    let args = c .before .before .before .before .before .args in
+    let good = c .before .before .before .before .before .good in
+    omega (arith, next-inside (args .end) (args .s .now) (args .at + 1) (sym (c .before .next-is2 .ensures) ∙ c .if2 .taken), good)
 
 returns : tie.Need-returns
 unfolding optionalForm toldOptional optionalEnd
-returns c = (rw (sym (c .before .before .before .next-is .ensures) ∙ c .before .before .if1 .taken, tail-drop, sym (c .before .next-is2 .ensures) ∙ c .if2 .taken, tail-drop), omega (arith, next-inside (c .before .before .before .before .before .args .end) (c .before .before .before .before .before .args .s .now) (c .before .before .before .before .before .args .at + 1) (sym (c .before .next-is2 .ensures) ∙ c .if2 .taken)))
+returns c =
+    let args = c .before .before .before .before .before .args in
+    let next-is = c .before .before .before .next-is in
+    let if1 = c .before .before .if1 in (
+      rw (sym (next-is .ensures) ∙ if1 .taken, tail-drop, sym (c .before .next-is2 .ensures) ∙ c .if2 .taken, tail-drop),
+      omega (arith, next-inside (args .end) (args .s .now) (args .at + 1) (sym (c .before .next-is2 .ensures) ∙ c .if2 .taken)),
+    )
 
 returns-2 : tie.Need-returns-2
 unfolding optionalForm toldOptional optionalEnd
-returns-2 c = (rw (sym (c .before .before .before .next-is .ensures) ∙ c .before .before .if1 .taken, tail-drop, sym (c .before .next-is2 .ensures) ∙ c .if2 .left), omega arith)
+returns-2 c =
+    let next-is = c .before .before .before .next-is in
+    let if1 = c .before .before .if1 in
+    (rw (sym (next-is .ensures) ∙ if1 .taken, tail-drop, sym (c .before .next-is2 .ensures) ∙ c .if2 .left), omega arith)
 
 number-at-requires : tie.Need-number-at-requires
-number-at-requires c κs = (c .before .before .before .pre .0, (c .before .before .before .pre .1 .0, pow-le-pow-right (omega arith) (c .before .before .before .pre .1 .1)))
+number-at-requires c κs =
+    let pre = c .before .before .before .pre in
+    (pre .0, (pre .1 .0, pow-le-pow-right (omega arith) (pre .1 .1)))
 
 enum-known-v : tie.Need-enum-known-v
 enum-known-v c = search needs
@@ -45,11 +58,19 @@ enum-told c = search needs
 
 returns-3 : tie.Need-returns-3
 unfolding optionalForm toldOptional toldNumber optionalEnd numberEnd
-returns-3 c = (rw (sym (c .before .before .before .before .before .next-is .ensures) ∙ c .before .before .before .before .if1 .left, told (toldNumber _) (c .before .before .before .number-at .ensures .0) (c .before .v .given .1)), reached numberEnd (c .before .before .before .number-at .ensures .1) (c .before .v .given .1))
+returns-3 c =
+    let next-is = c .before .before .before .before .before .next-is in
+    let if1 = c .before .before .before .before .if1 in
+    let number-at = c .before .before .before .number-at in
+    (rw (sym (next-is .ensures) ∙ if1 .left, told (toldNumber _) (number-at .ensures .0) (c .before .v .given .1)), reached numberEnd (number-at .ensures .1) (c .before .v .given .1))
 
 returns-4 : tie.Need-returns-4
 unfolding optionalForm toldOptional toldNumber optionalEnd
-returns-4 c = (rw (sym (c .before .before .before .before .next-is .ensures) ∙ c .before .before .before .if1 .left, told (toldNumber _) (c .before .before .number-at .ensures .0) (c .enum-told .given .1)), omega arith)
+returns-4 c =
+    let next-is = c .before .before .before .before .next-is in
+    let if1 = c .before .before .before .if1 in
+    let number-at = c .before .before .number-at in
+    (rw (sym (next-is .ensures) ∙ if1 .left, told (toldNumber _) (number-at .ensures .0) (c .enum-told .given .1)), omega arith)
 
 pub optional-at-spec : {M : Type 1} → statement M
 optional-at-spec =

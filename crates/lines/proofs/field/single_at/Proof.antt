@@ -6,9 +6,6 @@ use Rattle.fields.proofs.ReadDigits.{number-lt}
 use borrow.Author.Needs.{needs}
 use Rattle.lines.proofs.field.single_at.Statement.{statement}
 use Rattle.lines.proofs.field.single_at.Tie as tie
-use Rattle.lines.proofs.field.single_at.Reads as reads
-use Rattle.lines.proofs.field.single_at.Lts as lts
-use Rattle.lines.proofs.field.number_at.Reads as number-at-reads
 
 number-at-requires : tie.Need-number-at-requires
 number-at-requires c κs = (c .before .pre .0, (c .before .pre .1 .0, omega (arith, c .before .pre .1 .1)))
@@ -18,7 +15,11 @@ enum-known-v c = search needs
 
 cast-t11 : tie.Need-cast-t11
 unfolding toldNumber
-cast-t11 c = omega (arith, number-lt (c .before .before .before .before .before .args .base) (c .before .before .before .before .before .args .width) (c .before .before .before .before .before .args .end) _ _ _ (told (toldNumber _) (c .before .before .before .number-at .ensures .0) (c .before .v .given .1)), c .before .before .before .before .before .pre .1 .1)
+cast-t11 c =
+    let args = c .before .before .before .before .before .args in
+    let pre = c .before .before .before .before .before .pre in
+    let number-at = c .before .before .before .number-at in
+    omega (arith, number-lt (args .base) (args .width) (args .end) _ _ _ (told (toldNumber _) (number-at .ensures .0) (c .before .v .given .1)), pre .1 .1)
 
 enum-told : tie.Need-enum-told
 enum-told c = search needs

@@ -12,10 +12,6 @@ use Rattle.fields.proofs.Starts.{starts-with-length}
 use borrow.Author.Needs.{needs}
 use Rattle.lines.proofs.point.controls_at.Statement.{statement}
 use Rattle.lines.proofs.point.controls_at.Tie as tie
-use Rattle.lines.proofs.point.controls_at.Reads as reads
-use Rattle.lines.proofs.point.controls_at.Lts as lts
-use Rattle.lines.proofs.field.single_at.Reads as single-at-reads
-use Rattle.fields.proofs.bytes.starts_with.Reads as starts-with-reads
 
 single-at-requires : tie.Need-single-at-requires
 single-at-requires c κs = search needs
@@ -28,7 +24,10 @@ enum-told c = search needs
 
 returns : tie.Need-returns
 unfolding controlsForm toldControls toldSingle
-returns c = rw (eq-eqb _ 5 (c .before .before .before .if1 .taken), told (toldSingle _) (c .before .before .single-at .ensures) (c .enum-told .given .1))
+returns c =
+    let if1 = c .before .before .before .if1 in
+    let single-at = c .before .before .single-at in
+    rw (eq-eqb _ 5 (if1 .taken), told (toldSingle _) (single-at .ensures) (c .enum-told .given .1))
 
 single-at-requires-2 : tie.Need-single-at-requires-2
 single-at-requires-2 c κs = search needs
@@ -41,11 +40,21 @@ enum-told-2 c = search needs
 
 returns-2 : tie.Need-returns-2
 unfolding controlsForm toldControls toldSingle
-returns-2 c = rw (eq-eqb _ 5 (c .before .before .before .before .before .before .before .if1 .taken), told (toldSingle _) (c .before .before .before .before .before .before .single-at .ensures) (c .before .before .before .before .cp1 .given .1), told (toldSingle _) (c .before .before .single-at2 .ensures) (c .enum-told2 .given .1))
+returns-2 c =
+    let if1 = c .before .before .before .before .before .before .before .if1 in
+    let single-at = c .before .before .before .before .before .before .single-at in
+    let cp1 = c .before .before .before .before .cp1 in
+    let single-at2 = c .before .before .single-at2 in
+    rw (eq-eqb _ 5 (if1 .taken), told (toldSingle _) (single-at .ensures) (cp1 .given .1), told (toldSingle _) (single-at2 .ensures) (c .enum-told2 .given .1))
 
 returns-3 : tie.Need-returns-3
 unfolding controlsForm toldControls toldSingle
-returns-3 c = rw (eq-eqb _ 5 (c .before .before .before .before .before .before .before .before .if1 .taken), told (toldSingle _) (c .before .before .before .before .before .before .before .single-at .ensures) (c .before .before .before .before .before .cp1 .given .1), told (toldSingle _) (c .before .before .before .single-at2 .ensures) (c .before .cp2 .given .1))
+returns-3 c =
+    let if1 = c .before .before .before .before .before .before .before .before .if1 in
+    let single-at = c .before .before .before .before .before .before .before .single-at in
+    let cp1 = c .before .before .before .before .before .cp1 in
+    let single-at2 = c .before .before .before .single-at2 in
+    rw (eq-eqb _ 5 (if1 .taken), told (toldSingle _) (single-at .ensures) (cp1 .given .1), told (toldSingle _) (single-at2 .ensures) (c .before .cp2 .given .1))
 
 slice-aggregate-starts-with : tie.Need-slice-aggregate-starts-with
 slice-aggregate-starts-with c = search needs
@@ -54,15 +63,23 @@ starts-with-requires : tie.Need-starts-with-requires
 starts-with-requires c κs = search needs
 
 add-t17 : tie.Need-add-t17
-add-t17 c = omega (arith, starts-with-length dashes (c .before .before .before .before .before .args .s .now) (c .before .before .before .before .before .args .at) (sym (c .before .starts-with .ensures) ∙ c .if2 .taken) (omega arith), c .before .before .before .before .before .good)
+add-t17 c =
+    let args = c .before .before .before .before .before .args in
+    let good = c .before .before .before .before .before .good in
+    omega (arith, starts-with-length dashes (args .s .now) (args .at) (sym (c .before .starts-with .ensures) ∙ c .if2 .taken) (omega arith), good)
 
 returns-4 : tie.Need-returns-4
 unfolding controlsForm toldControls
-returns-4 c = rw (ne-eqb _ 5 (c .before .before .before .if1 .left), sym (c .before .starts-with .ensures) ∙ c .if2 .taken) (ap (λ (l : List ℕ). got (0, 0) l) (sym (drop-drop 4 (c .before .before .before .before .before .args .at) (c .before .before .before .before .before .args .s .now))))
+returns-4 c =
+    let args = c .before .before .before .before .before .args in
+    let if1 = c .before .before .before .if1 in
+    rw (ne-eqb _ 5 (if1 .left), sym (c .before .starts-with .ensures) ∙ c .if2 .taken) (ap (λ (l : List ℕ). got (0, 0) l) (sym (drop-drop 4 (args .at) (args .s .now))))
 
 returns-5 : tie.Need-returns-5
 unfolding controlsForm toldControls
-returns-5 c = rw (ne-eqb _ 5 (c .before .before .before .if1 .left), sym (c .before .starts-with .ensures) ∙ c .if2 .left)
+returns-5 c =
+    let if1 = c .before .before .before .if1 in
+    rw (ne-eqb _ 5 (if1 .left), sym (c .before .starts-with .ensures) ∙ c .if2 .left)
 
 pub controls-at-spec : {M : Type 1} → statement M
 controls-at-spec =

@@ -4,12 +4,6 @@ use Rattle.fields.proofs.Fields.{told}
 use borrow.Author.Needs.{needs}
 use Rattle.lines.proofs.point.point_form.Statement.{statement}
 use Rattle.lines.proofs.point.point_form.Tie as tie
-use Rattle.lines.proofs.point.point_form.Reads as reads
-use Rattle.lines.proofs.point.point_form.Lts as lts
-use Rattle.lines.proofs.field.number_at.Reads as number-at-reads
-use Rattle.lines.proofs.field.optional_at.Reads as optional-at-reads
-use Rattle.lines.proofs.field.single_at.Reads as single-at-reads
-use Rattle.lines.proofs.point.controls_at.Reads as controls-at-reads
 
 number-at-requires : tie.Need-number-at-requires
 number-at-requires c κs = search needs
@@ -35,7 +29,11 @@ enum-told-2 c = search needs
 
 returns-2 : tie.Need-returns-2
 unfolding pointForm toldNumber toldOptional toldSingle toldControls toldPointForm
-returns-2 c = rw (told (toldNumber _) (c .before .before .before .before .before .before .number-at .ensures .0) (c .before .before .before .before .time .given .1), told (toldOptional _) (c .before .before .optional-at .ensures .0) (c .enum-told2 .given .1))
+returns-2 c =
+    let number-at = c .before .before .before .before .before .before .number-at in
+    let time = c .before .before .before .before .time in
+    let optional-at = c .before .before .optional-at in
+    rw (told (toldNumber _) (number-at .ensures .0) (time .given .1), told (toldOptional _) (optional-at .ensures .0) (c .enum-told2 .given .1))
 
 single-at-requires : tie.Need-single-at-requires
 single-at-requires c κs = search needs
@@ -48,7 +46,17 @@ enum-told-3 c = search needs
 
 returns-3 : tie.Need-returns-3
 unfolding pointForm toldNumber toldOptional toldSingle toldControls toldPointForm
-returns-3 c = rw (told (toldNumber _) (c .before .before .before .before .before .before .before .before .before .before .number-at .ensures .0) (c .before .before .before .before .before .before .before .before .time .given .1), told (toldOptional _) (c .before .before .before .before .before .before .optional-at .ensures .0) (c .before .before .before .before .position .given .1), told (toldSingle _) (c .before .before .single-at .ensures) (c .enum-told3 .given .1))
+returns-3 c =
+    let number-at = c .before .before .before .before .before .before .before .before .before .before .number-at in
+    let time = c .before .before .before .before .before .before .before .before .time in
+    let optional-at = c .before .before .before .before .before .before .optional-at in
+    let position = c .before .before .before .before .position in
+    let single-at = c .before .before .single-at in
+    rw (
+      told (toldNumber _) (number-at .ensures .0) (time .given .1),
+      told (toldOptional _) (optional-at .ensures .0) (position .given .1),
+      told (toldSingle _) (single-at .ensures) (c .enum-told3 .given .1),
+    )
 
 single-at-requires-2 : tie.Need-single-at-requires-2
 single-at-requires-2 c κs = search needs
@@ -61,7 +69,20 @@ enum-told-4 c = search needs
 
 returns-4 : tie.Need-returns-4
 unfolding pointForm toldNumber toldOptional toldSingle toldControls toldPointForm
-returns-4 c = rw (told (toldNumber _) (c .before .before .before .before .before .before .before .before .before .before .before .before .before .before .number-at .ensures .0) (c .before .before .before .before .before .before .before .before .before .before .before .before .time .given .1), told (toldOptional _) (c .before .before .before .before .before .before .before .before .before .before .optional-at .ensures .0) (c .before .before .before .before .before .before .before .before .position .given .1), told (toldSingle _) (c .before .before .before .before .before .before .single-at .ensures) (c .before .before .before .before .value .given .1), told (toldSingle _) (c .before .before .single-at2 .ensures) (c .enum-told4 .given .1))
+returns-4 c =
+    let number-at = c .before .before .before .before .before .before .before .before .before .before .before .before .before .before .number-at in
+    let time = c .before .before .before .before .before .before .before .before .before .before .before .before .time in
+    let optional-at = c .before .before .before .before .before .before .before .before .before .before .optional-at in
+    let position = c .before .before .before .before .before .before .before .before .position in
+    let single-at = c .before .before .before .before .before .before .single-at in
+    let value = c .before .before .before .before .value in
+    let single-at2 = c .before .before .single-at2 in
+    rw (
+      told (toldNumber _) (number-at .ensures .0) (time .given .1),
+      told (toldOptional _) (optional-at .ensures .0) (position .given .1),
+      told (toldSingle _) (single-at .ensures) (value .given .1),
+      told (toldSingle _) (single-at2 .ensures) (c .enum-told4 .given .1),
+    )
 
 controls-at-requires : tie.Need-controls-at-requires
 controls-at-requires c κs = search needs
@@ -74,11 +95,43 @@ enum-told-5 c = search needs
 
 returns-5 : tie.Need-returns-5
 unfolding pointForm toldNumber toldOptional toldSingle toldControls toldPointForm
-returns-5 c = rw (told (toldNumber _) (c .before .before .before .before .before .before .before .before .before .before .before .before .before .before .before .before .before .before .number-at .ensures .0) (c .before .before .before .before .before .before .before .before .before .before .before .before .before .before .before .before .time .given .1), told (toldOptional _) (c .before .before .before .before .before .before .before .before .before .before .before .before .before .before .optional-at .ensures .0) (c .before .before .before .before .before .before .before .before .before .before .before .before .position .given .1), told (toldSingle _) (c .before .before .before .before .before .before .before .before .before .before .single-at .ensures) (c .before .before .before .before .before .before .before .before .value .given .1), told (toldSingle _) (c .before .before .before .before .before .before .single-at2 .ensures) (c .before .before .before .before .curve .given .1), told (toldControls _) (c .before .before .controls-at .ensures) (c .enum-told5 .given .1))
+returns-5 c =
+    let number-at = c .before .before .before .before .before .before .before .before .before .before .before .before .before .before .before .before .before .before .number-at in
+    let time = c .before .before .before .before .before .before .before .before .before .before .before .before .before .before .before .before .time in
+    let optional-at = c .before .before .before .before .before .before .before .before .before .before .before .before .before .before .optional-at in
+    let position = c .before .before .before .before .before .before .before .before .before .before .before .before .position in
+    let single-at = c .before .before .before .before .before .before .before .before .before .before .single-at in
+    let value = c .before .before .before .before .before .before .before .before .value in
+    let single-at2 = c .before .before .before .before .before .before .single-at2 in
+    let curve = c .before .before .before .before .curve in
+    let controls-at = c .before .before .controls-at in
+    rw (
+      told (toldNumber _) (number-at .ensures .0) (time .given .1),
+      told (toldOptional _) (optional-at .ensures .0) (position .given .1),
+      told (toldSingle _) (single-at .ensures) (value .given .1),
+      told (toldSingle _) (single-at2 .ensures) (curve .given .1),
+      told (toldControls _) (controls-at .ensures) (c .enum-told5 .given .1),
+    )
 
 returns-6 : tie.Need-returns-6
 unfolding pointForm toldNumber toldOptional toldSingle toldControls toldPointForm
-returns-6 c = rw (told (toldNumber _) (c .before .before .before .before .before .before .before .before .before .before .before .before .before .before .before .before .before .before .before .number-at .ensures .0) (c .before .before .before .before .before .before .before .before .before .before .before .before .before .before .before .before .before .time .given .1), told (toldOptional _) (c .before .before .before .before .before .before .before .before .before .before .before .before .before .before .before .optional-at .ensures .0) (c .before .before .before .before .before .before .before .before .before .before .before .before .before .position .given .1), told (toldSingle _) (c .before .before .before .before .before .before .before .before .before .before .before .single-at .ensures) (c .before .before .before .before .before .before .before .before .before .value .given .1), told (toldSingle _) (c .before .before .before .before .before .before .before .single-at2 .ensures) (c .before .before .before .before .before .curve .given .1), told (toldControls _) (c .before .before .before .controls-at .ensures) (c .before .cp1 .given .1))
+returns-6 c =
+    let number-at = c .before .before .before .before .before .before .before .before .before .before .before .before .before .before .before .before .before .before .before .number-at in
+    let time = c .before .before .before .before .before .before .before .before .before .before .before .before .before .before .before .before .before .time in
+    let optional-at = c .before .before .before .before .before .before .before .before .before .before .before .before .before .before .before .optional-at in
+    let position = c .before .before .before .before .before .before .before .before .before .before .before .before .before .position in
+    let single-at = c .before .before .before .before .before .before .before .before .before .before .before .single-at in
+    let value = c .before .before .before .before .before .before .before .before .before .value in
+    let single-at2 = c .before .before .before .before .before .before .before .single-at2 in
+    let curve = c .before .before .before .before .before .curve in
+    let controls-at = c .before .before .before .controls-at in
+    rw (
+      told (toldNumber _) (number-at .ensures .0) (time .given .1),
+      told (toldOptional _) (optional-at .ensures .0) (position .given .1),
+      told (toldSingle _) (single-at .ensures) (value .given .1),
+      told (toldSingle _) (single-at2 .ensures) (curve .given .1),
+      told (toldControls _) (controls-at .ensures) (c .before .cp1 .given .1),
+    )
 
 pub point-form-spec : {M : Type 1} → statement M
 point-form-spec =

@@ -4,10 +4,6 @@ use Rattle.fields.proofs.Fields.{told}
 use borrow.Author.Needs.{needs}
 use Rattle.lines.proofs.point.point_line.Statement.{statement}
 use Rattle.lines.proofs.point.point_line.Tie as tie
-use Rattle.lines.proofs.point.point_line.Reads as reads
-use Rattle.lines.proofs.point.point_line.Lts as lts
-use Rattle.lines.proofs.point.point_form.Reads as point-form-reads
-use Rattle.lines.proofs.point.point_of.Reads as point-of-reads
 
 point-form-requires : tie.Need-point-form-requires
 point-form-requires c κs = search needs
@@ -33,11 +29,19 @@ enum-known-p c = search needs
 
 returns-2 : tie.Need-returns-2
 unfolding pointLine toldPointForm toldPoint toldPointLine
-returns-2 c = rw (told (toldPointForm _) (c .before .before .before .before .before .before .before .point-form .ensures) (c .before .before .before .before .before .raw .given .1), told toldPoint (c .before .before .before .point-of .ensures) (c .before .r .given .1))
+returns-2 c =
+    let point-form = c .before .before .before .before .before .before .before .point-form in
+    let raw = c .before .before .before .before .before .raw in
+    let point-of = c .before .before .before .point-of in
+    rw (told (toldPointForm _) (point-form .ensures) (raw .given .1), told toldPoint (point-of .ensures) (c .before .r .given .1))
 
 returns-3 : tie.Need-returns-3
 unfolding pointLine toldPointForm toldPoint toldPointLine
-returns-3 c = rw (told (toldPointForm _) (c .before .before .before .before .before .before .before .point-form .ensures) (c .before .before .before .before .before .raw .given .1), told toldPoint (c .before .before .before .point-of .ensures) (c .before .p .given .1))
+returns-3 c =
+    let point-form = c .before .before .before .before .before .before .before .point-form in
+    let raw = c .before .before .before .before .before .raw in
+    let point-of = c .before .before .before .point-of in
+    rw (told (toldPointForm _) (point-form .ensures) (raw .given .1), told toldPoint (point-of .ensures) (c .before .p .given .1))
 
 pub point-line-spec : {M : Type 1} → statement M
 point-line-spec =

@@ -2,8 +2,6 @@ use Rattle.lines.specs.Lines.{positionOf}
 use borrow.Author.Needs.{needs}
 use Rattle.lines.proofs.point.position_of.Statement.{statement}
 use Rattle.lines.proofs.point.position_of.Tie as tie
-use Rattle.lines.proofs.point.position_of.Reads as reads
-use Rattle.lines.proofs.point.position_of.Lts as lts
 
 enum-told : tie.Need-enum-told
 enum-told c = search needs

@@ -10,9 +10,6 @@ use Rattle.lines.specs.PointLines.{cutShort}
 use Rattle.lines.proofs.Ends.{empty-leb}
 use Rattle.lines.proofs.point_lines.cut_short.Statement.{statement}
 use Rattle.lines.proofs.point_lines.cut_short.Tie as tie
-use Rattle.lines.proofs.point_lines.cut_short.Reads as reads
-use Rattle.lines.proofs.point_lines.cut_short.Lts as lts
-use Rattle.fields.proofs.bytes.starts_with.Reads as starts-with-reads
 
 returns : tie.Need-returns
 unfolding cutShort
@@ -26,26 +23,33 @@ starts-with-requires c κs = search needs
 
 returns-2 : tie.Need-returns-2
 unfolding cutShort
-returns-2 c = rw (not-false (c .before .before .before .before .before .args .program) (c .before .before .before .if1 .left), sym (c .before .starts-with .ensures) ∙ not-true _ (c .if2 .taken))
+returns-2 c =
+    let args = c .before .before .before .before .before .args in
+    let if1 = c .before .before .before .if1 in
+    rw (not-false (args .program) (if1 .left), sym (c .before .starts-with .ensures) ∙ not-true _ (c .if2 .taken))
 
 add-result : tie.Need-add-result
 add-result c =
+    let args = c .before .before .before .before .before .args in
+    let good = c .before .before .before .before .before .good in
     omega (
       arith,
-      starts-with-length (text "rate duration") (c .before .before .before .before .before .args .s .now) (c .before .before .before .before .before .args .at)
+      starts-with-length (text "rate duration") (args .s .now) (args .at)
           (sym (c .before .starts-with .ensures) ∙ not-false _ (c .if2 .left)) (omega arith),
-      c .before .before .before .before .before .good,
+      good,
     )
 
 returns-3 : tie.Need-returns-3
 unfolding cutShort
 returns-3 c =
+    let args = c .before .before .before .before .before .args in
+    let if1 = c .before .before .before .if1 in
     rw (
-      not-false (c .before .before .before .before .before .args .program) (c .before .before .before .if1 .left),
+      not-false (args .program) (if1 .left),
       sym (c .before .starts-with .ensures) ∙ not-false _ (c .if2 .left),
-      drop-drop 13 (c .before .before .before .before .before .args .at) (c .before .before .before .before .before .args .s .now),
+      drop-drop 13 (args .at) (args .s .now),
     )
-    (empty-leb (c .before .before .before .before .before .args .s .now) (c .before .before .before .before .before .args .at + 13))
+    (empty-leb (args .s .now) (args .at + 13))
 
 pub cut-short-spec : {M : Type 1} → statement M
 cut-short-spec =

@@ -3,9 +3,6 @@ use Rattle.lines.specs.Told.{toldPointLines}
 use borrow.Author.Needs.{needs}
 use Rattle.lines.proofs.point_lines.no_points.Statement.{statement}
 use Rattle.lines.proofs.point_lines.no_points.Tie as tie
-use Rattle.lines.proofs.point_lines.no_points.Reads as reads
-use Rattle.lines.proofs.point_lines.no_points.Lts as lts
-use Rattle.points.proofs.list.none.Reads as none-reads
 
 none-requires : tie.Need-none-requires
 none-requires c κs = search needs

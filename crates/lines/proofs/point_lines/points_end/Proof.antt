@@ -3,9 +3,6 @@ use Rattle.lines.proofs.Ends.{empty-leb}
 use borrow.Author.Needs.{needs}
 use Rattle.lines.proofs.point_lines.points_end.Statement.{statement}
 use Rattle.lines.proofs.point_lines.points_end.Tie as tie
-use Rattle.lines.proofs.point_lines.points_end.Reads as reads
-use Rattle.lines.proofs.point_lines.points_end.Lts as lts
-use Rattle.fields.proofs.bytes.starts_with.Reads as starts-with-reads
 
 slice-aggregate-starts-with : tie.Need-slice-aggregate-starts-with
 slice-aggregate-starts-with c = search needs

@@ -6,11 +6,6 @@ use Rattle.lines.proofs.Ends.{reached}
 use borrow.Author.Needs.{needs}
 use Rattle.lines.proofs.settings.settings_form.Statement.{statement}
 use Rattle.lines.proofs.settings.settings_form.Tie as tie
-use Rattle.lines.proofs.settings.settings_form.Reads as reads
-use Rattle.lines.proofs.settings.settings_form.Lts as lts
-use Rattle.lines.proofs.field.optional_at.Reads as optional-at-reads
-use Rattle.lines.proofs.field.single_at.Reads as single-at-reads
-use Rattle.lines.proofs.field.target_at.Reads as target-at-reads
 
 target-at-requires : tie.Need-target-at-requires
 target-at-requires c κs = search needs
@@ -36,7 +31,11 @@ enum-told-2 c = search needs
 
 returns-2 : tie.Need-returns-2
 unfolding settingsForm toldSingle toldOptional toldSettingsForm settingsFormEnd
-returns-2 c = (rw (told (toldSingle _) (c .before .before .before .before .before .before .target-at .ensures) (c .before .before .before .before .target .given .1), told (toldSingle _) (c .before .before .single-at .ensures) (c .enum-told2 .given .1)), omega arith)
+returns-2 c =
+    let target-at = c .before .before .before .before .before .before .target-at in
+    let target = c .before .before .before .before .target in
+    let single-at = c .before .before .single-at in
+    (rw (told (toldSingle _) (target-at .ensures) (target .given .1), told (toldSingle _) (single-at .ensures) (c .enum-told2 .given .1)), omega arith)
 
 optional-at-requires : tie.Need-optional-at-requires
 optional-at-requires c κs = search needs
@@ -49,7 +48,19 @@ enum-told-3 c = search needs
 
 returns-3 : tie.Need-returns-3
 unfolding settingsForm toldSingle toldOptional toldSettingsForm settingsFormEnd
-returns-3 c = (rw (told (toldSingle _) (c .before .before .before .before .before .before .before .before .before .before .target-at .ensures) (c .before .before .before .before .before .before .before .before .target .given .1), told (toldSingle _) (c .before .before .before .before .before .before .single-at .ensures) (c .before .before .before .before .enabled .given .1), told (toldOptional _) (c .before .before .optional-at .ensures .0) (c .enum-told3 .given .1)), omega arith)
+returns-3 c =
+    let target-at = c .before .before .before .before .before .before .before .before .before .before .target-at in
+    let target = c .before .before .before .before .before .before .before .before .target in
+    let single-at = c .before .before .before .before .before .before .single-at in
+    let enabled = c .before .before .before .before .enabled in
+    let optional-at = c .before .before .optional-at in (
+      rw (
+        told (toldSingle _) (target-at .ensures) (target .given .1),
+        told (toldSingle _) (single-at .ensures) (enabled .given .1),
+        told (toldOptional _) (optional-at .ensures .0) (c .enum-told3 .given .1),
+      ),
+      omega arith,
+    )
 
 optional-at-requires-2 : tie.Need-optional-at-requires-2
 optional-at-requires-2 c κs = search needs
@@ -62,7 +73,22 @@ enum-told-4 c = search needs
 
 returns-4 : tie.Need-returns-4
 unfolding settingsForm toldSingle toldOptional toldSettingsForm settingsFormEnd
-returns-4 c = (rw (told (toldSingle _) (c .before .before .before .before .before .before .before .before .before .before .before .before .before .before .target-at .ensures) (c .before .before .before .before .before .before .before .before .before .before .before .before .target .given .1), told (toldSingle _) (c .before .before .before .before .before .before .before .before .before .before .single-at .ensures) (c .before .before .before .before .before .before .before .before .enabled .given .1), told (toldOptional _) (c .before .before .before .before .before .before .optional-at .ensures .0) (c .before .before .before .before .min .given .1), told (toldOptional _) (c .before .before .optional-at2 .ensures .0) (c .enum-told4 .given .1)), omega arith)
+returns-4 c =
+    let target-at = c .before .before .before .before .before .before .before .before .before .before .before .before .before .before .target-at in
+    let target = c .before .before .before .before .before .before .before .before .before .before .before .before .target in
+    let single-at = c .before .before .before .before .before .before .before .before .before .before .single-at in
+    let enabled = c .before .before .before .before .before .before .before .before .enabled in
+    let optional-at = c .before .before .before .before .before .before .optional-at in
+    let min = c .before .before .before .before .min in
+    let optional-at2 = c .before .before .optional-at2 in (
+      rw (
+        told (toldSingle _) (target-at .ensures) (target .given .1),
+        told (toldSingle _) (single-at .ensures) (enabled .given .1),
+        told (toldOptional _) (optional-at .ensures .0) (min .given .1),
+        told (toldOptional _) (optional-at2 .ensures .0) (c .enum-told4 .given .1),
+      ),
+      omega arith,
+    )
 
 optional-at-requires-3 : tie.Need-optional-at-requires-3
 optional-at-requires-3 c κs = search needs
@@ -75,11 +101,47 @@ enum-told-5 c = search needs
 
 returns-5 : tie.Need-returns-5
 unfolding settingsForm toldSingle toldOptional toldSettingsForm settingsFormEnd
-returns-5 c = (rw (told (toldSingle _) (c .before .before .before .before .before .before .before .before .before .before .before .before .before .before .before .before .before .before .target-at .ensures) (c .before .before .before .before .before .before .before .before .before .before .before .before .before .before .before .before .target .given .1), told (toldSingle _) (c .before .before .before .before .before .before .before .before .before .before .before .before .before .before .single-at .ensures) (c .before .before .before .before .before .before .before .before .before .before .before .before .enabled .given .1), told (toldOptional _) (c .before .before .before .before .before .before .before .before .before .before .optional-at .ensures .0) (c .before .before .before .before .before .before .before .before .min .given .1), told (toldOptional _) (c .before .before .before .before .before .before .optional-at2 .ensures .0) (c .before .before .before .before .max .given .1), told (toldOptional _) (c .before .before .optional-at3 .ensures .0) (c .enum-told5 .given .1)), omega arith)
+returns-5 c =
+    let target-at = c .before .before .before .before .before .before .before .before .before .before .before .before .before .before .before .before .before .before .target-at in
+    let target = c .before .before .before .before .before .before .before .before .before .before .before .before .before .before .before .before .target in
+    let single-at = c .before .before .before .before .before .before .before .before .before .before .before .before .before .before .single-at in
+    let enabled = c .before .before .before .before .before .before .before .before .before .before .before .before .enabled in
+    let optional-at = c .before .before .before .before .before .before .before .before .before .before .optional-at in
+    let min = c .before .before .before .before .before .before .before .before .min in
+    let optional-at2 = c .before .before .before .before .before .before .optional-at2 in
+    let max = c .before .before .before .before .max in
+    let optional-at3 = c .before .before .optional-at3 in (
+      rw (
+        told (toldSingle _) (target-at .ensures) (target .given .1),
+        told (toldSingle _) (single-at .ensures) (enabled .given .1),
+        told (toldOptional _) (optional-at .ensures .0) (min .given .1),
+        told (toldOptional _) (optional-at2 .ensures .0) (max .given .1),
+        told (toldOptional _) (optional-at3 .ensures .0) (c .enum-told5 .given .1),
+      ),
+      omega arith,
+    )
 
 returns-6 : tie.Need-returns-6
 unfolding settingsForm toldSingle toldOptional toldSettingsForm optionalEnd settingsFormEnd
-returns-6 c = (rw (told (toldSingle _) (c .before .before .before .before .before .before .before .before .before .before .before .before .before .before .before .before .before .before .before .target-at .ensures) (c .before .before .before .before .before .before .before .before .before .before .before .before .before .before .before .before .before .target .given .1), told (toldSingle _) (c .before .before .before .before .before .before .before .before .before .before .before .before .before .before .before .single-at .ensures) (c .before .before .before .before .before .before .before .before .before .before .before .before .before .enabled .given .1), told (toldOptional _) (c .before .before .before .before .before .before .before .before .before .before .before .optional-at .ensures .0) (c .before .before .before .before .before .before .before .before .before .min .given .1), told (toldOptional _) (c .before .before .before .before .before .before .before .optional-at2 .ensures .0) (c .before .before .before .before .before .max .given .1), told (toldOptional _) (c .before .before .before .optional-at3 .ensures .0) (c .before .step .given .1)), reached optionalEnd (c .before .before .before .optional-at3 .ensures .1) (c .before .step .given .1))
+returns-6 c =
+    let target-at = c .before .before .before .before .before .before .before .before .before .before .before .before .before .before .before .before .before .before .before .target-at in
+    let target = c .before .before .before .before .before .before .before .before .before .before .before .before .before .before .before .before .before .target in
+    let single-at = c .before .before .before .before .before .before .before .before .before .before .before .before .before .before .before .single-at in
+    let enabled = c .before .before .before .before .before .before .before .before .before .before .before .before .before .enabled in
+    let optional-at = c .before .before .before .before .before .before .before .before .before .before .before .optional-at in
+    let min = c .before .before .before .before .before .before .before .before .before .min in
+    let optional-at2 = c .before .before .before .before .before .before .before .optional-at2 in
+    let max = c .before .before .before .before .before .max in
+    let optional-at3 = c .before .before .before .optional-at3 in (
+      rw (
+        told (toldSingle _) (target-at .ensures) (target .given .1),
+        told (toldSingle _) (single-at .ensures) (enabled .given .1),
+        told (toldOptional _) (optional-at .ensures .0) (min .given .1),
+        told (toldOptional _) (optional-at2 .ensures .0) (max .given .1),
+        told (toldOptional _) (optional-at3 .ensures .0) (c .before .step .given .1),
+      ),
+      reached optionalEnd (optional-at3 .ensures .1) (c .before .step .given .1),
+    )
 
 pub settings-form-spec : {M : Type 1} → statement M
 settings-form-spec =

@@ -7,11 +7,6 @@ use Rattle.lines.proofs.Ends.{reached}
 use borrow.Author.Needs.{needs}
 use Rattle.lines.proofs.settings.settings_line.Statement.{statement}
 use Rattle.lines.proofs.settings.settings_line.Tie as tie
-use Rattle.lines.proofs.settings.settings_line.Reads as reads
-use Rattle.lines.proofs.settings.settings_line.Lts as lts
-use Rattle.fields.proofs.digits.table.Reads as table-reads
-use Rattle.lines.proofs.settings.settings_form.Reads as settings-form-reads
-use Rattle.lines.proofs.settings.settings_of.Reads as settings-of-reads
 
 table-requires : tie.Need-table-requires
 table-requires c κs = search needs
@@ -27,11 +22,15 @@ enum-told c = search needs
 
 returns : tie.Need-returns
 unfolding settingsLine toldSettingsForm toldSettingsLine settingsEnd
-returns c = (rw (told (toldSettingsForm _) (c .before .before .settings-form .ensures .0) (c .enum-told .given .1)), omega arith)
+returns c =
+    let settings-form = c .before .before .settings-form in
+    (rw (told (toldSettingsForm _) (settings-form .ensures .0) (c .enum-told .given .1)), omega arith)
 
 settings-of-requires : tie.Need-settings-of-requires
 unfolding toldSettingsForm
-settings-of-requires c κs = settings-below _ _ _ (told (toldSettingsForm _) (c .before .before .before .settings-form .ensures .0) (c .before .raw .given .1))
+settings-of-requires c κs =
+    let settings-form = c .before .before .before .settings-form in
+    settings-below _ _ _ (told (toldSettingsForm _) (settings-form .ensures .0) (c .before .raw .given .1))
 
 enum-known-r : tie.Need-enum-known-r
 enum-known-r c = search needs
@@ -41,11 +40,21 @@ enum-known-e c = search needs
 
 returns-2 : tie.Need-returns-2
 unfolding settingsLine toldSettingsForm toldSettings toldSettingsLine settingsEnd
-returns-2 c = (rw (told (toldSettingsForm _) (c .before .before .before .before .before .before .before .settings-form .ensures .0) (c .before .before .before .before .before .raw .given .1), told toldSettings (c .before .before .before .settings-of .ensures) (c .before .r .given .1)), omega arith)
+returns-2 c =
+    let settings-form = c .before .before .before .before .before .before .before .settings-form in
+    let raw = c .before .before .before .before .before .raw in
+    let settings-of = c .before .before .before .settings-of in
+    (rw (told (toldSettingsForm _) (settings-form .ensures .0) (raw .given .1), told toldSettings (settings-of .ensures) (c .before .r .given .1)), omega arith)
 
 returns-3 : tie.Need-returns-3
 unfolding settingsLine toldSettingsForm toldSettings toldSettingsLine settingsFormEnd settingsEnd
-returns-3 c = (rw (told (toldSettingsForm _) (c .before .before .before .before .before .before .before .settings-form .ensures .0) (c .before .before .before .before .before .raw .given .1), told toldSettings (c .before .before .before .settings-of .ensures) (c .before .e .given .1)), reached settingsFormEnd (c .before .before .before .before .before .before .before .settings-form .ensures .1) (c .before .before .before .before .before .raw .given .1))
+returns-3 c =
+    let settings-form = c .before .before .before .before .before .before .before .settings-form in
+    let raw = c .before .before .before .before .before .raw in
+    let settings-of = c .before .before .before .settings-of in (
+      rw (told (toldSettingsForm _) (settings-form .ensures .0) (raw .given .1), told toldSettings (settings-of .ensures) (c .before .e .given .1)),
+      reached settingsFormEnd (settings-form .ensures .1) (raw .given .1),
+    )
 
 pub settings-line-spec : {M : Type 1} → statement M
 settings-line-spec =

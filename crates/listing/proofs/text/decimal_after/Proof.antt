@@ -26,7 +26,9 @@ returns : tie.Need-returns Inv-loop μ-loop
 returns c = search needs
 
 loop-holds : tie.Need-loop-holds Inv-loop μ-loop
-loop-holds c = (omega arith, rw (c .before .start .given .1) at (c .before .before .before .after .ensures), omega arith)
+loop-holds c =
+    let after = c .before .before .before .after in
+    (omega arith, rw (c .before .start .given .1) at (after .ensures), omega arith)
 
 shared-slice-read-digit : tie.Need-shared-slice-read-digit Inv-loop μ-loop
 shared-slice-read-digit c = omega arith

@@ -38,7 +38,10 @@ returns-2 : tie.Need-returns-2 Inv-loop μ-loop
 returns-2 c = search needs
 
 loop-holds : tie.Need-loop-holds Inv-loop μ-loop
-loop-holds c = (omega arith, omega (arith, rw (c .before .before .start .given .1) at (c .before .before .before .before .after .ensures)), omega (arith, pow-zero 16))
+loop-holds c =
+    let after = c .before .before .before .before .after in
+    let start = c .before .before .start in
+    (omega arith, omega (arith, rw (start .given .1) at (after .ensures)), omega (arith, pow-zero 16))
 
 add-digit : tie.Need-add-digit Inv-loop μ-loop
 add-digit c = omega arith
@@ -53,10 +56,16 @@ returns-3 : tie.Need-returns-3 Inv-loop μ-loop
 returns-3 c = search needs
 
 mul-v : tie.Need-mul-v Inv-loop μ-loop
-mul-v c = omega (arith, more-fits (c .before .before .before .before .loop .i) (c .before .before .before .before .before .before .before .before .before .before .before .before .args .n) (c .before .before .before .before .loop .v) (c .before .digit .result) (c .before .before .before .before .loop .inv .2) (omega arith) (omega arith) (omega arith))
+mul-v c =
+    let args = c .before .before .before .before .before .before .before .before .before .before .before .before .args in
+    let loop = c .before .before .before .before .loop in
+    omega (arith, more-fits (loop .i) (args .n) (loop .v) (c .before .digit .result) (loop .inv .2) (omega arith) (omega arith) (omega arith))
 
 add-v : tie.Need-add-v Inv-loop μ-loop
-add-v c = omega (arith, more-fits (c .before .before .before .before .loop .i) (c .before .before .before .before .before .before .before .before .before .before .before .before .args .n) (c .before .before .before .before .loop .v) (c .before .digit .result) (c .before .before .before .before .loop .inv .2) (omega arith) (omega arith) (omega arith))
+add-v c =
+    let args = c .before .before .before .before .before .before .before .before .before .before .before .before .args in
+    let loop = c .before .before .before .before .loop in
+    omega (arith, more-fits (loop .i) (args .n) (loop .v) (c .before .digit .result) (loop .inv .2) (omega arith) (omega arith) (omega arith))
 
 add-i : tie.Need-add-i Inv-loop μ-loop
 add-i c = omega arith
@@ -72,7 +81,8 @@ add-t12 c = omega arith
 
 returns-4 : tie.Need-returns-4 Inv-loop μ-loop
 returns-4 c =
-    let e : c .before .loop .i ≡ c .before .before .before .before .before .before .before .before .before .args .n = omega arith in
+    let args = c .before .before .before .before .before .before .before .before .before .args in
+    let e : c .before .loop .i ≡ args .n = omega arith in
     rw e at (c .before .loop .inv .2)
 
 pub hexadecimal-spec : {M : Type 1} → statement M

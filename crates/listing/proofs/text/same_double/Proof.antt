@@ -2,7 +2,7 @@
 -- Assumes nothing.
 use lib.Ieee.{binary64}
 use borrow.Author.Needs.{needs}
-use Rattle.numbers.specs.Tests.{yes}
+use Rattle.numbers.proofs.Tests.{yes}
 use Rattle.numbers.proofs.BitLaws.{same-bits}
 use Rattle.listing.proofs.text.same_double.Statement.{statement}
 use Rattle.listing.proofs.text.same_double.Tie as tie

@@ -2,7 +2,7 @@
 -- Assumes nothing.
 use lib.Ieee.{binary32}
 use borrow.Author.Needs.{needs}
-use Rattle.numbers.specs.Tests.{yes}
+use Rattle.numbers.proofs.Tests.{yes}
 use Rattle.numbers.proofs.BitLaws.{same-bits}
 use Rattle.listing.proofs.text.same_single.Statement.{statement}
 use Rattle.listing.proofs.text.same_single.Tie as tie

@@ -9,7 +9,10 @@ slice-reshare-prefix-read-sheet : tie.Need-slice-reshare-prefix-read-sheet
 slice-reshare-prefix-read-sheet c = search needs
 
 slice-aggregate-read-sheet : tie.Need-slice-aggregate-read-sheet
-slice-aggregate-read-sheet c = sym (length-take-le (c .before .before .args .n) (c .before .before .args .bytes .now) (c .before .before .pre))
+slice-aggregate-read-sheet c =
+    let entry = c .before .before in
+    let args = entry .args in
+    sym (length-take-le (args .n) (args .bytes .now) (entry .pre))
 
 read-sheet-requires : tie.Need-read-sheet-requires
 read-sheet-requires c κs = search needs

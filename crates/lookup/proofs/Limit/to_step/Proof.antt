@@ -19,7 +19,9 @@ returns c = search needs
 
 returns-2 : tie.Need-returns-2
 unfolding ofBits
-returns-2 c = rw (c .before .before .before .self .given .1, c .before .if1 .taken) (ap (λ (x : Float). mul binary32 x (c .before .before .before .self .given .0 .0)) (c .roundf .ensures))
+returns-2 c =
+    let self = c .before .before .before .self in
+    rw (self .given .1, c .before .if1 .taken) (ap (λ (x : Float). mul binary32 x (self .given .0 .0)) (c .roundf .ensures))
 
 returns-3 : tie.Need-returns-3
 unfolding ofBits

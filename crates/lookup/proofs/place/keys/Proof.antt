@@ -5,11 +5,11 @@ use mathlib.Core.List.{List, _++_, map}
 use native.Mathlib.Omega.{arith}
 use lib.ListN.{length, take, replicate, length-set, length-replicate}
 use Rattle.points.specs.Point.{anyPoint}
-use Rattle.points.specs.Laws.{take-min}
+use Rattle.points.proofs.Laws.{take-min}
 use Rattle.points.specs.declared.AutomationPoint.{AutomationPoint}
 use Rattle.lookup.specs.Keys.{keyBy}
 use Rattle.points.proofs.Good.{places}
-use Rattle.lookup.specs.KeyLaws.{Filled, keys-turn}
+use Rattle.lookup.proofs.KeyLaws.{Filled, keys-turn}
 use Rattle.lookup.proofs.place.keys.Statement.{statement}
 use Rattle.lookup.proofs.place.keys.Tie as tie
 
@@ -48,18 +48,27 @@ loop-less c = omega arith
 
 loop-again : tie.Need-loop-again Inv-loop μ-loop
 loop-again c =
-    let len = places (c .before .before .before .before .before .args .t1) _ (c .before .before .before .before .before .good .0) in
-    (omega arith, simp length-set (c .before .before .before .loop .inv .1), keys-turn (keyBy (c .before .before .before .before .before .args .by-sample)) (c .before .before .before .before .before .args .t1 .places) (c .before .before .before .loop .keys) (c .before .before .before .loop .i) anyPoint (c .key .result) (omega arith) (omega arith) (c .before .before .before .loop .inv .2) (c .key .ensures))
+    let args = c .before .before .before .before .before .args in
+    let good = c .before .before .before .before .before .good in
+    let loop = c .before .before .before .loop in
+    let len = places (args .t1) _ (good .0) in (
+      omega arith,
+      simp length-set (loop .inv .1),
+      keys-turn (keyBy (args .by-sample)) (args .t1 .places) (loop .keys) (loop .i) anyPoint (c .key .result) (omega arith) (omega arith) (loop .inv .2) (c .key .ensures),
+    )
 
 returns : tie.Need-returns Inv-loop μ-loop
 returns c =
-    let ps = c .before .before .before .args .t1 in
-    let key = keyBy (c .before .before .before .args .by-sample) in
-    let at : c .before .loop .i ≡ min (ps .count) 256 = omega (arith, c .before .before .used .ensures) in
+    let args = c .before .before .before .args in
+    let good = c .before .before .before .good in
+    let used = c .before .before .used in
+    let ps = args .t1 in
+    let key = keyBy (args .by-sample) in
+    let at : c .before .loop .i ≡ min (ps .count) 256 = omega (arith, used .ensures) in
     let rest : 256 - min (ps .count) 256 ≡ 256 - ps .count = omega arith in
     c .before .loop .inv .2
     ∙ ap (λ (n : ℕ). map key (take n (ps .places)) ++ replicate (256 - n) 0) at
-    ∙ ap₂ (λ (l : List AutomationPoint) (n : ℕ). map key l ++ replicate n 0) (take-min (ps .count) (ps .places) 256 (places ps _ (c .before .before .before .good .0))) rest
+    ∙ ap₂ (λ (l : List AutomationPoint) (n : ℕ). map key l ++ replicate n 0) (take-min (ps .count) (ps .places) 256 (places ps _ (good .0))) rest
 
 pub keys-spec : {M : Type 1} → statement M
 keys-spec =

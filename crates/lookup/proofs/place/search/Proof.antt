@@ -1,7 +1,7 @@
 -- `lookup::place::search` meets its contract. Assumes nothing.
 use Prim.Native.Nat.{_+_, _-_, _/_, min}
 use native.Mathlib.Omega.{arith}
-use Rattle.lookup.specs.KeyLaws.{Halving, halving-start, halving-up, halving-down, halving-end}
+use Rattle.lookup.proofs.KeyLaws.{Halving, halving-start, halving-up, halving-down, halving-end}
 use Rattle.lookup.proofs.place.search.Statement.{statement}
 use Rattle.lookup.proofs.place.search.Tie as tie
 

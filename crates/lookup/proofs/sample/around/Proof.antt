@@ -18,13 +18,23 @@ between-samples-requires-2 : tie.Need-between-samples-requires-2
 between-samples-requires-2 c κs = search needs
 
 returns : tie.Need-returns
-returns c = rw (lt-ltb _ _ (c .before .before .before .if1 .taken), eq-eqb _ _ (sym (c .before .before .sample-key .ensures) ∙ c .before .if2 .taken)) (ap (λ (v : Float). gives (some v)) (c .between-samples .ensures))
+returns c =
+    let if1 = c .before .before .before .if1 in
+    let sample-key = c .before .before .sample-key in
+    rw (lt-ltb _ _ (if1 .taken), eq-eqb _ _ (sym (sample-key .ensures) ∙ c .before .if2 .taken)) (ap (λ (v : Float). gives (some v)) (c .between-samples .ensures))
 
 returns-2 : tie.Need-returns-2
-returns-2 c = rw (lt-ltb _ _ (c .before .before .before .before .if1 .taken), ne-eqb _ _ (λ e. c .before .before .if2 .left (c .before .before .before .sample-key .ensures ∙ e)), lt-ltb _ _ (c .before .if3 .taken)) (ap (λ (v : Float). gives (some v)) (c .between-samples2 .ensures))
+returns-2 c =
+    let if1 = c .before .before .before .before .if1 in
+    let sample-key = c .before .before .before .sample-key in
+    let if2 = c .before .before .if2 in
+    rw (lt-ltb _ _ (if1 .taken), ne-eqb _ _ (λ e. if2 .left (sample-key .ensures ∙ e)), lt-ltb _ _ (c .before .if3 .taken)) (ap (λ (v : Float). gives (some v)) (c .between-samples2 .ensures))
 
 returns-3 : tie.Need-returns-3
-returns-3 c = rw (lt-ltb _ _ (c .before .before .before .if1 .taken), ne-eqb _ _ (λ e. c .before .if2 .left (c .before .before .sample-key .ensures ∙ e)), le-ltb _ _ (c .if3 .left))
+returns-3 c =
+    let if1 = c .before .before .before .if1 in
+    let sample-key = c .before .before .sample-key in
+    rw (lt-ltb _ _ (if1 .taken), ne-eqb _ _ (λ e. c .before .if2 .left (sample-key .ensures ∙ e)), le-ltb _ _ (c .if3 .left))
 
 returns-4 : tie.Need-returns-4
 returns-4 c = rw (le-ltb _ _ (c .if1 .left))

@@ -5,7 +5,7 @@ use native.Mathlib.Omega.{arith}
 use lib.ListN.{take, getD}
 use Rattle.points.specs.Point.{anyPoint}
 use Rattle.points.specs.Points.{risingBy}
-use Rattle.points.specs.Laws.{rising-next, rising-one, rising-end, take-min}
+use Rattle.points.proofs.Laws.{rising-next, rising-one, rising-end, take-min}
 use Rattle.lookup.specs.Lookup.{sampleKey}
 use Rattle.points.proofs.Good.{places}
 use Rattle.lookup.proofs.sample.keys_rise.Statement.{statement}
@@ -27,7 +27,9 @@ sample-key-requires : tie.Need-sample-key-requires Inv-loop μ-loop
 sample-key-requires c κs = tt
 
 loop-holds : tie.Need-loop-holds Inv-loop μ-loop
-loop-holds c = (omega arith, omega arith, c .sample-key .ensures, sym (rising-one sampleKey (c .before .before .before .args .t1 .places)))
+loop-holds c =
+    let args = c .before .before .before .args in
+    (omega arith, omega arith, c .sample-key .ensures, sym (rising-one sampleKey (args .t1 .places)))
 
 mul-p : tie.Need-mul-p Inv-loop μ-loop
 mul-p c = omega arith
@@ -46,17 +48,27 @@ loop-less c = omega arith
 
 loop-again : tie.Need-loop-again Inv-loop μ-loop
 loop-again c =
-    let ps = c .before .before .before .before .before .before .before .args .t1 in
-    let i = c .before .before .before .loop .i in
-    let len = places ps _ (c .before .before .before .before .before .before .before .good .0) in
-    let e : i ≡ i + 1 - 1 = omega arith in
-    (omega arith, omega arith, c .sample-key2 .ensures ∙ ap (λ (m : ℕ). sampleKey (getD (ps .places) m anyPoint)) e, cc (rising-next sampleKey (ps .places) i anyPoint (omega arith) (omega arith)))
+    let args = c .before .before .before .before .before .before .before .args in
+    let good = c .before .before .before .before .before .before .before .good in
+    let loop = c .before .before .before .loop in
+    let ps = args .t1 in
+    let i = loop .i in
+    let len = places ps _ (good .0) in
+    let e : i ≡ i + 1 - 1 = omega arith in (
+      omega arith,
+      omega arith,
+      c .sample-key2 .ensures ∙ ap (λ (m : ℕ). sampleKey (getD (ps .places) m anyPoint)) e,
+      cc (rising-next sampleKey (ps .places) i anyPoint (omega arith) (omega arith)),
+    )
 
 returns : tie.Need-returns Inv-loop μ-loop
 returns c =
-    let ps = c .before .before .before .before .before .args .t1 in
-    c .before .loop .inv .3 ∙ rising-end sampleKey (ps .places) (c .before .loop .i) (c .before .before .before .before .used .result) (omega arith) (omega arith) (omega arith)
-    ∙ ap (risingBy sampleKey) (ap (λ (k : ℕ). take k (ps .places)) (c .before .before .before .before .used .ensures) ∙ take-min (ps .count) (ps .places) 256 (places ps _ (c .before .before .before .before .before .good .0)))
+    let args = c .before .before .before .before .before .args in
+    let good = c .before .before .before .before .before .good in
+    let used = c .before .before .before .before .used in
+    let ps = args .t1 in
+    c .before .loop .inv .3 ∙ rising-end sampleKey (ps .places) (c .before .loop .i) (used .result) (omega arith) (omega arith) (omega arith)
+    ∙ ap (risingBy sampleKey) (ap (λ (k : ℕ). take k (ps .places)) (used .ensures) ∙ take-min (ps .count) (ps .places) 256 (places ps _ (good .0)))
 
 pub keys-rise-spec : {M : Type 1} → statement M
 keys-rise-spec =

@@ -4,10 +4,10 @@ use mathlib.Core.Path.{sym, ap, _∙_}
 use native.Mathlib.Omega.{arith}
 use Rattle.points.specs.Point.{anyPoint}
 use Rattle.points.specs.Refusal.{gives}
-use Rattle.points.specs.ValidLaws.{valid-count}
-use Rattle.points.specs.Search.{Searching, search-start, search-up, search-down, search-end}
+use Rattle.points.proofs.ValidLaws.{valid-count}
+use Rattle.points.proofs.SearchLaws.{Searching, search-start, search-up, search-down, search-end}
 use Rattle.lookup.specs.Lookup.{pointAt, sampleKey}
-use Rattle.lookup.specs.LookupLaws.{sample-none, sample-one, sample-first, sample-last, sample-around, at-place}
+use Rattle.lookup.proofs.LookupLaws.{sample-none, sample-one, sample-first, sample-last, sample-around, at-place}
 use Rattle.lookup.proofs.Good.{inside}
 use Rattle.lookup.proofs.sample.raw_at_sample.Statement.{statement}
 use Rattle.lookup.proofs.sample.raw_at_sample.Tie as tie
@@ -19,76 +19,119 @@ abbrev μ-loop : tie.MeasureT-loop
 μ-loop sample points n low₀ high₀ low high = high - low
 
 returns : tie.Need-returns Inv-loop μ-loop
-returns c = let ps = c .before .args .t1 in
+returns c =
+    let ps = c .before .args .t1 in
     ap gives (sym (sample-none _ _ (ps .places) (ps .count) (c .before .args .sample) (inside ps _ (c .before .good .0) (c .before .pre .0)) (c .if1 .taken)))
 
 element-copy-out-first : tie.Need-element-copy-out-first Inv-loop μ-loop
 element-copy-out-first c = omega arith
 
 returns-2 : tie.Need-returns-2 Inv-loop μ-loop
-returns-2 c = let ps = c .before .before .before .args .t1 in
-    ap gives (sym (sample-one _ _ (ps .places) (ps .count) (c .before .before .before .args .sample) (inside ps _ (c .before .before .before .good .0) (c .before .before .before .pre .0)) (c .if2 .taken)))
+returns-2 c =
+    let entry = c .before .before .before in
+    let args = entry .args in
+    let ps = args .t1 in
+    ap gives (sym (sample-one _ _ (ps .places) (ps .count) (args .sample) (inside ps _ (entry .good .0) (entry .pre .0)) (c .if2 .taken)))
 
 start-key-requires : tie.Need-start-key-requires Inv-loop μ-loop
 start-key-requires c κs = tt
 
 returns-3 : tie.Need-returns-3 Inv-loop μ-loop
-returns-3 c = let ps = c .before .before .before .before .before .args .t1 in
-    ap gives (sym (sample-first _ _ (ps .places) (ps .count) (c .before .before .before .before .before .args .sample) (inside ps _ (c .before .before .before .before .before .good .0) (c .before .before .before .before .before .pre .0)) (omega arith) (omega (arith, c .before .start-key .ensures, c .if3 .taken))))
+returns-3 c =
+    let args = c .before .before .before .before .before .args in
+    let good = c .before .before .before .before .before .good in
+    let pre = c .before .before .before .before .before .pre in
+    let ps = args .t1 in
+    ap gives (sym (sample-first _ _ (ps .places) (ps .count) (args .sample) (inside ps _ (good .0) (pre .0)) (omega arith) (omega (arith, c .before .start-key .ensures, c .if3 .taken))))
 
 sub-last : tie.Need-sub-last Inv-loop μ-loop
 sub-last c = omega arith
 
 mul-last : tie.Need-mul-last Inv-loop μ-loop
-mul-last c = omega (arith, valid-count (c .before .before .before .before .before .args .t1) (c .before .before .before .before .before .pre .0))
+mul-last c =
+    let args = c .before .before .before .before .before .args in
+    let pre = c .before .before .before .before .before .pre in
+    omega (arith, valid-count (args .t1) (pre .0))
 
 element-copy-out-last : tie.Need-element-copy-out-last Inv-loop μ-loop
-element-copy-out-last c = omega (arith, valid-count (c .before .before .before .before .before .args .t1) (c .before .before .before .before .before .pre .0))
+element-copy-out-last c =
+    let args = c .before .before .before .before .before .args in
+    let pre = c .before .before .before .before .before .pre in
+    omega (arith, valid-count (args .t1) (pre .0))
 
 sample-key-requires : tie.Need-sample-key-requires Inv-loop μ-loop
 sample-key-requires c κs = tt
 
 returns-4 : tie.Need-returns-4 Inv-loop μ-loop
-returns-4 c = let ps = c .before .before .before .before .before .before .before .before .args .t1 in
-    ap gives (sym (sample-last _ _ (ps .places) (ps .count) (c .before .before .before .before .before .before .before .before .args .sample) (inside ps _ (c .before .before .before .before .before .before .before .before .good .0) (c .before .before .before .before .before .before .before .before .pre .0)) (omega arith) (omega (arith, c .before .before .before .before .start-key .ensures, c .before .before .before .if3 .left)) (omega (arith, c .before .sample-key .ensures, c .if4 .taken))))
+returns-4 c =
+    let args = c .before .before .before .before .before .before .before .before .args in
+    let good = c .before .before .before .before .before .before .before .before .good in
+    let pre = c .before .before .before .before .before .before .before .before .pre in
+    let start-key = c .before .before .before .before .start-key in
+    let if3 = c .before .before .before .if3 in
+    let ps = args .t1 in
+    ap gives
+    (sym
+    (sample-last _ _ (ps .places) (ps .count) (args .sample) (inside ps _ (good .0) (pre .0)) (omega arith) (omega (arith, start-key .ensures, if3 .left))
+    (omega (arith, c .before .sample-key .ensures, c .if4 .taken))))
 
 loop-holds : tie.Need-loop-holds Inv-loop μ-loop
-loop-holds c = search-start sampleKey anyPoint (c .before .before .before .before .before .before .before .before .args .sample) (c .before .before .before .before .before .before .before .before .args .t1 .places) (c .before .before .before .before .before .before .before .before .args .t1 .count)
+loop-holds c =
+    let args = c .before .before .before .before .before .before .before .before .args in
+    search-start sampleKey anyPoint (args .sample) (args .t1 .places) (args .t1 .count)
 
 sub-mid : tie.Need-sub-mid Inv-loop μ-loop
 sub-mid c = omega arith
 
 add-mid : tie.Need-add-mid Inv-loop μ-loop
-add-mid c = omega (arith, valid-count (c .before .before .before .before .before .before .before .before .before .before .args .t1) (c .before .before .before .before .before .before .before .before .before .before .pre .0))
+add-mid c =
+    let args = c .before .before .before .before .before .before .before .before .before .before .args in
+    let pre = c .before .before .before .before .before .before .before .before .before .before .pre in
+    omega (arith, valid-count (args .t1) (pre .0))
 
 mul-p : tie.Need-mul-p Inv-loop μ-loop
-mul-p c = omega (arith, valid-count (c .before .before .before .before .before .before .before .before .before .before .args .t1) (c .before .before .before .before .before .before .before .before .before .before .pre .0))
+mul-p c =
+    let args = c .before .before .before .before .before .before .before .before .before .before .args in
+    let pre = c .before .before .before .before .before .before .before .before .before .before .pre in
+    omega (arith, valid-count (args .t1) (pre .0))
 
 element-copy-out-p : tie.Need-element-copy-out-p Inv-loop μ-loop
-element-copy-out-p c = omega (arith, valid-count (c .before .before .before .before .before .before .before .before .before .before .args .t1) (c .before .before .before .before .before .before .before .before .before .before .pre .0))
+element-copy-out-p c =
+    let args = c .before .before .before .before .before .before .before .before .before .before .args in
+    let pre = c .before .before .before .before .before .before .before .before .before .before .pre in
+    omega (arith, valid-count (args .t1) (pre .0))
 
 sample-key-requires-2 : tie.Need-sample-key-requires-2 Inv-loop μ-loop
 sample-key-requires-2 c κs = tt
 
 add-low : tie.Need-add-low Inv-loop μ-loop
-add-low c = omega (arith, valid-count (c .before .before .before .before .before .before .before .before .before .before .before .before .before .args .t1) (c .before .before .before .before .before .before .before .before .before .before .before .before .before .pre .0))
+add-low c =
+    let args = c .before .before .before .before .before .before .before .before .before .before .before .before .before .args in
+    let pre = c .before .before .before .before .before .before .before .before .before .before .before .before .before .pre in
+    omega (arith, valid-count (args .t1) (pre .0))
 
 loop-less : tie.Need-loop-less Inv-loop μ-loop
 loop-less c = omega arith
 
 loop-again : tie.Need-loop-again Inv-loop μ-loop
-loop-again c = let ps = c .before .before .before .before .before .before .before .before .before .before .before .before .before .args .t1 in
+loop-again c =
+    let args = c .before .before .before .before .before .before .before .before .before .before .before .before .before .args in
+    let pre = c .before .before .before .before .before .before .before .before .before .before .before .before .before .pre in
+    let good = c .before .before .before .before .before .before .before .before .before .before .before .before .before .good in
+    let ps = args .t1 in
     let h = c .before .before .before .before .loop in
-    search-up sampleKey anyPoint (c .before .before .before .before .before .before .before .before .before .before .before .before .before .args .sample) (ps .places) (ps .count) (h .low) (h .high) (h .low + (h .high - h .low) / 2) (h .inv)
-    (c .before .before .before .before .before .before .before .before .before .before .before .before .before .pre .1) (inside ps _ (c .before .before .before .before .before .before .before .before .before .before .before .before .before .good .0) (c .before .before .before .before .before .before .before .before .before .before .before .before .before .pre .0)) (omega arith) (omega (arith, c .before .sample-key2 .ensures, c .if5 .taken))
+    search-up sampleKey anyPoint (args .sample) (ps .places) (ps .count) (h .low) (h .high) (h .low + (h .high - h .low) / 2) (h .inv)
+    (pre .1) (inside ps _ (good .0) (pre .0)) (omega arith) (omega (arith, c .before .sample-key2 .ensures, c .if5 .taken))
 
 loop-less-2 : tie.Need-loop-less-2 Inv-loop μ-loop
 loop-less-2 c = omega arith
 
 loop-again-2 : tie.Need-loop-again-2 Inv-loop μ-loop
-loop-again-2 c = let ps = c .before .before .before .before .before .before .before .before .before .before .before .before .before .args .t1 in
+loop-again-2 c =
+    let args = c .before .before .before .before .before .before .before .before .before .before .before .before .before .args in
+    let ps = args .t1 in
     let h = c .before .before .before .before .loop in
-    search-down sampleKey anyPoint (c .before .before .before .before .before .before .before .before .before .before .before .before .before .args .sample) (ps .places) (ps .count) (h .low) (h .high) (h .low + (h .high - h .low) / 2) (h .inv)
+    search-down sampleKey anyPoint (args .sample) (ps .places) (ps .count) (h .low) (h .high) (h .low + (h .high - h .low) / 2) (h .inv)
     (omega arith) (omega arith) (omega (arith, c .before .sample-key2 .ensures, c .if5 .left))
 
 previous-requires : tie.Need-previous-requires Inv-loop μ-loop
@@ -98,10 +141,16 @@ within-requires : tie.Need-within-requires Inv-loop μ-loop
 within-requires c κs = tt
 
 mul-p-2 : tie.Need-mul-p-2 Inv-loop μ-loop
-mul-p-2 c = omega (arith, valid-count (c .before .before .before .before .before .before .before .before .before .before .before .before .args .t1) (c .before .before .before .before .before .before .before .before .before .before .before .before .pre .0), c .before .previous .ensures)
+mul-p-2 c =
+    let args = c .before .before .before .before .before .before .before .before .before .before .before .before .args in
+    let pre = c .before .before .before .before .before .before .before .before .before .before .before .before .pre in
+    omega (arith, valid-count (args .t1) (pre .0), c .before .previous .ensures)
 
 element-copy-out-p-2 : tie.Need-element-copy-out-p-2 Inv-loop μ-loop
-element-copy-out-p-2 c = omega (arith, valid-count (c .before .before .before .before .before .before .before .before .before .before .before .before .args .t1) (c .before .before .before .before .before .before .before .before .before .before .before .before .pre .0), c .before .previous .ensures)
+element-copy-out-p-2 c =
+    let args = c .before .before .before .before .before .before .before .before .before .before .before .before .args in
+    let pre = c .before .before .before .before .before .before .before .before .before .before .before .before .pre in
+    omega (arith, valid-count (args .t1) (pre .0), c .before .previous .ensures)
 
 mul-q : tie.Need-mul-q Inv-loop μ-loop
 mul-q c = omega (arith, c .before .within .ensures)
@@ -113,11 +162,24 @@ around-requires : tie.Need-around-requires Inv-loop μ-loop
 around-requires c κs = tt
 
 returns-5 : tie.Need-returns-5 Inv-loop μ-loop
-returns-5 c = let ps = c .before .before .before .before .before .before .before .before .before .before .before .before .before .before .before .args .t1 in
+returns-5 c =
+    let args = c .before .before .before .before .before .before .before .before .before .before .before .before .before .before .before .args in
+    let good = c .before .before .before .before .before .before .before .before .before .before .before .before .before .before .before .good in
+    let pre = c .before .before .before .before .before .before .before .before .before .before .before .before .before .before .before .pre in
+    let start-key = c .before .before .before .before .before .before .before .before .before .before .before .start-key in
+    let if3 = c .before .before .before .before .before .before .before .before .before .before .if3 in
+    let sample-key = c .before .before .before .before .before .before .before .before .sample-key in
+    let if4 = c .before .before .before .before .before .before .before .if4 in
+    let previous = c .before .before .before .before .previous in
+    let within = c .before .before .before .within in
+    let ps = args .t1 in
     let h = c .before .before .before .before .before .before .loop in
-    let f = inside ps _ (c .before .before .before .before .before .before .before .before .before .before .before .before .before .before .before .good .0) (c .before .before .before .before .before .before .before .before .before .before .before .before .before .before .before .pre .0) in
-    let e = search-end sampleKey anyPoint (c .before .before .before .before .before .before .before .before .before .before .before .before .before .before .before .args .sample) (ps .places) (ps .count) (h .low) (h .high) (h .inv) f (omega arith) in
-    c .around .ensures ∙ ap gives (sample-around _ _ (ps .places) (ps .count) (c .before .before .before .before .before .before .before .before .before .before .before .before .before .before .before .args .sample) f (omega arith) (omega (arith, c .before .before .before .before .before .before .before .before .before .before .before .start-key .ensures, c .before .before .before .before .before .before .before .before .before .before .if3 .left)) (omega (arith, c .before .before .before .before .before .before .before .before .sample-key .ensures, c .before .before .before .before .before .before .before .if4 .left)) (h .low) e _ _ (ap (pointAt (ps .places)) (c .before .before .before .before .previous .ensures)) (at-place (ps .places) (h .low) _ (ps .count) (c .before .before .before .within .ensures) (valid-count ps (c .before .before .before .before .before .before .before .before .before .before .before .before .before .before .before .pre .0))))
+    let f = inside ps _ (good .0) (pre .0) in
+    let e = search-end sampleKey anyPoint (args .sample) (ps .places) (ps .count) (h .low) (h .high) (h .inv) f (omega arith) in
+    c .around .ensures
+    ∙ ap gives
+    (sample-around _ _ (ps .places) (ps .count) (args .sample) f (omega arith) (omega (arith, start-key .ensures, if3 .left)) (omega (arith, sample-key .ensures, if4 .left))
+    (h .low) e _ _ (ap (pointAt (ps .places)) (previous .ensures)) (at-place (ps .places) (h .low) _ (ps .count) (within .ensures) (valid-count ps (pre .0))))
 
 pub raw-at-sample-spec : {M : Type 1} → statement M
 raw-at-sample-spec =

@@ -20,7 +20,11 @@ u64-to-f32-requires-2 c κs = search needs
 
 returns : tie.Need-returns
 unfolding sampleFraction
-returns c = rw (← c .before .before .before .before .saturating-sub .ensures, ← c .before .before .saturating-sub2 .ensures, lt-ltb _ _ (c .before .before .before .if1 .taken)) (λ i. div binary32 (c .before .u64-to-f32 .ensures i) (c .u64-to-f322 .ensures i))
+returns c =
+    let saturating-sub = c .before .before .before .before .saturating-sub in
+    let if1 = c .before .before .before .if1 in
+    let saturating-sub2 = c .before .before .saturating-sub2 in
+    rw (← saturating-sub .ensures, ← saturating-sub2 .ensures, lt-ltb _ _ (if1 .taken)) (λ i. div binary32 (c .before .u64-to-f32 .ensures i) (c .u64-to-f322 .ensures i))
 
 returns-2 : tie.Need-returns-2
 unfolding sampleFraction

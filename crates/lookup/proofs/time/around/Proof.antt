@@ -21,13 +21,27 @@ between-requires-2 : tie.Need-between-requires-2
 between-requires-2 c κs = search needs
 
 returns : tie.Need-returns
-returns c = rw (lt-ltb _ _ (c .before .before .before .before .if1 .taken), eq-eqb _ _ (sym (c .before .before .before .order-key .ensures) ∙ c .before .if2 .taken ∙ c .before .before .order-key2 .ensures)) (ap (λ (v : Float). gives (some v)) (c .between .ensures))
+returns c =
+    let if1 = c .before .before .before .before .if1 in
+    let order-key = c .before .before .before .order-key in
+    let order-key2 = c .before .before .order-key2 in
+    rw (lt-ltb _ _ (if1 .taken), eq-eqb _ _ (sym (order-key .ensures) ∙ c .before .if2 .taken ∙ order-key2 .ensures)) (ap (λ (v : Float). gives (some v)) (c .between .ensures))
 
 returns-2 : tie.Need-returns-2
-returns-2 c = rw (lt-ltb _ _ (c .before .before .before .before .before .if1 .taken), ne-eqb _ _ (λ e. c .before .before .if2 .left (c .before .before .before .before .order-key .ensures ∙ e ∙ sym (c .before .before .before .order-key2 .ensures))), lt-ltb _ _ (c .before .if3 .taken)) (ap (λ (v : Float). gives (some v)) (c .between2 .ensures))
+returns-2 c =
+    let if1 = c .before .before .before .before .before .if1 in
+    let order-key = c .before .before .before .before .order-key in
+    let order-key2 = c .before .before .before .order-key2 in
+    let if2 = c .before .before .if2 in
+    rw (lt-ltb _ _ (if1 .taken), ne-eqb _ _ (λ e. if2 .left (order-key .ensures ∙ e ∙ sym (order-key2 .ensures))), lt-ltb _ _ (c .before .if3 .taken))
+    (ap (λ (v : Float). gives (some v)) (c .between2 .ensures))
 
 returns-3 : tie.Need-returns-3
-returns-3 c = rw (lt-ltb _ _ (c .before .before .before .before .if1 .taken), ne-eqb _ _ (λ e. c .before .if2 .left (c .before .before .before .order-key .ensures ∙ e ∙ sym (c .before .before .order-key2 .ensures))), le-ltb _ _ (c .if3 .left))
+returns-3 c =
+    let if1 = c .before .before .before .before .if1 in
+    let order-key = c .before .before .before .order-key in
+    let order-key2 = c .before .before .order-key2 in
+    rw (lt-ltb _ _ (if1 .taken), ne-eqb _ _ (λ e. c .before .if2 .left (order-key .ensures ∙ e ∙ sym (order-key2 .ensures))), le-ltb _ _ (c .if3 .left))
 
 returns-4 : tie.Need-returns-4
 returns-4 c = rw (le-ltb _ _ (c .if1 .left))

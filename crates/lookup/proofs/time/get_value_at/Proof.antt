@@ -1,6 +1,6 @@
 -- `lookup::time::get_value_at` meets its contract. Assumes nothing.
 use mathlib.Core.Path.{sym, _∙_}
-use Rattle.points.specs.Laws.{and-right}
+use Rattle.points.proofs.Laws.{and-right}
 use Rattle.points.specs.Points.{validPoints}
 use Rattle.lookup.specs.Limits.{finiteLimits}
 use Rattle.lookup.specs.Lookup.{getValueAt}
@@ -12,7 +12,9 @@ is-valid-requires : tie.Need-is-valid-requires
 is-valid-requires c κs = search needs
 
 value-at-requires : tie.Need-value-at-requires
-value-at-requires c κs = and-right (finiteLimits (c .before .before .args .limits)) (validPoints (c .before .before .args .points)) (sym (c .before .is-valid .ensures) ∙ c .if1 .taken)
+value-at-requires c κs =
+    let args = c .before .before .args in
+    and-right (finiteLimits (args .limits)) (validPoints (args .points)) (sym (c .before .is-valid .ensures) ∙ c .if1 .taken)
 
 returns : tie.Need-returns
 unfolding getValueAt

@@ -2,7 +2,7 @@
 -- Assumes nothing.
 use lib.Ieee.{binary32, toBits}
 use borrow.Author.Needs.{needs}
-use Rattle.numbers.specs.Tests.{equals-itself}
+use Rattle.numbers.proofs.Tests.{equals-itself}
 use Rattle.numbers.proofs.BitLaws.{nan-bits}
 use Rattle.numbers.proofs.bits.to_bitsf.Statement.{statement}
 use Rattle.numbers.proofs.bits.to_bitsf.Tie as tie

@@ -1,4 +1,5 @@
--- `numbers::convert::f64_to_f32` meets its contract. Between the two bounds the pattern is rounded where it stands (`plain` of `Narrowing.antt`); a NaN gives 0.0 / 0.0; any other value is read back from the pattern that `narrow_bits` gives.
+-- `numbers::convert::f64_to_f32` meets its contract. Between the two bounds the pattern is rounded where it stands (`plain` of `Narrowing.antt`); a NaN gives
+-- 0.0 / 0.0; any other value is read back from the pattern that `narrow_bits` gives.
 -- Assumes nothing.
 use mathlib.Core.Path.{_≡_, refl, sym, ap, _∙_, subst}
 use mathlib.Core.Bool.{Bool, true, false, not, cond}
@@ -11,7 +12,7 @@ use lib.Ieee.Compare.{differs-from-itself}
 use borrow.Author.Tests.{ltb-false}
 use Rattle.numbers.specs.Narrow.{narrow}
 use Rattle.numbers.specs.Order.{orderKey}
-use Rattle.numbers.specs.Tests.{yes, no, equals-itself}
+use Rattle.numbers.proofs.Tests.{yes, no, equals-itself}
 use Rattle.numbers.proofs.BitLaws.{zero-by-zero, number-read}
 use Rattle.numbers.proofs.Compare.{lt-left, lt-key}
 use Rattle.numbers.proofs.Narrowing.{narrow-fits, narrow-number, plain}
@@ -50,9 +51,12 @@ unfolding orderKey
 key-is x = refl
 
 between : (x : Float) → T (fits binary64 x) → lt lo x ≡ true → lt x hi ≡ true → (897 * 2 ^ 52 ≤ toBits binary64 x) × (toBits binary64 x < 1151 * 2 ^ 52)
-between x F p q = go (orderKey x) (toBits binary64 x) (ltb (toBits binary64 x) 0x8000_0000_0000_0000) refl (key-is x) (rw key-lo at (lt-key lo x (ofBits-fits binary64 _) F p)) (rw key-hi at (lt-key x hi F (ofBits-fits binary64 _) q))
+between x F p q =
+    go (orderKey x) (toBits binary64 x) (ltb (toBits binary64 x) 0x8000_0000_0000_0000) refl (key-is x) (rw key-lo at (lt-key lo x (ofBits-fits binary64 _) F p))
+    (rw key-hi at (lt-key x hi F (ofBits-fits binary64 _) q))
   where
-    go : (k b : ℕ) (t : Bool) → ltb b 0x8000_0000_0000_0000 ≡ t → k ≡ cond t (b + 0x8000_0000_0000_0000) (0xFFFF_FFFF_FFFF_FFFF - b) → 0xB810_0000_0000_0000 < k → k < 0xC7F0_0000_0000_0000 → (4039728865751334912 ≤ b) × (b < 5183643171103440896)
+    go : (k b : ℕ) (t : Bool) → ltb b 0x8000_0000_0000_0000 ≡ t → k ≡ cond t (b + 0x8000_0000_0000_0000) (0xFFFF_FFFF_FFFF_FFFF - b) → 0xB810_0000_0000_0000 < k
+        → k < 0xC7F0_0000_0000_0000 → (4039728865751334912 ≤ b) × (b < 5183643171103440896)
     go k b true e h l r = (omega arith, omega arith)
     go k b false e h l r = absurd (omega (arith, ltb-false b 0x8000_0000_0000_0000 e))
 
@@ -109,7 +113,9 @@ returns : tie.Need-returns
 returns c = narrow-back (x c) _ (number c) (rounded c)
 
 returns-2 : tie.Need-returns-2
-returns-2 c = zero-by-zero binary32 ∙ narrow-nan ∙ ap narrow (sym (differs-from-itself (c .before .before .args .x) (yes (c .if3 .taken))))
+returns-2 c =
+    let args = c .before .before .args in
+    zero-by-zero binary32 ∙ narrow-nan ∙ ap narrow (sym (differs-from-itself (args .x) (yes (c .if3 .taken))))
 
 -- ---- the general way
 module _ (c : tie.Else3) where

@@ -9,7 +9,7 @@ use lib.IntN.{pos}
 use lib.Dec.{T, T-not, ltb, lt→ltb, nltb→le}
 use lib.Ieee.{Float, nan, inf, fin, up, down, lt, toUnsigned, ofBits, neg}
 use lib.Ieee.Fits.{down-pos}
-use Rattle.numbers.specs.Tests.{yes, no}
+use Rattle.numbers.proofs.Tests.{yes, no}
 use borrow.Author.Needs.{needs}
 use Rattle.numbers.proofs.convert.f64_to_u64.Statement.{statement}
 use Rattle.numbers.proofs.convert.f64_to_u64.Tie as tie

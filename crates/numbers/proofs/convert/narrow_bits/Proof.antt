@@ -55,13 +55,18 @@ nearest-shr-requires : tie.Need-nearest-shr-requires
 nearest-shr-requires c κs = search needs
 
 add-result : tie.Need-add-result
-add-result c = omega (arith, kept (c .before .before .before .args .b) _ (c .nearest-shr .result) (c .nearest-shr .ensures))
+add-result c =
+    let args = c .before .before .before .args in
+    omega (arith, kept (args .b) _ (c .nearest-shr .result) (c .nearest-shr .ensures))
 
 returns-2 : tie.Need-returns-2
 returns-2 c =
-    let b = c .before .before .before .args .b in
+    let entry = c .before .before .before in
+    let args = entry .args in
+    let if1 = c .before .before .if1 in
+    let b = args .b in
     ap (λ (x : ℕ). b / 2 ^ 63 * 2147483648 + x) (c .nearest-shr .ensures)
-    ∙ by b (closest (2 ^ 52 + t b) (2 ^ (926 - e b))) (c .before .before .before .fits .b .fits) (little (s b) (t b) (t-lt b) (e b) (c .before .before .if1 .left) (c .before .if2 .taken))
+    ∙ by b (closest (2 ^ 52 + t b) (2 ^ (926 - e b))) (entry .fits .b .fits) (little (s b) (t b) (t-lt b) (e b) (if1 .left) (c .before .if2 .taken))
 
 mul-result : tie.Need-mul-result
 mul-result c = search needs
@@ -73,16 +78,23 @@ nearest-shr-requires-2 : tie.Need-nearest-shr-requires-2
 nearest-shr-requires-2 c κs = search needs
 
 add-result-2 : tie.Need-add-result-2
-add-result-2 c = omega (arith, kept (c .before .before .before .before .args .b) 29 (c .nearest-shr2 .result) (c .nearest-shr2 .ensures))
+add-result-2 c =
+    let args = c .before .before .before .before .args in
+    omega (arith, kept (args .b) 29 (c .nearest-shr2 .result) (c .nearest-shr2 .ensures))
 
 add-result-3 : tie.Need-add-result-3
-add-result-3 c = omega (arith, kept (c .before .before .before .before .args .b) 29 (c .nearest-shr2 .result) (c .nearest-shr2 .ensures))
+add-result-3 c =
+    let args = c .before .before .before .before .args in
+    omega (arith, kept (args .b) 29 (c .nearest-shr2 .result) (c .nearest-shr2 .ensures))
 
 returns-3 : tie.Need-returns-3
 returns-3 c =
-    let b = c .before .before .before .before .args .b in
+    let entry = c .before .before .before .before in
+    let args = entry .args in
+    let if2 = c .before .before .if2 in
+    let b = args .b in
     ap (λ (x : ℕ). b / 2 ^ 63 * 2147483648 + ((e b - 897) * 8388608 + x)) (c .nearest-shr2 .ensures)
-    ∙ by b ((e b - 897) * 2 ^ 23 + closest (2 ^ 52 + t b) (2 ^ 29)) (c .before .before .before .before .fits .b .fits) (medium (s b) (t b) (t-lt b) (e b) (c .before .before .if2 .left) (c .before .if3 .taken))
+    ∙ by b ((e b - 897) * 2 ^ 23 + closest (2 ^ 52 + t b) (2 ^ 29)) (entry .fits .b .fits) (medium (s b) (t b) (t-lt b) (e b) (if2 .left) (c .before .if3 .taken))
 
 add-result-4 : tie.Need-add-result-4
 add-result-4 c = search needs
@@ -91,7 +103,8 @@ returns-4 : tie.Need-returns-4
 returns-4 c =
     let start = c .before .before .before in
     let b = start .args .b in
-    by b 2139095040 (start .fits .b .fits) (huge (s b) (t b) (t-lt b) (e b) (c .if3 .left) (mod-lt (b / 2 ^ 52) (zero-lt-suc 2047)) (subst (λ (x : Float). T (not (isNan x))) (sym (read b)) (start .pre)))
+    by b 2139095040 (start .fits .b .fits)
+    (huge (s b) (t b) (t-lt b) (e b) (c .if3 .left) (mod-lt (b / 2 ^ 52) (zero-lt-suc 2047)) (subst (λ (x : Float). T (not (isNan x))) (sym (read b)) (start .pre)))
 
 pub narrow-bits-spec : {M : Type 1} → statement M
 narrow-bits-spec =

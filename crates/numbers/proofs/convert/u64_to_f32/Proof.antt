@@ -38,7 +38,8 @@ topped n lo hi =
       few = less z j (t .1) (pow-lt-back 24 (suc j) (lt-of-lt-of-le lo (le-of-lt (t .3))));
       is = mod-eq-of-lt below;
       under = below;
-      reaches = subst (λ (x : ℕ). 2 ^ x ≤ 2 * (n * 2 ^ z)) (next z j (t .1)) (le-trans (le-of-eq (pow-succ' 2 (j + z) ∙ ap (λ (x : ℕ). 2 * x) (pow-add 2 j z))) (mul-le-mul-left 2 (mul-le-mul-right (2 ^ z) (t .2))));
+      reaches = subst (λ (x : ℕ). 2 ^ x ≤ 2 * (n * 2 ^ z)) (next z j (t .1))
+          (le-trans (le-of-eq (pow-succ' 2 (j + z) ∙ ap (λ (x : ℕ). 2 * x) (pow-add 2 j z))) (mul-le-mul-left 2 (mul-le-mul-right (2 ^ z) (t .2))));
     }
   where
     less : (z j : ℕ) → z + suc j ≡ 64 → 24 < suc j → z < 40

@@ -1,7 +1,7 @@
 -- `numbers::order::is_finite` meets its contract.
 -- Assumes nothing.
 use lib.Ieee.{div, neg, ofBits}
-use Rattle.numbers.specs.Tests.{finite-test}
+use Rattle.numbers.proofs.Tests.{finite-test}
 use Rattle.numbers.proofs.order.is_finite.Statement.{statement}
 use Rattle.numbers.proofs.order.is_finite.Tie as tie
 

@@ -8,8 +8,8 @@ use lib.Ieee.Compare.{differs-from-itself}
 use borrow.Author.Needs.{needs}
 use borrow.Author.Tests.{lt-ltb, le-ltb}
 use Rattle.numbers.specs.Order.{orderKey}
-use Rattle.numbers.specs.OrderLaws.{key-nan}
-use Rattle.numbers.specs.Tests.{yes, equals-itself}
+use Rattle.numbers.proofs.OrderLaws.{key-nan}
+use Rattle.numbers.proofs.Tests.{yes, equals-itself}
 use Rattle.numbers.proofs.order.order_key.Statement.{statement}
 use Rattle.numbers.proofs.order.order_key.Tie as tie
 

@@ -8,10 +8,10 @@ use lib.Ieee.{Float, binary64, fits}
 use borrow.Author.Needs.{needs}
 use borrow.Author.Tests.{lt-ltb, le-ltb}
 use Rattle.numbers.specs.Order.{before, totalOf, orderKey}
-use Rattle.numbers.specs.OrderLaws.{before-key}
+use Rattle.numbers.proofs.OrderLaws.{before-key}
 use Rattle.numbers.specs.declared.order.Ordering.{Ordering}
 use Rattle.numbers.specs.declared.order.Ordering.the-variants.{Less, Equal, Greater}
-use Rattle.numbers.specs.Tests.{yes}
+use Rattle.numbers.proofs.Tests.{yes}
 use Rattle.numbers.proofs.order.total_cmp.Statement.{statement}
 use Rattle.numbers.proofs.order.total_cmp.Tie as tie
 
@@ -25,7 +25,9 @@ is x y = refl
 by-keys : (x y : Float) → T (fits binary64 x) → T (fits binary64 y) → (a b : ℕ) → a ≡ orderKey x → b ≡ orderKey y → order (ltb a b) (ltb b a) ≡ totalOf x y
 by-keys x y F G a b p q = sym (is x y ∙ rw (before-key x y F G, before-key y x G F, p, q))
 
-at : (c : tie.After-order-key2) → order (ltb (c .before .order-key .result) (c .order-key2 .result)) (ltb (c .order-key2 .result) (c .before .order-key .result)) ≡ totalOf (c .before .before .args .x) (c .before .before .args .y)
+at : (c : tie.After-order-key2) →
+    let args = c .before .before .args in
+    order (ltb (c .before .order-key .result) (c .order-key2 .result)) (ltb (c .order-key2 .result) (c .before .order-key .result)) ≡ totalOf (args .x) (args .y)
 at c =
     let s = c .before .before in
     by-keys (s .args .x) (s .args .y) (yes (s .good .0 .1)) (yes (s .good .1 .0 .1)) _ _ (c .before .order-key .ensures) (c .order-key2 .ensures)

@@ -5,7 +5,7 @@ use native.Mathlib.Omega.{arith}
 use lib.Dec.{le→leb}
 use lib.Ieee.{inFloat}
 use borrow.Author.Needs.{needs}
-use Rattle.numbers.specs.Tests.{no}
+use Rattle.numbers.proofs.Tests.{no}
 use Rattle.numbers.proofs.Compare.{lt-right}
 use Rattle.numbers.proofs.root.guess.Statement.{statement}
 use Rattle.numbers.proofs.root.guess.Tie as tie

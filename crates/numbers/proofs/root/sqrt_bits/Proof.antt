@@ -35,7 +35,9 @@ root-bits-requires : tie.Need-root-bits-requires
 root-bits-requires c κs = (le-trans (at c .reaches) (le-of-eq (sym (at c .is))), lt-of-le-of-lt (le-of-eq (at c .is)) (at c .fits), omega (arith, at c .most), omega arith)
 
 returns-2 : tie.Need-returns-2
-returns-2 c = let d = c .before .before .before in c .root-bits .ensures ∙ ap (toBits binary32) (subnormal (d .args .b) (d .pre .1) (c .before .if2 .taken))
+returns-2 c =
+    let d = c .before .before .before in
+    c .root-bits .ensures ∙ ap (toBits binary32) (subnormal (d .args .b) (d .pre .1) (c .before .if2 .taken))
 
 add-root-bits : tie.Need-add-root-bits
 add-root-bits c = search needs
@@ -47,7 +49,10 @@ root-bits-requires-2 : tie.Need-root-bits-requires-2
 root-bits-requires-2 c κs = search needs
 
 returns-3 : tie.Need-returns-3
-returns-3 c = let d = c .before .before .before in c .root-bits2 .ensures ∙ ap (toBits binary32) (normal (d .args .b) (d .pre .1) (c .before .before .if1 .left) (c .before .if2 .left))
+returns-3 c =
+    let if1 = c .before .before .if1 in
+    let d = c .before .before .before in
+    c .root-bits2 .ensures ∙ ap (toBits binary32) (normal (d .args .b) (d .pre .1) (if1 .left) (c .before .if2 .left))
 
 pub sqrt-bits-spec : {M : Type 1} → statement M
 sqrt-bits-spec =

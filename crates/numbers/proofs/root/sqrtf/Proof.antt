@@ -6,7 +6,7 @@ use lib.Dec.{T, lit≤}
 use lib.Ieee.{Float, nan, binary32, lt, fits, ofBits, toBits}
 use lib.Ieee.Bits.{ofBits-toBits, toBits-lt}
 use Rattle.numbers.specs.Root.{sqrt}
-use Rattle.numbers.specs.Tests.{yes, no}
+use Rattle.numbers.proofs.Tests.{yes, no}
 use Rattle.numbers.proofs.BitLaws.{zero-by-zero}
 use Rattle.numbers.proofs.Rounded.{bits-lt, bits-back, bits-no-nan}
 use Rattle.numbers.proofs.RootFields.{nought, over-number, sqrt-over, zero-root, no-root}
@@ -40,13 +40,19 @@ sqrt-bits-requires : tie.Need-sqrt-bits-requires
 sqrt-bits-requires c κs = (toBits-lt binary32 (x c) (held c), subst (λ (v : Float). T (lt nought v)) (sym (back c)) (over c))
 
 cast-result : tie.Need-cast-result
-cast-result c = let o = sqrt-over binary32 (x (c .before)) (over (c .before)) in record { fits = bits-lt binary32 (sqrt binary32 (x (c .before))) (c .sqrt-bits .result) (o .0) (o .1) (is c) }
+cast-result c =
+    let o = sqrt-over binary32 (x (c .before)) (over (c .before)) in
+    record { fits = bits-lt binary32 (sqrt binary32 (x (c .before))) (c .sqrt-bits .result) (o .0) (o .1) (is c) }
 
 float-from-bits-result : tie.Need-float-from-bits-result
-float-from-bits-result c = let o = sqrt-over binary32 (x (c .before)) (over (c .before)) in bits-no-nan binary32 (sqrt binary32 (x (c .before))) (c .sqrt-bits .result) (o .0) (o .1) (is c)
+float-from-bits-result c =
+    let o = sqrt-over binary32 (x (c .before)) (over (c .before)) in
+    bits-no-nan binary32 (sqrt binary32 (x (c .before))) (c .sqrt-bits .result) (o .0) (o .1) (is c)
 
 returns : tie.Need-returns
-returns c = let o = sqrt-over binary32 (x (c .before)) (over (c .before)) in bits-back binary32 (sqrt binary32 (x (c .before))) (c .sqrt-bits .result) (o .0) (o .1) (is c)
+returns c =
+    let o = sqrt-over binary32 (x (c .before)) (over (c .before)) in
+    bits-back binary32 (sqrt binary32 (x (c .before))) (c .sqrt-bits .result) (o .0) (o .1) (is c)
 
 returns-2 : tie.Need-returns-2
 unfolding ofBits

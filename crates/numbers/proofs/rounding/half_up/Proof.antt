@@ -6,7 +6,7 @@ use native.Mathlib.Omega.{arith}
 use lib.IntN.{pos}
 use lib.Dec.{T, le→leb}
 use lib.Ieee.{binary64, fits, ofInt, ofBits, inFloat}
-use Rattle.numbers.specs.Tests.{yes, no}
+use Rattle.numbers.proofs.Tests.{yes, no}
 use Rattle.numbers.proofs.Halves.{Up, up-of, stays}
 use Rattle.numbers.proofs.rounding.half_up.Statement.{statement}
 use Rattle.numbers.proofs.rounding.half_up.Tie as tie

@@ -3,7 +3,7 @@
 use mathlib.Core.Path.{ap, _∙_}
 use lib.Ieee.{binary32, neg, ofBits}
 use borrow.Author.Needs.{needs}
-use Rattle.numbers.specs.Tests.{yes, no}
+use Rattle.numbers.proofs.Tests.{yes, no}
 use Rattle.numbers.proofs.Halves.{turned, turned-over, neither}
 use Rattle.numbers.proofs.rounding.roundf.Statement.{statement}
 use Rattle.numbers.proofs.rounding.roundf.Tie as tie
@@ -24,7 +24,10 @@ returns-2 c = ap neg (c .half-upf2 .ensures) ∙ turned binary32 (c .before .bef
 
 returns-3 : tie.Need-returns-3
 unfolding ofBits
-returns-3 c = neither binary32 (c .before .before .args .x) (yes (c .before .before .good .0 .1)) (no (c .before .if1 .left)) (no (c .if2 .left))
+returns-3 c =
+    let entry = c .before .before in
+    let args = entry .args in
+    neither binary32 (args .x) (yes (entry .good .0 .1)) (no (c .before .if1 .left)) (no (c .if2 .left))
 
 pub roundf-spec : {M : Type 1} → statement M
 roundf-spec =

@@ -16,7 +16,13 @@ same-length : tie.Need-same-length
 same-length c = search needs
 
 returns : tie.Need-returns
-returns c = line-made (c .before .before .before .before .before .before .before .before .before .before .args .number) (c .before .before .before .before .before .before .before .before .before .before .args .x) (c .before .before .before .before .before .before .before .before .before .before .pre) (c .before .before .before .before .before .before .before .fit-decimal .ensures) (rw (c .before .before .before .to-bitsf .ensures) at (c .before .before .fit-bits .ensures))
+returns c =
+    let entry = c .before .before .before .before .before .before .before .before .before .before in
+    let args = entry .args in
+    let fit-decimal = c .before .before .before .before .before .before .before .fit-decimal in
+    let to-bitsf = c .before .before .before .to-bitsf in
+    let fit-bits = c .before .before .fit-bits in
+    line-made (args .number) (args .x) (entry .pre) (fit-decimal .ensures) (rw (to-bitsf .ensures) at (fit-bits .ensures))
 
 pub put-line-spec : {M : Type 1} → statement M
 put-line-spec =

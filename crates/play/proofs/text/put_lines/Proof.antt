@@ -9,9 +9,6 @@ use Rattle.play.specs.Play.{sampleLines}
 use Rattle.play.proofs.Texts.{line-room, line-put}
 use Rattle.play.proofs.text.put_lines.Statement.{statement}
 use Rattle.play.proofs.text.put_lines.Tie as tie
-use Rattle.play.proofs.text.put_lines.Reads as reads
-use Rattle.play.proofs.text.put_lines.Lts as lts
-use Rattle.play.proofs.text.put_line.Reads as put-line-reads
 
 abbrev Inv-loop : tie.InvT-loop
 Inv-loop out₀ samples first n at₀ i₀ out at i = (i ≤ n) × Put out₀ 0 (sampleLines first (take i samples)) out at
@@ -36,7 +33,10 @@ element-copy-out-put-line : tie.Need-element-copy-out-put-line Inv-loop μ-loop
 element-copy-out-put-line c = omega arith
 
 put-line-requires : tie.Need-put-line-requires Inv-loop μ-loop
-put-line-requires c κs = line-room (c .before .before .before .before .before .args .first) (c .before .before .before .loop .i) (c .before .before .before .before .before .args .samples .now) nan (omega arith) (c .before .before .before .loop .inv .1) (c .before .before .before .before .before .args .n) (omega arith) (omega arith)
+put-line-requires c κs =
+    let args = c .before .before .before .before .before .args in
+    let loop = c .before .before .before .loop in
+    line-room (args .first) (loop .i) (args .samples .now) nan (omega arith) (loop .inv .1) (args .n) (omega arith) (omega arith)
 
 add-i : tie.Need-add-i Inv-loop μ-loop
 add-i c = omega arith
@@ -45,13 +45,20 @@ loop-less : tie.Need-loop-less Inv-loop μ-loop
 loop-less c = omega arith
 
 loop-again : tie.Need-loop-again Inv-loop μ-loop
-loop-again c = (omega arith, line-put (c .before .before .before .before .before .before .before .before .args .first) (c .before .before .before .before .before .before .loop .i) (c .before .before .before .before .before .before .before .before .args .samples .now) nan (omega arith) (c .before .before .before .before .before .before .loop .inv .1) (c .before .before .put-line .ensures))
+loop-again c =
+    let args = c .before .before .before .before .before .before .before .before .args in
+    let loop = c .before .before .before .before .before .before .loop in
+    let put-line = c .before .before .put-line in
+    (omega arith, line-put (args .first) (loop .i) (args .samples .now) nan (omega arith) (loop .inv .1) (put-line .ensures))
 
 same-length : tie.Need-same-length Inv-loop μ-loop
 same-length c = put-length (c .before .loop .inv .1)
 
 returns : tie.Need-returns Inv-loop μ-loop
-returns c = let e : c .before .loop .i ≡ c .before .before .before .args .n = omega arith in rw e at (c .before .loop .inv .1)
+returns c =
+    let args = c .before .before .before .args in
+    let e : c .before .loop .i ≡ args .n = omega arith in
+    rw e at (c .before .loop .inv .1)
 
 pub put-lines-spec : {M : Type 1} → statement M
 put-lines-spec =

@@ -3,11 +3,6 @@ use Rattle.points.specs.Refusal.{number}
 use borrow.Author.Needs.{needs}
 use Rattle.play.proofs.text.put_refusal.Statement.{statement}
 use Rattle.play.proofs.text.put_refusal.Tie as tie
-use Rattle.play.proofs.text.put_refusal.Reads as reads
-use Rattle.play.proofs.text.put_refusal.Lts as lts
-use Rattle.points.proofs.refusal.Refusal.number.Reads as number-reads
-use Rattle.fields.proofs.write.fit_decimal.Reads as fit-decimal-reads
-use Rattle.fields.proofs.write.fit_text.Reads as fit-text-reads
 
 slice-aggregate-fit-text : tie.Need-slice-aggregate-fit-text
 slice-aggregate-fit-text c = search needs
@@ -28,7 +23,14 @@ same-length : tie.Need-same-length
 same-length c = search needs
 
 returns : tie.Need-returns
-returns c = refusal-made (number (c .before .before .before .before .before .before .before .before .before .before .before .before .before .before .before .args .why)) (c .before .before .before .before .before .before .before .before .before .before .before .before .before .before .before .args .line) (c .before .before .before .before .before .before .before .before .before .before .before .before .before .before .before .pre) (c .before .before .before .before .before .before .before .before .before .before .before .fit-text .ensures) (rw (c .before .before .before .before .before .before .before .number .ensures) at (c .before .before .before .before .before .before .fit-decimal .ensures)) (c .before .before .fit-decimal2 .ensures)
+returns c =
+    let entry = c .before .before .before .before .before .before .before .before .before .before .before .before .before .before .before in
+    let args = entry .args in
+    let fit-text = c .before .before .before .before .before .before .before .before .before .before .before .fit-text in
+    let number′ = c .before .before .before .before .before .before .before .number in
+    let fit-decimal = c .before .before .before .before .before .before .fit-decimal in
+    let fit-decimal2 = c .before .before .fit-decimal2 in
+    refusal-made (number (args .why)) (args .line) (entry .pre) (fit-text .ensures) (rw (number′ .ensures) at (fit-decimal .ensures)) (fit-decimal2 .ensures)
 
 pub put-refusal-spec : {M : Type 1} → statement M
 put-refusal-spec =

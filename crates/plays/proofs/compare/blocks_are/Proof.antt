@@ -22,7 +22,12 @@ returns : tie.Need-returns Inv-loop μ-loop
 returns c = search needs
 
 loop-less : tie.Need-loop-less Inv-loop μ-loop
-loop-less c = let m = c .before .before .before .before .with-block .ensures (not-false _ (c .before .before .if2 .left)) (c .before .before .before .before .before .before .if1 .taken) in omega (arith, m .0, m .1)
+loop-less c =
+    let if1 = c .before .before .before .before .before .before .if1 in
+    let with-block = c .before .before .before .before .with-block in
+    let if2 = c .before .before .if2 in
+    let m = with-block .ensures (not-false _ (if2 .left)) (if1 .taken) in
+    omega (arith, m .0, m .1)
 
 loop-again : tie.Need-loop-again Inv-loop μ-loop
 loop-again c = tt

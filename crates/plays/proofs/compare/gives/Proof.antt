@@ -11,7 +11,9 @@ open-requires : tie.Need-open-requires
 open-requires c κs = search needs
 
 with-first-requires : tie.Need-with-first-requires
-with-first-requires c κs = omega (arith, c .before .before .«open» .ensures .bytes, first-length (counted (playInput (c .before .before .before .before .before .before .args .input .now))))
+with-first-requires c κs =
+    let args = c .before .before .before .before .before .before .args in
+    omega (arith, c .before .before .«open» .ensures .bytes, first-length (counted (playInput (args .input .now))))
 
 blocks-are-requires : tie.Need-blocks-are-requires
 blocks-are-requires c κs = search needs

@@ -19,14 +19,22 @@ enum-known-written c = search needs
 
 with-first-requires : tie.Need-with-first-requires
 unfolding toldWritten
-with-first-requires c κs = omega (arith, moved (c .before .before .before .before .before .before .before .before .args .play) (c .before .before .before .before .before .before .before .before .args .out .now) (c .before .before .written .given .0 .0) (sym (ap toldWritten (c .before .before .written .given .1)) ∙ c .before .before .before .before .before .next-block .ensures .0) .0)
+with-first-requires c κs =
+    let args = c .before .before .before .before .before .before .before .before .args in
+    let next-block = c .before .before .before .before .before .next-block in
+    let written = c .before .before .written in
+    omega (arith, moved (args .play) (args .out .now) (written .given .0 .0) (sym (ap toldWritten (written .given .1)) ∙ next-block .ensures .0) .0)
 
 returns : tie.Need-returns
 returns c = λ q h. let z : _≡_ {A = ℕ} 0 1 = cc in absurd (omega arith)
 
 returns-2 : tie.Need-returns-2
 unfolding toldWritten
-returns-2 c = λ q h. moves-on (c .before .before .before .before .before .before .before .before .before .args .play) (c .before .before .before .before .before .before .before .before .before .args .out .now) (c .before .before .before .written .given .0 .0) (c .before .before .before .before .before .before .next-block .result .play) (sym (ap toldWritten (c .before .before .before .written .given .1)) ∙ c .before .before .before .before .before .before .next-block .ensures .0) (c .before .before .before .before .before .before .next-block .ensures .1 .0) h
+returns-2 c =
+    let args = c .before .before .before .before .before .before .before .before .before .args in
+    let next-block = c .before .before .before .before .before .before .next-block in
+    let written = c .before .before .before .written in
+    λ q h. moves-on (args .play) (args .out .now) (written .given .0 .0) (next-block .result .play) (sym (ap toldWritten (written .given .1)) ∙ next-block .ensures .0) (next-block .ensures .1 .0) h
 
 pub with-block-spec : {M : Type 1} → statement M
 with-block-spec =

@@ -9,7 +9,10 @@ slice-reshare-prefix-with-bytes : tie.Need-slice-reshare-prefix-with-bytes
 slice-reshare-prefix-with-bytes c = search needs
 
 slice-aggregate-with-bytes : tie.Need-slice-aggregate-with-bytes
-slice-aggregate-with-bytes c = sym (length-take-le (c .before .before .before .args .n) (c .before .before .before .args .out .now) (c .before .before .before .pre))
+slice-aggregate-with-bytes c =
+    let entry = c .before .before .before in
+    let args = entry .args in
+    sym (length-take-le (args .n) (args .out .now) (entry .pre))
 
 with-bytes-requires : tie.Need-with-bytes-requires
 with-bytes-requires c κs = search needs

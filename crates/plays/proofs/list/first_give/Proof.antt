@@ -9,7 +9,10 @@ slice-reshare-prefix-gives : tie.Need-slice-reshare-prefix-gives
 slice-reshare-prefix-gives c = search needs
 
 slice-aggregate-gives : tie.Need-slice-aggregate-gives
-slice-aggregate-gives c = sym (length-take-le (c .before .before .before .args .n) (c .before .before .before .args .input .now) (c .before .before .before .pre))
+slice-aggregate-gives c =
+    let entry = c .before .before .before in
+    let args = entry .args in
+    sym (length-take-le (args .n) (args .input .now) (entry .pre))
 
 gives-requires : tie.Need-gives-requires
 gives-requires c κs = search needs

@@ -1,14 +1,10 @@
 use mathlib.Core.Path.{sym, ap, _∙_}
 use Rattle.points.specs.Refusal.{gives}
-use Rattle.points.specs.Laws.{and-both}
+use Rattle.points.proofs.Laws.{and-both}
 use Rattle.points.specs.Point.{pointsEqual}
 use borrow.Author.Needs.{needs}
 use Rattle.points.proofs.AutomationPoint.eq.Statement.{statement}
 use Rattle.points.proofs.AutomationPoint.eq.Tie as tie
-use Rattle.points.proofs.AutomationPoint.eq.Reads as reads
-use Rattle.points.proofs.AutomationPoint.eq.Lts as lts
-use Rattle.points.proofs.AutomationPoint.is_finite.Reads as is-finite-reads
-use Rattle.points.proofs.AutomationPoint.same.Reads as same-reads
 
 is-finite-requires : tie.Need-is-finite-requires
 is-finite-requires c κs = search needs
@@ -22,7 +18,9 @@ same-requires c κs = search needs
 returns : tie.Need-returns
 unfolding pointsEqual
 returns c =
-    let t = sym (and-both (c .before .before .before .is-finite .ensures) (c .before .before .is-finite2 .ensures)) ∙ c .before .if1 .taken in
+    let is-finite = c .before .before .before .is-finite in
+    let is-finite2 = c .before .before .is-finite2 in
+    let t = sym (and-both (is-finite .ensures) (is-finite2 .ensures)) ∙ c .before .if1 .taken in
     rw t (ap gives (c .same .ensures))
 
 returns-2 : tie.Need-returns-2

@@ -1,11 +1,6 @@
 use borrow.Author.Needs.{needs}
 use Rattle.points.proofs.AutomationPoint.is_finite.Statement.{statement}
 use Rattle.points.proofs.AutomationPoint.is_finite.Tie as tie
-use Rattle.points.proofs.AutomationPoint.is_finite.Reads as reads
-use Rattle.points.proofs.AutomationPoint.is_finite.Lts as lts
-use Rattle.curve.proofs.CurveType.is_finite.Reads as CurveType-is-finite-reads
-use Rattle.numbers.proofs.order.is_finite.Reads as order-is-finite-reads
-use Rattle.numbers.proofs.order.is_finitef.Reads as is-finitef-reads
 
 is-finite-requires : tie.Need-is-finite-requires
 is-finite-requires c κs = search needs

@@ -1,12 +1,6 @@
 use borrow.Author.Needs.{needs}
 use Rattle.points.proofs.AutomationPoint.is_unused.Statement.{statement}
 use Rattle.points.proofs.AutomationPoint.is_unused.Tie as tie
-use Rattle.points.proofs.AutomationPoint.is_unused.Reads as reads
-use Rattle.points.proofs.AutomationPoint.is_unused.Lts as lts
-use Rattle.curve.proofs.CurveType.is_linear.Reads as is-linear-reads
-use Rattle.points.proofs.SamplePosition.is_none.Reads as is-none-reads
-use Rattle.points.proofs.point.plus_zero.Reads as plus-zero-reads
-use Rattle.points.proofs.point.plus_zerof.Reads as plus-zerof-reads
 
 plus-zero-requires : tie.Need-plus-zero-requires
 plus-zero-requires c κs = search needs

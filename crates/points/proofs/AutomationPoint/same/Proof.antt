@@ -1,12 +1,10 @@
 use mathlib.Core.Path.{sym}
 use lib.IntN.{negsuc}
 use lib.Ieee.{ofBits}
-use Rattle.points.specs.Laws.{and-both}
-use Rattle.points.specs.FloatLaws.{abs-below}
+use Rattle.points.proofs.Laws.{and-both}
+use Rattle.points.proofs.FloatLaws.{abs-below}
 use Rattle.points.proofs.AutomationPoint.same.Statement.{statement}
 use Rattle.points.proofs.AutomationPoint.same.Tie as tie
-use Rattle.points.proofs.AutomationPoint.same.Reads as reads
-use Rattle.points.proofs.AutomationPoint.same.Lts as lts
 
 returns : tie.Need-returns
 unfolding ofBits

@@ -1,10 +1,6 @@
 use borrow.Author.Needs.{needs}
 use Rattle.points.proofs.AutomationPoint.same_exact.Statement.{statement}
 use Rattle.points.proofs.AutomationPoint.same_exact.Tie as tie
-use Rattle.points.proofs.AutomationPoint.same_exact.Reads as reads
-use Rattle.points.proofs.AutomationPoint.same_exact.Lts as lts
-use Rattle.curve.proofs.CurveType.eq.Reads as eq-reads
-use Rattle.points.proofs.AutomationPoint.same.Reads as same-reads
 
 same-requires : tie.Need-same-requires
 same-requires c κs = search needs

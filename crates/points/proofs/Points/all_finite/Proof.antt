@@ -4,14 +4,10 @@ use native.Mathlib.Omega.{arith}
 use lib.ListN.{take}
 use Rattle.points.specs.Point.{finitePoint, anyPoint}
 use Rattle.points.specs.Points.{every}
-use Rattle.points.specs.Laws.{every-more, take-min}
+use Rattle.points.proofs.Laws.{every-more, take-min}
 use Rattle.points.proofs.Good.{places}
 use Rattle.points.proofs.Points.all_finite.Statement.{statement}
 use Rattle.points.proofs.Points.all_finite.Tie as tie
-use Rattle.points.proofs.Points.all_finite.Reads as reads
-use Rattle.points.proofs.Points.all_finite.Lts as lts
-use Rattle.points.proofs.AutomationPoint.is_finite.Reads as is-finite-reads
-use Rattle.points.proofs.Points.used.Reads as used-reads
 
 abbrev Inv-loop : tie.InvT-loop
 Inv-loop self n ok₀ i₀ ok i = (i ≤ n) × (ok ≡ every finitePoint (take i (self .places)))
@@ -43,14 +39,20 @@ loop-less c = omega arith
 
 loop-again : tie.Need-loop-again Inv-loop μ-loop
 loop-again c =
-    let len = places (c .before .before .before .before .before .args .t1) _ (c .before .before .before .before .before .good .0) in
-    (omega arith, cc (every-more finitePoint (c .before .before .before .before .before .args .t1 .places) (c .before .before .before .loop .i) anyPoint (omega arith)))
+    let args = c .before .before .before .before .before .args in
+    let good = c .before .before .before .before .before .good in
+    let loop = c .before .before .before .loop in
+    let len = places (args .t1) _ (good .0) in
+    (omega arith, cc (every-more finitePoint (args .t1 .places) (loop .i) anyPoint (omega arith)))
 
 returns : tie.Need-returns Inv-loop μ-loop
 returns c =
-    let ps = c .before .before .before .args .t1 in
-    let at : c .before .loop .i ≡ c .before .before .used .result = omega arith in
-    c .before .loop .inv .1 ∙ ap (every finitePoint) (ap (λ (k : ℕ). take k (ps .places)) (at ∙ c .before .before .used .ensures) ∙ take-min (ps .count) (ps .places) 256 (places ps _ (c .before .before .before .good .0)))
+    let args = c .before .before .before .args in
+    let good = c .before .before .before .good in
+    let used = c .before .before .used in
+    let ps = args .t1 in
+    let at : c .before .loop .i ≡ used .result = omega arith in
+    c .before .loop .inv .1 ∙ ap (every finitePoint) (ap (λ (k : ℕ). take k (ps .places)) (at ∙ used .ensures) ∙ take-min (ps .count) (ps .places) 256 (places ps _ (good .0)))
 
 pub all-finite-spec : {M : Type 1} → statement M
 all-finite-spec =

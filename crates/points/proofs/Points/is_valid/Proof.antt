@@ -8,7 +8,7 @@ use lib.Seq.{take-all}
 use borrow.Author.Tests.{lt-leb, le-leb}
 use Rattle.points.specs.Point.{anyPoint, finitePoint, isUnused}
 use Rattle.points.specs.Points.{every, timeKey, rising, validPoints}
-use Rattle.points.specs.Laws.{every-more, every-rest, rising-next, rising-one, rising-end, and-both}
+use Rattle.points.proofs.Laws.{every-more, every-rest, rising-next, rising-one, rising-end, and-both}
 use Rattle.points.proofs.Good.{places}
 use Rattle.points.proofs.Points.is_valid.Statement.{statement}
 use Rattle.points.proofs.Points.is_valid.Tie as tie
@@ -58,8 +58,11 @@ loop-less c = omega arith
 
 loop-again : tie.Need-loop-again Inv-loop μ-loop Inv-loop2 μ-loop2 Inv-loop3 μ-loop3
 loop-again c =
-    let len = places (c .before .before .before .before .before .args .t1) _ (c .before .before .before .before .before .good .0) in
-    (omega arith, cc (every-more finitePoint (c .before .before .before .before .before .args .t1 .places) (c .before .before .before .loop .i) anyPoint (omega arith)))
+    let args = c .before .before .before .before .before .args in
+    let good = c .before .before .before .before .before .good in
+    let loop = c .before .before .before .loop in
+    let len = places (args .t1) _ (good .0) in
+    (omega arith, cc (every-more finitePoint (args .t1 .places) (loop .i) anyPoint (omega arith)))
 
 element-copy-out-first :
     tie.Need-element-copy-out-first Inv-loop μ-loop Inv-loop2 μ-loop2 Inv-loop3 μ-loop3
@@ -70,7 +73,9 @@ order-key-requires :
 order-key-requires c κs = tt
 
 loop2-holds : tie.Need-loop2-holds Inv-loop μ-loop Inv-loop2 μ-loop2 Inv-loop3 μ-loop3
-loop2-holds c = (omega arith, omega arith, c .order-key .ensures, sym (rising-one timeKey (c .before .before .before .before .before .args .t1 .places)))
+loop2-holds c =
+    let args = c .before .before .before .before .before .args in
+    (omega arith, omega arith, c .order-key .ensures, sym (rising-one timeKey (args .t1 .places)))
 
 mul-p-2 : tie.Need-mul-p-2 Inv-loop μ-loop Inv-loop2 μ-loop2 Inv-loop3 μ-loop3
 mul-p-2 c = omega arith
@@ -91,15 +96,20 @@ loop2-less c = omega arith
 
 loop2-again : tie.Need-loop2-again Inv-loop μ-loop Inv-loop2 μ-loop2 Inv-loop3 μ-loop3
 loop2-again c =
-    let ps = c .before .before .before .before .before .before .before .before .before .args .t1 in
-    let j = c .before .before .before .loop2 .j in
-    let len = places ps _ (c .before .before .before .before .before .before .before .before .before .good .0) in
+    let args = c .before .before .before .before .before .before .before .before .before .args in
+    let good = c .before .before .before .before .before .before .before .before .before .good in
+    let loop2 = c .before .before .before .loop2 in
+    let ps = args .t1 in
+    let j = loop2 .j in
+    let len = places ps _ (good .0) in
     let e : j ≡ j + 1 - 1 = omega arith in
     (omega arith, omega arith, c .order-key2 .ensures ∙ ap (λ (m : ℕ). timeKey (getD (ps .places) m anyPoint)) e, cc (rising-next timeKey (ps .places) j anyPoint (omega arith) (omega arith)))
 
 loop3-holds : tie.Need-loop3-holds Inv-loop μ-loop Inv-loop2 μ-loop2 Inv-loop3 μ-loop3
 unfolding every
-loop3-holds c = (omega arith, omega arith, rw (sub-self (c .before .before .before .before .before .before .before .args .t1 .count)))
+loop3-holds c =
+    let args = c .before .before .before .before .before .before .before .args in
+    (omega arith, omega arith, rw (sub-self (args .t1 .count)))
 
 mul-p-3 : tie.Need-mul-p-3 Inv-loop μ-loop Inv-loop2 μ-loop2 Inv-loop3 μ-loop3
 mul-p-3 c = omega arith
@@ -120,18 +130,27 @@ loop3-less c = omega arith
 
 loop3-again : tie.Need-loop3-again Inv-loop μ-loop Inv-loop2 μ-loop2 Inv-loop3 μ-loop3
 loop3-again c =
-    let len = places (c .before .before .before .before .before .before .before .before .before .before .before .args .t1) _ (c .before .before .before .before .before .before .before .before .before .before .before .good .0) in
-    (omega arith, omega arith, cc (every-rest isUnused (c .before .before .before .before .before .before .before .before .before .before .before .args .t1 .places) (c .before .before .before .before .before .before .before .before .before .before .before .args .t1 .count) (c .before .before .before .loop3 .k) anyPoint (omega arith) (omega arith)))
+    let args = c .before .before .before .before .before .before .before .before .before .before .before .args in
+    let good = c .before .before .before .before .before .before .before .before .before .before .before .good in
+    let loop3 = c .before .before .before .loop3 in
+    let len = places (args .t1) _ (good .0) in
+    (omega arith, omega arith, cc (every-rest isUnused (args .t1 .places) (args .t1 .count) (loop3 .k) anyPoint (omega arith) (omega arith)))
 
 returns-2 : tie.Need-returns-2 Inv-loop μ-loop Inv-loop2 μ-loop2 Inv-loop3 μ-loop3
 unfolding validPoints
 returns-2 c =
-    let ps = c .before .before .before .before .before .before .before .before .before .args .t1 in
-    let len = places ps _ (c .before .before .before .before .before .before .before .before .before .good .0) in
-    let e : c .before .before .before .before .before .before .before .loop .i ≡ ps .count = omega arith in
-    rw (le-leb _ _ (c .before .before .before .before .before .before .before .before .if1 .left))
+    let args = c .before .before .before .before .before .before .before .before .before .args in
+    let good = c .before .before .before .before .before .before .before .before .before .good in
+    let if1 = c .before .before .before .before .before .before .before .before .if1 in
+    let loop = c .before .before .before .before .before .before .before .loop in
+    let loop2 = c .before .before .before .loop2 in
+    let ps = args .t1 in
+    let len = places ps _ (good .0) in
+    let e : loop .i ≡ ps .count = omega arith in
+    rw (le-leb _ _ (if1 .left))
     (and-both
-    (and-both (c .before .before .before .before .before .before .before .loop .inv .1 ∙ ap (λ (m : ℕ). every finitePoint (take m (ps .places))) e) (c .before .before .before .loop2 .inv .3 ∙ rising-end timeKey (ps .places) (c .before .before .before .loop2 .j) (ps .count) (omega arith) (omega arith) (omega arith)))
+    (and-both (loop .inv .1 ∙ ap (λ (m : ℕ). every finitePoint (take m (ps .places))) e)
+    (loop2 .inv .3 ∙ rising-end timeKey (ps .places) (loop2 .j) (ps .count) (omega arith) (omega arith) (omega arith)))
     (c .before .loop3 .inv .2 ∙ rw (take-all (c .before .loop3 .k - ps .count) (drop (ps .count) (ps .places)) (simp length-drop (omega arith)))))
 
 pub is-valid-spec : {M : Type 1} → statement M

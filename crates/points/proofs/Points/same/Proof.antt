@@ -4,14 +4,10 @@ use native.Mathlib.Omega.{arith}
 use lib.ListN.{length, take, length-take}
 use Rattle.points.specs.Point.{matching, anyPoint}
 use Rattle.points.specs.Points.{listOf, everyPair}
-use Rattle.points.specs.Laws.{pair-none, pair-more, pair-length, take-min}
+use Rattle.points.proofs.Laws.{pair-none, pair-more, pair-length, take-min}
 use Rattle.points.proofs.Good.{places}
 use Rattle.points.proofs.Points.same.Statement.{statement}
 use Rattle.points.proofs.Points.same.Tie as tie
-use Rattle.points.proofs.Points.same.Reads as reads
-use Rattle.points.proofs.Points.same.Lts as lts
-use Rattle.points.proofs.Points.used.Reads as used-reads
-use Rattle.points.proofs.list.match_points.Reads as match-points-reads
 
 abbrev Inv-loop : tie.InvT-loop
 Inv-loop exact self other n ok₀ i₀ ok i = (i ≤ n) × (ok ≡ everyPair (matching exact) (take i (self .places)) (take i (other .places)))
@@ -27,13 +23,16 @@ used-requires-2 c κs = tt
 
 returns : tie.Need-returns Inv-loop μ-loop
 returns c =
-    let a = c .before .before .before .args .t1 in
-    let b = c .before .before .before .args .t2 in
-    let la : length (a .places) ≡ 256 = places a _ (c .before .before .before .good .0) in
-    let lb : length (b .places) ≡ 256 = places b _ (c .before .before .before .good .1 .0) in
+    let args = c .before .before .before .args in
+    let good = c .before .before .before .good in
+    let used = c .before .before .used in
+    let a = args .t1 in
+    let b = args .t2 in
+    let la : length (a .places) ≡ 256 = places a _ (good .0) in
+    let lb : length (b .places) ≡ 256 = places b _ (good .1 .0) in
     let ka = length-take (a .count) (a .places) in
     let kb = length-take (b .count) (b .places) in
-    sym (pair-length (matching (c .before .before .before .args .exact)) (listOf a) (listOf b) (λ (e : length (listOf a) ≡ length (listOf b)). c .if1 .taken (omega (arith, c .before .before .used .ensures, c .before .used2 .ensures))))
+    sym (pair-length (matching (args .exact)) (listOf a) (listOf b) (λ (e : length (listOf a) ≡ length (listOf b)). c .if1 .taken (omega (arith, used .ensures, c .before .used2 .ensures))))
 
 loop-holds : tie.Need-loop-holds Inv-loop μ-loop
 loop-holds c = (omega arith, pair-none (matching (c .before .before .before .args .exact)))
@@ -61,23 +60,30 @@ loop-less c = omega arith
 
 loop-again : tie.Need-loop-again Inv-loop μ-loop
 loop-again c =
-    let a = c .before .before .before .before .before .before .before .before .args .t1 in
-    let b = c .before .before .before .before .before .before .before .before .args .t2 in
-    let la : length (a .places) ≡ 256 = places a _ (c .before .before .before .before .before .before .before .before .good .0) in
-    let lb : length (b .places) ≡ 256 = places b _ (c .before .before .before .before .before .before .before .before .good .1 .0) in
-    (omega arith, cc (pair-more (matching (c .before .before .before .before .before .before .before .before .args .exact)) (a .places) (b .places) (c .before .before .before .before .loop .i) anyPoint (omega arith) (omega arith)))
+    let args = c .before .before .before .before .before .before .before .before .args in
+    let good = c .before .before .before .before .before .before .before .before .good in
+    let loop = c .before .before .before .before .loop in
+    let a = args .t1 in
+    let b = args .t2 in
+    let la : length (a .places) ≡ 256 = places a _ (good .0) in
+    let lb : length (b .places) ≡ 256 = places b _ (good .1 .0) in
+    (omega arith, cc (pair-more (matching (args .exact)) (a .places) (b .places) (loop .i) anyPoint (omega arith) (omega arith)))
 
 returns-2 : tie.Need-returns-2 Inv-loop μ-loop
 returns-2 c =
-    let a = c .before .before .before .before .before .args .t1 in
-    let b = c .before .before .before .before .before .args .t2 in
-    let la : length (a .places) ≡ 256 = places a _ (c .before .before .before .before .before .good .0) in
-    let lb : length (b .places) ≡ 256 = places b _ (c .before .before .before .before .before .good .1 .0) in
-    let at : c .before .loop .i ≡ min (a .count) 256 = omega (arith, c .before .before .before .before .used .ensures) in
-    let bt : c .before .loop .i ≡ min (b .count) 256 = omega (arith, c .before .before .before .before .used .ensures, c .before .before .before .used2 .ensures) in
+    let args = c .before .before .before .before .before .args in
+    let good = c .before .before .before .before .before .good in
+    let used = c .before .before .before .before .used in
+    let used2 = c .before .before .before .used2 in
+    let a = args .t1 in
+    let b = args .t2 in
+    let la : length (a .places) ≡ 256 = places a _ (good .0) in
+    let lb : length (b .places) ≡ 256 = places b _ (good .1 .0) in
+    let at : c .before .loop .i ≡ min (a .count) 256 = omega (arith, used .ensures) in
+    let bt : c .before .loop .i ≡ min (b .count) 256 = omega (arith, used .ensures, used2 .ensures) in
     let ea = ap (λ (k : ℕ). take k (a .places)) at ∙ take-min (a .count) (a .places) 256 la in
     let eb = ap (λ (k : ℕ). take k (b .places)) bt ∙ take-min (b .count) (b .places) 256 lb in
-    c .before .loop .inv .1 ∙ (λ i. everyPair (matching (c .before .before .before .before .before .args .exact)) (ea i) (eb i))
+    c .before .loop .inv .1 ∙ (λ i. everyPair (matching (args .exact)) (ea i) (eb i))
 
 pub same-spec : {M : Type 1} → statement M
 same-spec =

@@ -4,14 +4,10 @@ use native.Mathlib.Omega.{arith}
 use lib.ListN.{take}
 use Rattle.points.specs.Point.{anyPoint}
 use Rattle.points.specs.Points.{timeKey, rising}
-use Rattle.points.specs.Laws.{rising-next, rising-one, rising-end, take-min}
+use Rattle.points.proofs.Laws.{rising-next, rising-one, rising-end, take-min}
 use Rattle.points.proofs.Good.{places}
 use Rattle.points.proofs.Points.times_rise.Statement.{statement}
 use Rattle.points.proofs.Points.times_rise.Tie as tie
-use Rattle.points.proofs.Points.times_rise.Reads as reads
-use Rattle.points.proofs.Points.times_rise.Lts as lts
-use Rattle.numbers.proofs.order.order_key.Reads as order-key-reads
-use Rattle.points.proofs.Points.used.Reads as used-reads
 
 abbrev Inv-loop : tie.InvT-loop
 Inv-loop self n ok₀ i₀ ok i = (1 ≤ i) × (i ≤ max 1 n) × (ok ≡ rising (take i (self .places)))
@@ -54,14 +50,20 @@ loop-less c = omega arith
 
 loop-again : tie.Need-loop-again Inv-loop μ-loop
 loop-again c =
-    let len = places (c .before .before .before .before .before .before .before .args .t1) _ (c .before .before .before .before .before .before .before .good .0) in
-    (omega arith, omega arith, cc (rising-next timeKey (c .before .before .before .before .before .before .before .args .t1 .places) (c .before .before .before .before .before .loop .i) anyPoint (omega arith) (omega arith)))
+    let args = c .before .before .before .before .before .before .before .args in
+    let good = c .before .before .before .before .before .before .before .good in
+    let loop = c .before .before .before .before .before .loop in
+    let len = places (args .t1) _ (good .0) in
+    (omega arith, omega arith, cc (rising-next timeKey (args .t1 .places) (loop .i) anyPoint (omega arith) (omega arith)))
 
 returns : tie.Need-returns Inv-loop μ-loop
 returns c =
-    let ps = c .before .before .before .args .t1 in
-    c .before .loop .inv .2 ∙ rising-end timeKey (ps .places) (c .before .loop .i) (c .before .before .used .result) (omega arith) (omega arith) (omega arith)
-    ∙ ap rising (ap (λ (k : ℕ). take k (ps .places)) (c .before .before .used .ensures) ∙ take-min (ps .count) (ps .places) 256 (places ps _ (c .before .before .before .good .0)))
+    let args = c .before .before .before .args in
+    let good = c .before .before .before .good in
+    let used = c .before .before .used in
+    let ps = args .t1 in
+    c .before .loop .inv .2 ∙ rising-end timeKey (ps .places) (c .before .loop .i) (used .result) (omega arith) (omega arith) (omega arith)
+    ∙ ap rising (ap (λ (k : ℕ). take k (ps .places)) (used .ensures) ∙ take-min (ps .count) (ps .places) 256 (places ps _ (good .0)))
 
 pub times-rise-spec : {M : Type 1} → statement M
 times-rise-spec =

@@ -1,10 +1,6 @@
 use borrow.Author.Needs.{needs}
 use Rattle.points.proofs.list.match_points.Statement.{statement}
 use Rattle.points.proofs.list.match_points.Tie as tie
-use Rattle.points.proofs.list.match_points.Reads as reads
-use Rattle.points.proofs.list.match_points.Lts as lts
-use Rattle.points.proofs.AutomationPoint.same.Reads as same-reads
-use Rattle.points.proofs.AutomationPoint.same_exact.Reads as same-exact-reads
 
 same-exact-requires : tie.Need-same-exact-requires
 same-exact-requires c κs = search needs

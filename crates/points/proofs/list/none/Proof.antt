@@ -5,9 +5,6 @@ use Rattle.points.specs.declared.Points.{Points}
 use borrow.Author.Needs.{needs}
 use Rattle.points.proofs.list.none.Statement.{statement}
 use Rattle.points.proofs.list.none.Tie as tie
-use Rattle.points.proofs.list.none.Reads as reads
-use Rattle.points.proofs.list.none.Lts as lts
-use Rattle.points.proofs.point.unused.Reads as unused-reads
 
 unused-requires : tie.Need-unused-requires
 unused-requires c κs = search needs

@@ -2,8 +2,6 @@ use mathlib.Core.Path.{refl}
 use lib.Ieee.{ofBits}
 use Rattle.points.proofs.point.unused.Statement.{statement}
 use Rattle.points.proofs.point.unused.Tie as tie
-use Rattle.points.proofs.point.unused.Reads as reads
-use Rattle.points.proofs.point.unused.Lts as lts
 
 returns : tie.Need-returns
 unfolding ofBits

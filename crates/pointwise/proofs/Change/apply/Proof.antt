@@ -110,7 +110,9 @@ returns-3 : tie.Need-returns-3
 returns-3 c = rw (c .before .before .before .self3 .given .1) (c .with-time3 .ensures)
 
 returns-4 : tie.Need-returns-4
-returns-4 c = rw (c .before .before .before .before .self4 .given .1, ← c .before .round .ensures) (c .with-time4 .ensures)
+returns-4 c =
+    let self4 = c .before .before .before .before .self4 in
+    rw (self4 .given .1, ← c .before .round .ensures) (c .with-time4 .ensures)
 
 returns-5 : tie.Need-returns-5
 returns-5 c = rw (c .before .before .before .self5 .given .1) (c .with-value .ensures)
@@ -125,19 +127,34 @@ returns-8 : tie.Need-returns-8
 returns-8 c = rw (c .before .before .before .self8 .given .1) (c .with-value4 .ensures)
 
 returns-9 : tie.Need-returns-9
-returns-9 c = rw (c .before .before .before .self9 .given .1) (c .with-value5 .ensures ∙ ap (withValue (c .before .before .before .before .before .args .p)) (c .before .clampf .ensures))
+returns-9 c =
+    let args = c .before .before .before .before .before .args in
+    let self9 = c .before .before .before .self9 in
+    rw (self9 .given .1) (c .with-value5 .ensures ∙ ap (withValue (args .p)) (c .before .clampf .ensures))
 
 returns-10 : tie.Need-returns-10
-returns-10 c = rw (c .before .before .before .self10 .given .1) (c .with-value6 .ensures ∙ ap (withValue (c .before .before .before .before .before .args .p)) (c .before .faded-in .ensures))
+returns-10 c =
+    let args = c .before .before .before .before .before .args in
+    let self10 = c .before .before .before .self10 in
+    rw (self10 .given .1) (c .with-value6 .ensures ∙ ap (withValue (args .p)) (c .before .faded-in .ensures))
 
 returns-11 : tie.Need-returns-11
-returns-11 c = rw (c .before .before .before .self11 .given .1) (c .with-value7 .ensures ∙ ap (withValue (c .before .before .before .before .before .args .p)) (c .before .faded-out .ensures))
+returns-11 c =
+    let args = c .before .before .before .before .before .args in
+    let self11 = c .before .before .before .self11 in
+    rw (self11 .given .1) (c .with-value7 .ensures ∙ ap (withValue (args .p)) (c .before .faded-out .ensures))
 
 returns-12 : tie.Need-returns-12
-returns-12 c = rw (c .before .before .before .self12 .given .1) (c .with-value8 .ensures ∙ ap (withValue (c .before .before .before .before .before .args .p)) (c .before .gated .ensures))
+returns-12 c =
+    let args = c .before .before .before .before .before .args in
+    let self12 = c .before .before .before .self12 in
+    rw (self12 .given .1) (c .with-value8 .ensures ∙ ap (withValue (args .p)) (c .before .gated .ensures))
 
 returns-13 : tie.Need-returns-13
-returns-13 c = rw (c .before .before .before .self13 .given .1) (c .with-value9 .ensures ∙ ap (withValue (c .before .before .before .before .before .args .p)) (c .before .compressed .ensures))
+returns-13 c =
+    let args = c .before .before .before .before .before .args in
+    let self13 = c .before .before .before .self13 in
+    rw (self13 .given .1) (c .with-value9 .ensures ∙ ap (withValue (args .p)) (c .before .compressed .ensures))
 
 pub apply-spec : {M : Type 1} → statement M
 apply-spec =

@@ -18,7 +18,9 @@ returns : tie.Need-returns
 returns c = rw (eq-eqb _ _ (sym (c .before .before .order-key .ensures) ∙ c .before .if1 .taken)) (c .new .ensures)
 
 returns-2 : tie.Need-returns-2
-returns-2 c = rw (ne-eqb _ _ (λ e. c .before .if1 .left (c .before .before .order-key .ensures ∙ e))) (c .new2 .ensures)
+returns-2 c =
+    let order-key = c .before .before .order-key in
+    rw (ne-eqb _ _ (λ e. c .before .if1 .left (order-key .ensures ∙ e))) (c .new2 .ensures)
 
 pub around-spec : {M : Type 1} → statement M
 around-spec = tie.close (tie.spec order-key-requires new-requires new-requires-2 returns returns-2)

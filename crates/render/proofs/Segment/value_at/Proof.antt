@@ -40,22 +40,27 @@ apply-constraints-requires-2 c κs = search needs
 returns : tie.Need-returns
 unfolding segmentAt
 returns c =
+    let bezier = c .before .before .before .before .before .before .bezier in
+    let clamp = c .before .before .before .before .clamp in
+    let cubic-bezier = c .before .before .before .cubic-bezier in
     let a = c .before .before .before .before .before .before .before .before .before .args in
     let s = a .self in
     let t = c .before .before .before .before .before .before .before .before .fraction in
-    let k = c .before .before .before .before .before .before .bezier .given in
+    let k = bezier .given in
     c .apply-constraints .ensures
     ∙ ap (constrained (a .limits))
     (ap (λ (x : Float). add binary32 (s .start) (mul binary32 (sub binary32 (s .end) (s .start)) x))
-    (c .before .before .before .cubic-bezier .ensures ∙ ap (λ (x : Float). cubicBezier x (k .0 .0) (k .0 .1 .0)) (c .before .before .before .before .clamp .ensures))
+    (cubic-bezier .ensures ∙ ap (λ (x : Float). cubicBezier x (k .0 .0) (k .0 .1 .0)) (clamp .ensures))
     ∙ sym (by-bezier (s .curve) (s .start) (s .end) (t .result) (k .0 .0) (k .0 .1 .0) (k .1))
     ∙ ap (interpolated (s .curve) (s .start) (s .end)) (t .ensures))
 
 returns-2 : tie.Need-returns-2
 unfolding segmentAt
 returns-2 c =
-    let s = c .before .before .before .before .args .self in
-    c .apply-constraints2 .ensures ∙ ap (constrained (c .before .before .before .before .args .limits)) (c .before .interpolate .ensures ∙ ap (interpolated (s .curve) (s .start) (s .end)) (c .before .before .before .fraction .ensures))
+    let args = c .before .before .before .before .args in
+    let fraction = c .before .before .before .fraction in
+    let s = args .self in
+    c .apply-constraints2 .ensures ∙ ap (constrained (args .limits)) (c .before .interpolate .ensures ∙ ap (interpolated (s .curve) (s .start) (s .end)) (fraction .ensures))
 
 pub value-at-spec : {M : Type 1} → statement M
 value-at-spec =

@@ -1,10 +1,8 @@
 -- The memory's length against the one at opening.
 use denote.Ref.{now}
-use Rattle.session.specs.Ways.{admits, admits-not}
+use Rattle.session.proofs.Ways.{admits, admits-not}
 use Rattle.session.proofs.Session.admit.Statement.{statement}
 use Rattle.session.proofs.Session.admit.Tie as tie
-use Rattle.session.proofs.Session.admit.Reads as reads
-use Rattle.session.proofs.Session.admit.Lts as lts
 
 returns : tie.Need-returns
 returns c =

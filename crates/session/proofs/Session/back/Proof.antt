@@ -1,21 +1,15 @@
 -- The tests in turn: 1 by `is_valid`, what `admit` refuses, and the rest is `step_back`'s.
 use mathlib.Core.Path.{ap, sym, _∙_}
 use denote.Ref.{now}
-use Rattle.points.specs.Laws.{and-true}
+use Rattle.points.proofs.Laws.{and-true}
 use Rattle.points.specs.Checks.{refusalOf}
 use Rattle.session.specs.Session.{validSession, called}
 use Rattle.session.specs.Calls.{back}
-use Rattle.session.specs.Ways.{admitted-length, call-one, call-refused, call-behind}
+use Rattle.session.proofs.Ways.{admitted-length, call-one, call-refused, call-behind}
 use Rattle.session.specs.declared.SessionAnswer.{SessionAnswer}
 use borrow.Author.Needs.{needs}
 use Rattle.session.proofs.Session.back.Statement.{statement}
 use Rattle.session.proofs.Session.back.Tie as tie
-use Rattle.session.proofs.Session.back.Reads as reads
-use Rattle.session.proofs.Session.back.Lts as lts
-use Rattle.session.proofs.Session.admit.Reads as admit-reads
-use Rattle.session.proofs.Session.is_valid.Reads as is-valid-reads
-use Rattle.session.proofs.Session.refuse.Reads as refuse-reads
-use Rattle.session.proofs.Session.step_back.Reads as step-back-reads
 
 is-valid-requires : tie.Need-is-valid-requires
 is-valid-requires c κs = search needs

@@ -2,16 +2,10 @@
 use mathlib.Core.Path.{refl}
 use denote.Ref.{now}
 use native.Mathlib.Omega.{arith}
-use Rattle.session.specs.Ways.{in-order, count-none, count-put}
+use Rattle.session.proofs.Ways.{in-order, count-none, count-put}
 use borrow.Author.Needs.{needs}
 use Rattle.session.proofs.Session.count.Statement.{statement}
 use Rattle.session.proofs.Session.count.Tie as tie
-use Rattle.session.proofs.Session.count.Reads as reads
-use Rattle.session.proofs.Session.count.Lts as lts
-use Rattle.session.proofs.Session.moved.Reads as moved-reads
-use Rattle.session.proofs.one_more.Reads as one-more-reads
-use Rattle.session.proofs.slot_after.Reads as slot-after-reads
-use Rattle.session.proofs.store.Reads as store-reads
 
 slot-after-requires : tie.Need-slot-after-requires
 slot-after-requires c κs =

@@ -1,27 +1,18 @@
 -- The tests in turn: the session's order, what `admit` refuses (but 1 for the envelope first), and the edit's own, whose 1 is the session's too.
 use mathlib.Core.Path.{ap, sym, _∙_}
 use denote.Ref.{now}
-use Rattle.points.specs.Laws.{and-true}
+use Rattle.points.proofs.Laws.{and-true}
 use Rattle.envelope.specs.Envelope.{validEnvelope}
 use Rattle.envelope.specs.Edit.{EditTold}
 use Rattle.points.specs.Checks.{refusalOf}
 use Rattle.session.specs.Session.{called, settled}
 use Rattle.session.specs.Calls.{alone}
-use Rattle.session.specs.One.{edit-one}
-use Rattle.session.specs.Ways.{admitted-length, edit-order, edit-refused, edit-own}
+use Rattle.session.proofs.One.{edit-one}
+use Rattle.session.proofs.Ways.{admitted-length, edit-order, edit-refused, edit-own}
 use Rattle.session.specs.declared.SessionAnswer.{SessionAnswer}
 use borrow.Author.Needs.{needs}
 use Rattle.session.proofs.Session.edit.Statement.{statement}
 use Rattle.session.proofs.Session.edit.Tie as tie
-use Rattle.session.proofs.Session.edit.Reads as reads
-use Rattle.session.proofs.Session.edit.Lts as lts
-use Rattle.envelope.proofs.AutomationEnvelope.edit.Reads as edit-reads
-use Rattle.envelope.proofs.AutomationEnvelope.is_valid.Reads as is-valid-reads
-use Rattle.session.proofs.Session.admit.Reads as admit-reads
-use Rattle.session.proofs.Session.in_order.Reads as in-order-reads
-use Rattle.session.proofs.Session.refuse.Reads as refuse-reads
-use Rattle.session.proofs.Session.refuse_after.Reads as refuse-after-reads
-use Rattle.session.proofs.Session.settle.Reads as settle-reads
 
 in-order-requires : tie.Need-in-order-requires
 in-order-requires c κs = search needs

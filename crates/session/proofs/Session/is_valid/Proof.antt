@@ -2,10 +2,6 @@ use mathlib.Core.Bool.{_&&_}
 use borrow.Author.Needs.{needs}
 use Rattle.session.proofs.Session.is_valid.Statement.{statement}
 use Rattle.session.proofs.Session.is_valid.Tie as tie
-use Rattle.session.proofs.Session.is_valid.Reads as reads
-use Rattle.session.proofs.Session.is_valid.Lts as lts
-use Rattle.envelope.proofs.AutomationEnvelope.is_valid.Reads as is-valid-reads
-use Rattle.session.proofs.Session.in_order.Reads as in-order-reads
 
 is-valid-requires : tie.Need-is-valid-requires
 is-valid-requires c κs = search needs

@@ -6,21 +6,12 @@ use Rattle.envelope.specs.Edit.{EditTold}
 use Rattle.points.specs.Checks.{refusalOf}
 use Rattle.session.specs.Session.{called, settled}
 use Rattle.session.specs.Calls.{joined}
-use Rattle.session.specs.One.{join-one}
-use Rattle.session.specs.Ways.{admitted-length, edit-order, edit-refused, edit-own}
+use Rattle.session.proofs.One.{join-one}
+use Rattle.session.proofs.Ways.{admitted-length, edit-order, edit-refused, edit-own}
 use Rattle.session.specs.declared.SessionAnswer.{SessionAnswer}
 use borrow.Author.Needs.{needs}
 use Rattle.session.proofs.Session.join.Statement.{statement}
 use Rattle.session.proofs.Session.join.Tie as tie
-use Rattle.session.proofs.Session.join.Reads as reads
-use Rattle.session.proofs.Session.join.Lts as lts
-use Rattle.envelope.proofs.AutomationEnvelope.is_valid.Reads as is-valid-reads
-use Rattle.envelope.proofs.AutomationEnvelope.join.Reads as join-reads
-use Rattle.session.proofs.Session.admit.Reads as admit-reads
-use Rattle.session.proofs.Session.in_order.Reads as in-order-reads
-use Rattle.session.proofs.Session.refuse.Reads as refuse-reads
-use Rattle.session.proofs.Session.refuse_after.Reads as refuse-after-reads
-use Rattle.session.proofs.Session.settle.Reads as settle-reads
 
 in-order-requires : tie.Need-in-order-requires
 in-order-requires c κs = search needs
@@ -64,12 +55,13 @@ same-length c = search needs
 
 returns : tie.Need-returns
 returns c =
+    let settle = c .before .before .settle in
     let made = c .before .before .before .before in
     let told = made .before in
     let admitted = told .before .before in
     let tested = admitted .before .before in
     let a = tested .before .before .before .before .args in
-    c .before .before .settle .ensures
+    settle .ensures
     ∙ ap (λ (t : EditTold). settled (a .self) (now (a .memory)) (t .said) (t .envelope)) (made .join .ensures)
     ∙ edit-own (joined (a .join) (a .other)) (a .self) (now (a .memory)) (λ h. join-one (a .join) (a .self .envelope) (a .other) h)
     (sym (tested .before .in-order .ensures) ∙ tested .if1 .taken)

@@ -2,8 +2,6 @@
 use mathlib.Core.Path.{refl}
 use Rattle.session.proofs.Session.moved.Statement.{statement}
 use Rattle.session.proofs.Session.moved.Tie as tie
-use Rattle.session.proofs.Session.moved.Reads as reads
-use Rattle.session.proofs.Session.moved.Lts as lts
 
 returns : tie.Need-returns
 returns c = refl

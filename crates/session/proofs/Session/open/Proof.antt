@@ -6,16 +6,15 @@ use Rattle.session.specs.Session.{opened, openSession}
 use borrow.Author.Needs.{needs}
 use Rattle.session.proofs.Session.open.Statement.{statement}
 use Rattle.session.proofs.Session.open.Tie as tie
-use Rattle.session.proofs.Session.open.Reads as reads
-use Rattle.session.proofs.Session.open.Lts as lts
-use Rattle.envelope.proofs.AutomationEnvelope.new.Reads as new-reads
 
 new-requires : tie.Need-new-requires
 new-requires c κs = search needs
 
 returns : tie.Need-returns
 unfolding openSession
-returns c = ap (λ (e : AutomationEnvelope). opened e (length (now (c .before .before .args .memory)))) (c .new .ensures)
+returns c =
+    let args = c .before .before .args in
+    ap (λ (e : AutomationEnvelope). opened e (length (now (args .memory)))) (c .new .ensures)
 
 pub open-spec : {M : Type 1} → statement M
 open-spec = tie.close (tie.spec new-requires returns)

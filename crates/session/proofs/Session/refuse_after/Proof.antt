@@ -7,9 +7,6 @@ use Rattle.session.specs.Session.{refusedBy}
 use borrow.Author.Needs.{needs}
 use Rattle.session.proofs.Session.refuse_after.Statement.{statement}
 use Rattle.session.proofs.Session.refuse_after.Tie as tie
-use Rattle.session.proofs.Session.refuse_after.Reads as reads
-use Rattle.session.proofs.Session.refuse_after.Lts as lts
-use Rattle.session.proofs.Session.refuse.Reads as refuse-reads
 
 refuse-requires : tie.Need-refuse-requires
 refuse-requires c κs = search needs

@@ -1,14 +1,10 @@
 use mathlib.Core.Path.{refl, sym, _∙_}
 use denote.Ref.{now}
-use Rattle.render.specs.RenderLaws.{answers}
-use Rattle.session.specs.Play.{render-own, render-not}
+use Rattle.render.proofs.RenderLaws.{answers}
+use Rattle.session.proofs.PlayLaws.{render-own, render-not}
 use borrow.Author.Needs.{needs}
 use Rattle.session.proofs.Session.render.Statement.{statement}
 use Rattle.session.proofs.Session.render.Tie as tie
-use Rattle.session.proofs.Session.render.Reads as reads
-use Rattle.session.proofs.Session.render.Lts as lts
-use Rattle.envelope.proofs.AutomationEnvelope.render.Reads as render-reads
-use Rattle.session.proofs.Session.in_order.Reads as in-order-reads
 
 in-order-requires : tie.Need-in-order-requires
 in-order-requires c κs = search needs
@@ -21,10 +17,11 @@ same-length c = search needs
 
 returns : tie.Need-returns
 returns c =
+    let render = c .before .before .render in
     let b = c .before .before .before .before .before in
     let a = b .before .before .before .args in
     let own = render-own (a .self) (a .rate) (a .first) (a .count) (a .place) (now (a .out)) (sym (b .before .in-order .ensures) ∙ b .if1 .taken) in
-    rw (sym own) (c .before .before .render .ensures)
+    rw (sym own) (render .ensures)
 
 returns-2 : tie.Need-returns-2
 returns-2 c =

@@ -1,13 +1,9 @@
 -- By what the edit says: it counts, or its refusal is the call's.
 use denote.Ref.{now}
-use Rattle.session.specs.Ways.{settle-counted, settle-refused}
+use Rattle.session.proofs.Ways.{settle-counted, settle-refused}
 use borrow.Author.Needs.{needs}
 use Rattle.session.proofs.Session.settle.Statement.{statement}
 use Rattle.session.proofs.Session.settle.Tie as tie
-use Rattle.session.proofs.Session.settle.Reads as reads
-use Rattle.session.proofs.Session.settle.Lts as lts
-use Rattle.session.proofs.Session.count.Reads as count-reads
-use Rattle.session.proofs.Session.refuse.Reads as refuse-reads
 
 enum-told : tie.Need-enum-told
 enum-told c = search needs

@@ -2,19 +2,14 @@
 use mathlib.Core.Path.{ap, _∙_}
 use denote.Ref.{now}
 use native.Mathlib.Omega.{arith}
-use Rattle.points.specs.Laws.{and-right}
+use Rattle.points.proofs.Laws.{and-right}
 use Rattle.envelope.specs.Envelope.{validEnvelope}
 use Rattle.session.specs.Session.{inOrder, called}
-use Rattle.session.specs.Ways.{in-order, forward-none, forward-over}
+use Rattle.session.proofs.Ways.{in-order, forward-none, forward-over}
 use Rattle.session.specs.declared.SessionAnswer.{SessionAnswer}
 use borrow.Author.Needs.{needs}
 use Rattle.session.proofs.Session.step_forward.Statement.{statement}
 use Rattle.session.proofs.Session.step_forward.Tie as tie
-use Rattle.session.proofs.Session.step_forward.Reads as reads
-use Rattle.session.proofs.Session.step_forward.Lts as lts
-use Rattle.session.proofs.Session.refuse.Reads as refuse-reads
-use Rattle.session.proofs.Session.step_over.Reads as step-over-reads
-use Rattle.session.proofs.slot_after.Reads as slot-after-reads
 
 refuse-requires : tie.Need-refuse-requires
 refuse-requires c κs = search needs

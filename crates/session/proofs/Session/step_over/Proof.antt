@@ -1,15 +1,9 @@
 -- By what the slot holds: a state that changes places with the envelope, or 12.
 use denote.Ref.{now}
-use Rattle.session.specs.Ways.{step-done, step-bad}
+use Rattle.session.proofs.Ways.{step-done, step-bad}
 use borrow.Author.Needs.{needs}
 use Rattle.session.proofs.Session.step_over.Statement.{statement}
 use Rattle.session.proofs.Session.step_over.Tie as tie
-use Rattle.session.proofs.Session.step_over.Reads as reads
-use Rattle.session.proofs.Session.step_over.Lts as lts
-use Rattle.session.proofs.Session.moved.Reads as moved-reads
-use Rattle.session.proofs.Session.refuse.Reads as refuse-reads
-use Rattle.session.proofs.load.Reads as load-reads
-use Rattle.session.proofs.store.Reads as store-reads
 
 load-requires : tie.Need-load-requires
 load-requires c κs = search needs

@@ -1,14 +1,10 @@
 use mathlib.Core.Path.{refl, sym, _∙_}
 use denote.Ref.{now}
-use Rattle.render.specs.RenderLaws.{answers}
-use Rattle.session.specs.Play.{buffer-own, buffer-not}
+use Rattle.render.proofs.RenderLaws.{answers}
+use Rattle.session.proofs.PlayLaws.{buffer-own, buffer-not}
 use borrow.Author.Needs.{needs}
 use Rattle.session.proofs.Session.to_buffer.Statement.{statement}
 use Rattle.session.proofs.Session.to_buffer.Tie as tie
-use Rattle.session.proofs.Session.to_buffer.Reads as reads
-use Rattle.session.proofs.Session.to_buffer.Lts as lts
-use Rattle.envelope.proofs.AutomationEnvelope.to_buffer.Reads as to-buffer-reads
-use Rattle.session.proofs.Session.in_order.Reads as in-order-reads
 
 in-order-requires : tie.Need-in-order-requires
 in-order-requires c κs = search needs
@@ -21,10 +17,11 @@ same-length c = search needs
 
 returns : tie.Need-returns
 returns c =
+    let to-buffer = c .before .before .to-buffer in
     let b = c .before .before .before .before .before in
     let a = b .before .before .before .args in
     let own = buffer-own (a .self) (a .rate) (a .duration) (a .place) (now (a .out)) (sym (b .before .in-order .ensures) ∙ b .if1 .taken) in
-    rw (sym own) (c .before .before .to-buffer .ensures)
+    rw (sym own) (to-buffer .ensures)
 
 returns-2 : tie.Need-returns-2
 returns-2 c =

@@ -10,10 +10,6 @@ use Rattle.sheet.specs.Told.{toldInput}
 use borrow.Author.Needs.{needs}
 use Rattle.sheet.proofs.play.block_at.Statement.{statement}
 use Rattle.sheet.proofs.play.block_at.Tie as tie
-use Rattle.sheet.proofs.play.block_at.Reads as reads
-use Rattle.sheet.proofs.play.block_at.Lts as lts
-use Rattle.lines.proofs.block.block_line.Reads as block-line-reads
-use Rattle.sheet.proofs.play.no_input.Reads as no-input-reads
 
 add-line : tie.Need-add-line
 add-line c = search needs
@@ -22,7 +18,11 @@ cast-line : tie.Need-cast-line
 cast-line c = search needs
 
 add-block-line : tie.Need-add-block-line
-add-block-line c = omega (arith, starts-with-length blockNames (c .before .before .before .args .s .now) (c .before .before .before .args .at) (c .before .before .before .pre .1) (omega arith), c .before .before .before .good)
+add-block-line c =
+    let args = c .before .before .before .args in
+    let pre = c .before .before .before .pre in
+    let good = c .before .before .before .good in
+    omega (arith, starts-with-length blockNames (args .s .now) (args .at) (pre .1) (omega arith), good)
 
 block-line-requires : tie.Need-block-line-requires
 block-line-requires c κs = search needs
@@ -44,15 +44,28 @@ no-input-requires-2 c κs = search needs
 
 returns : tie.Need-returns
 unfolding toldBlockLine
-returns c = rw (drop-drop 14 (c .before .before .before .before .before .before .before .before .before .args .at) (c .before .before .before .before .before .before .before .before .before .args .s .now), told (toldBlockLine _) (c .before .before .before .before .before .block-line .ensures .0) (c .before .before .before .block .given .1), empty-in (c .before .before .before .before .before .before .before .before .before .args .s .now) (c .before .before .before .block .given .0 .1 .0) (c .before .if1 .taken)) (c .no-input2 .ensures)
+returns c =
+    let args = c .before .before .before .before .before .before .before .before .before .args in
+    let block-line = c .before .before .before .before .before .block-line in
+    let block = c .before .before .before .block in
+    rw (drop-drop 14 (args .at) (args .s .now), told (toldBlockLine _) (block-line .ensures .0) (block .given .1), empty-in (args .s .now) (block .given .0 .1 .0) (c .before .if1 .taken))
+    (c .no-input2 .ensures)
 
 returns-2 : tie.Need-returns-2
 unfolding toldBlockLine
-returns-2 c = rw (drop-drop 14 (c .before .before .before .before .before .before .before .before .args .at) (c .before .before .before .before .before .before .before .before .args .s .now), told (toldBlockLine _) (c .before .before .before .before .block-line .ensures .0) (c .before .before .refusal .given .1)) (c .no-input .ensures)
+returns-2 c =
+    let args = c .before .before .before .before .before .before .before .before .args in
+    let block-line = c .before .before .before .before .block-line in
+    let refusal = c .before .before .refusal in
+    rw (drop-drop 14 (args .at) (args .s .now), told (toldBlockLine _) (block-line .ensures .0) (refusal .given .1)) (c .no-input .ensures)
 
 returns-3 : tie.Need-returns-3
 unfolding toldBlockLine toldInput
-returns-3 c = rw (drop-drop 14 (c .before .before .before .before .before .before .before .before .args .at) (c .before .before .before .before .before .before .before .before .args .s .now), told (toldBlockLine _) (c .before .before .before .before .block-line .ensures .0) (c .before .before .block .given .1), empty-out (c .before .before .before .before .before .before .before .before .args .s .now) (c .before .before .block .given .0 .1 .0) (c .if1 .left)) (refl, refl)
+returns-3 c =
+    let args = c .before .before .before .before .before .before .before .before .args in
+    let block-line = c .before .before .before .before .block-line in
+    let block = c .before .before .block in
+    rw (drop-drop 14 (args .at) (args .s .now), told (toldBlockLine _) (block-line .ensures .0) (block .given .1), empty-out (args .s .now) (block .given .0 .1 .0) (c .if1 .left)) (refl, refl)
 
 pub block-at-spec : {M : Type 1} → statement M
 block-at-spec =

@@ -4,9 +4,6 @@ use Rattle.sheet.specs.Told.{toldInput}
 use borrow.Author.Needs.{needs}
 use Rattle.sheet.proofs.play.no_input.Statement.{statement}
 use Rattle.sheet.proofs.play.no_input.Tie as tie
-use Rattle.sheet.proofs.play.no_input.Reads as reads
-use Rattle.sheet.proofs.play.no_input.Lts as lts
-use Rattle.envelope.proofs.AutomationEnvelope.new.Reads as new-reads
 
 new-requires : tie.Need-new-requires
 new-requires c κs = search needs

@@ -7,11 +7,6 @@ use Rattle.sheet.proofs.Valid.{few}
 use borrow.Author.Needs.{needs}
 use Rattle.sheet.proofs.play.read_play.Statement.{statement}
 use Rattle.sheet.proofs.play.read_play.Tie as tie
-use Rattle.sheet.proofs.play.read_play.Reads as reads
-use Rattle.sheet.proofs.play.read_play.Lts as lts
-use Rattle.sheet.proofs.play.block_at.Reads as block-at-reads
-use Rattle.sheet.proofs.play.no_input.Reads as no-input-reads
-use Rattle.sheet.proofs.read.sheet_lines.Reads as sheet-lines-reads
 
 sheet-lines-requires : tie.Need-sheet-lines-requires
 sheet-lines-requires c κs = search needs
@@ -27,16 +22,24 @@ enum-told c = search needs
 
 block-at-requires : tie.Need-block-at-requires
 unfolding pointsEnd
-block-at-requires c κs = let w = sheet-read true _ _ _ (accepted-lines _ _ (c .before .before .before .sheet-lines .ensures) (c .before .enum-told .given .1)) in
-    (few (c .before .before .before .sheet-lines .result .envelope) (w .valid), w .end)
+block-at-requires c κs =
+    let sheet-lines = c .before .before .before .sheet-lines in
+    let w = sheet-read true _ _ _ (accepted-lines _ _ (sheet-lines .ensures) (c .before .enum-told .given .1)) in
+    (few (sheet-lines .result .envelope) (w .valid), w .end)
 
 returns : tie.Need-returns
 unfolding playInput
-returns c = rw (refused-lines _ _ (c .before .before .before .before .sheet-lines .ensures) (c .before .before .answer .given .1)) (c .no-input .ensures)
+returns c =
+    let sheet-lines = c .before .before .before .before .sheet-lines in
+    let answer = c .before .before .answer in
+    rw (refused-lines _ _ (sheet-lines .ensures) (answer .given .1)) (c .no-input .ensures)
 
 returns-2 : tie.Need-returns-2
 unfolding playInput
-returns-2 c = rw (accepted-lines _ _ (c .before .before .before .before .sheet-lines .ensures) (c .before .before .enum-told .given .1)) (c .block-at .ensures)
+returns-2 c =
+    let sheet-lines = c .before .before .before .before .sheet-lines in
+    let enum-told = c .before .before .enum-told in
+    rw (accepted-lines _ _ (sheet-lines .ensures) (enum-told .given .1)) (c .block-at .ensures)
 
 pub read-play-spec : {M : Type 1} → statement M
 read-play-spec =

@@ -3,9 +3,6 @@ use Rattle.sheet.specs.Told.{toldSheetLines}
 use borrow.Author.Needs.{needs}
 use Rattle.sheet.proofs.read.no_sheet.Statement.{statement}
 use Rattle.sheet.proofs.read.no_sheet.Tie as tie
-use Rattle.sheet.proofs.read.no_sheet.Reads as reads
-use Rattle.sheet.proofs.read.no_sheet.Lts as lts
-use Rattle.envelope.proofs.AutomationEnvelope.new.Reads as new-reads
 
 new-requires : tie.Need-new-requires
 new-requires c κs = search needs

@@ -13,13 +13,6 @@ use Rattle.sheet.specs.Sheet.{pointNames, withSettings, sheetLines}
 use borrow.Author.Needs.{needs}
 use Rattle.sheet.proofs.read.sheet_lines.Statement.{statement}
 use Rattle.sheet.proofs.read.sheet_lines.Tie as tie
-use Rattle.sheet.proofs.read.sheet_lines.Reads as reads
-use Rattle.sheet.proofs.read.sheet_lines.Lts as lts
-use Rattle.fields.proofs.bytes.starts_with.Reads as starts-with-reads
-use Rattle.lines.proofs.point_lines.point_lines.Reads as point-lines-reads
-use Rattle.lines.proofs.settings.settings_line.Reads as settings-line-reads
-use Rattle.sheet.proofs.read.no_sheet.Reads as no-sheet-reads
-use Rattle.sheet.proofs.read.with_settings.Reads as with-settings-reads
 
 slice-aggregate-starts-with : tie.Need-slice-aggregate-starts-with
 slice-aggregate-starts-with c = search needs
@@ -32,7 +25,9 @@ no-sheet-requires c κs = search needs
 
 returns : tie.Need-returns
 unfolding sheetLines
-returns c = rw (sym (c .before .before .starts-with .ensures) ∙ not-true _ (c .before .if1 .taken)) (c .no-sheet .ensures _)
+returns c =
+    let starts-with = c .before .before .starts-with in
+    rw (sym (starts-with .ensures) ∙ not-true _ (c .before .if1 .taken)) (c .no-sheet .ensures _)
 
 settings-line-requires : tie.Need-settings-line-requires
 settings-line-requires c κs = search needs
@@ -57,10 +52,25 @@ no-sheet-requires-3 c κs = search needs
 
 returns-2 : tie.Need-returns-2
 unfolding sheetLines toldSettingsLine
-returns-2 c = rw (sym (c .before .before .before .before .before .before .before .before .before .starts-with .ensures) ∙ not-false _ (c .before .before .before .before .before .before .before .before .if1 .left), told (toldSettingsLine _) (c .before .before .before .before .before .before .before .settings-line .ensures .0) (c .before .before .before .before .before .settings .given .1), sym (c .before .before .starts-with2 .ensures) ∙ not-true _ (c .before .if2 .taken)) (c .no-sheet3 .ensures _)
+returns-2 c =
+    let starts-with = c .before .before .before .before .before .before .before .before .before .starts-with in
+    let if1 = c .before .before .before .before .before .before .before .before .if1 in
+    let settings-line = c .before .before .before .before .before .before .before .settings-line in
+    let settings = c .before .before .before .before .before .settings in
+    let starts-with2 = c .before .before .starts-with2 in
+    rw (
+      sym (starts-with .ensures) ∙ not-false _ (if1 .left),
+      told (toldSettingsLine _) (settings-line .ensures .0) (settings .given .1),
+      sym (starts-with2 .ensures) ∙ not-true _ (c .before .if2 .taken),
+    )
+    (c .no-sheet3 .ensures _)
 
 add-point-lines : tie.Need-add-point-lines
-add-point-lines c = omega (arith, starts-with-length pointNames (c .before .before .before .before .before .before .before .before .before .before .before .args .s .now) (c .before .before .before .before .settings .given .0 .1 .0) (sym (c .before .starts-with2 .ensures) ∙ not-false _ (c .if2 .left)) (omega arith), c .before .before .before .before .before .before .before .before .before .before .before .good)
+add-point-lines c =
+    let args = c .before .before .before .before .before .before .before .before .before .before .before .args in
+    let good = c .before .before .before .before .before .before .before .before .before .before .before .good in
+    let settings = c .before .before .before .before .settings in
+    omega (arith, starts-with-length pointNames (args .s .now) (settings .given .0 .1 .0) (sym (c .before .starts-with2 .ensures) ∙ not-false _ (c .if2 .left)) (omega arith), good)
 
 point-lines-requires : tie.Need-point-lines-requires
 point-lines-requires c κs = search needs
@@ -70,11 +80,31 @@ with-settings-requires c κs = search needs
 
 returns-3 : tie.Need-returns-3
 unfolding sheetLines toldSettingsLine
-returns-3 c = rw (sym (c .before .before .before .before .before .before .starts-with .ensures) ∙ not-false _ (c .before .before .before .before .before .if1 .left), told (toldSettingsLine _) (c .before .before .before .before .settings-line .ensures .0) (c .before .before .refusal .given .1)) (c .no-sheet2 .ensures _)
+returns-3 c =
+    let starts-with = c .before .before .before .before .before .before .starts-with in
+    let if1 = c .before .before .before .before .before .if1 in
+    let settings-line = c .before .before .before .before .settings-line in
+    let refusal = c .before .before .refusal in
+    rw (sym (starts-with .ensures) ∙ not-false _ (if1 .left), told (toldSettingsLine _) (settings-line .ensures .0) (refusal .given .1)) (c .no-sheet2 .ensures _)
 
 returns-4 : tie.Need-returns-4
 unfolding sheetLines toldSettingsLine
-returns-4 c = rw (sym (c .before .before .before .before .before .before .before .before .before .before .starts-with .ensures) ∙ not-false _ (c .before .before .before .before .before .before .before .before .before .if1 .left), told (toldSettingsLine _) (c .before .before .before .before .before .before .before .before .settings-line .ensures .0) (c .before .before .before .before .before .before .settings .given .1), sym (c .before .before .before .starts-with2 .ensures) ∙ not-false _ (c .before .before .if2 .left)) (c .with-settings .ensures _ ∙ ap (λ (x : Lines Points). withSettings (c .before .before .before .before .before .before .settings .given .0 .0) x) (c .before .point-lines .ensures .0 ∙ ap (λ (l : List ℕ). pointLines (c .before .before .before .before .before .before .before .before .before .before .before .before .before .args .program) 256 [] l) (sym (drop-drop 34 (c .before .before .before .before .before .before .settings .given .0 .1 .0) (c .before .before .before .before .before .before .before .before .before .before .before .before .before .args .s .now)))))
+returns-4 c =
+    let args = c .before .before .before .before .before .before .before .before .before .before .before .before .before .args in
+    let starts-with = c .before .before .before .before .before .before .before .before .before .before .starts-with in
+    let if1 = c .before .before .before .before .before .before .before .before .before .if1 in
+    let settings-line = c .before .before .before .before .before .before .before .before .settings-line in
+    let settings = c .before .before .before .before .before .before .settings in
+    let starts-with2 = c .before .before .before .starts-with2 in
+    let if2 = c .before .before .if2 in
+    rw (
+      sym (starts-with .ensures) ∙ not-false _ (if1 .left),
+      told (toldSettingsLine _) (settings-line .ensures .0) (settings .given .1),
+      sym (starts-with2 .ensures) ∙ not-false _ (if2 .left),
+    )
+    (c .with-settings .ensures _
+    ∙ ap (λ (x : Lines Points). withSettings (settings .given .0 .0) x)
+    (c .before .point-lines .ensures .0 ∙ ap (λ (l : List ℕ). pointLines (args .program) 256 [] l) (sym (drop-drop 34 (settings .given .0 .1 .0) (args .s .now)))))
 
 pub sheet-lines-spec : {M : Type 1} → statement M
 sheet-lines-spec =

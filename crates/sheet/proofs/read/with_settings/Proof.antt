@@ -3,8 +3,6 @@ use Rattle.sheet.specs.Told.{toldSheetLines}
 use Rattle.sheet.proofs.Answers.{with-settings}
 use Rattle.sheet.proofs.read.with_settings.Statement.{statement}
 use Rattle.sheet.proofs.read.with_settings.Tie as tie
-use Rattle.sheet.proofs.read.with_settings.Reads as reads
-use Rattle.sheet.proofs.read.with_settings.Lts as lts
 
 returns : tie.Need-returns
 unfolding toldPointLines toldSheetLines

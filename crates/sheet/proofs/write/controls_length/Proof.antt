@@ -2,8 +2,6 @@ use mathlib.Core.Path.{sym}
 use Rattle.sheet.proofs.Texts.{five-length, other-length}
 use Rattle.sheet.proofs.write.controls_length.Statement.{statement}
 use Rattle.sheet.proofs.write.controls_length.Tie as tie
-use Rattle.sheet.proofs.write.controls_length.Reads as reads
-use Rattle.sheet.proofs.write.controls_length.Lts as lts
 
 returns : tie.Need-returns
 returns c = sym (five-length (c .before .args .code) 0 0 (c .if1 .taken))

@@ -1,7 +1,7 @@
 use native.Mathlib.Omega.{arith}
 use lib.Ieee.{binary32}
 use lib.Ieee.Bits.{toBits-lt}
-use Rattle.numbers.specs.Tests.{no}
+use Rattle.numbers.proofs.Tests.{no}
 use Rattle.numbers.proofs.Compare.{finite-number}
 use borrow.Author.Needs.{needs}
 use Rattle.sheet.proofs.write.limit_bits.Statement.{statement}

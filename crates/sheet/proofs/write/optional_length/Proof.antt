@@ -3,8 +3,6 @@ use Rattle.fields.proofs.Stores.{some-length, none-length}
 use borrow.Author.Needs.{needs}
 use Rattle.sheet.proofs.write.optional_length.Statement.{statement}
 use Rattle.sheet.proofs.write.optional_length.Tie as tie
-use Rattle.sheet.proofs.write.optional_length.Reads as reads
-use Rattle.sheet.proofs.write.optional_length.Lts as lts
 
 enum-told : tie.Need-enum-told
 enum-told c = search needs

@@ -5,10 +5,6 @@ use Rattle.sheet.proofs.Texts.{point-length}
 use borrow.Author.Needs.{needs}
 use Rattle.sheet.proofs.write.point_length.Statement.{statement}
 use Rattle.sheet.proofs.write.point_length.Tie as tie
-use Rattle.sheet.proofs.write.point_length.Reads as reads
-use Rattle.sheet.proofs.write.point_length.Lts as lts
-use Rattle.sheet.proofs.write.controls_length.Reads as controls-length-reads
-use Rattle.sheet.proofs.write.optional_length.Reads as optional-length-reads
 
 optional-length-requires : tie.Need-optional-length-requires
 optional-length-requires c κs = search needs
@@ -20,10 +16,14 @@ controls-length-requires : tie.Need-controls-length-requires
 controls-length-requires c κs = search needs
 
 add-result-2 : tie.Need-add-result-2
-add-result-2 c = omega (arith, c .before .optional-length .ensures, length-le 16 0 (c .before .before .args .r .position), c .controls-length .ensures, controls-le (c .before .before .args .r .curve) 0 0)
+add-result-2 c =
+    let args = c .before .before .args in
+    omega (arith, c .before .optional-length .ensures, length-le 16 0 (args .r .position), c .controls-length .ensures, controls-le (args .r .curve) 0 0)
 
 returns : tie.Need-returns
-returns c = omega (arith, c .before .optional-length .ensures, c .controls-length .ensures, point-length (c .before .before .args .r))
+returns c =
+    let args = c .before .before .args in
+    omega (arith, c .before .optional-length .ensures, c .controls-length .ensures, point-length (args .r))
 
 pub point-length-spec : {M : Type 1} → statement M
 point-length-spec =

@@ -1,8 +1,6 @@
 use borrow.Author.Needs.{needs}
 use Rattle.sheet.proofs.write.position_bits.Statement.{statement}
 use Rattle.sheet.proofs.write.position_bits.Tie as tie
-use Rattle.sheet.proofs.write.position_bits.Reads as reads
-use Rattle.sheet.proofs.write.position_bits.Lts as lts
 
 enum-told : tie.Need-enum-told
 enum-told c = search needs

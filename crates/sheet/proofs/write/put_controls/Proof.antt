@@ -9,10 +9,6 @@ use Rattle.sheet.proofs.Texts.{controls-five, controls-other}
 use borrow.Author.Needs.{needs}
 use Rattle.sheet.proofs.write.put_controls.Statement.{statement}
 use Rattle.sheet.proofs.write.put_controls.Tie as tie
-use Rattle.sheet.proofs.write.put_controls.Reads as reads
-use Rattle.sheet.proofs.write.put_controls.Lts as lts
-use Rattle.fields.proofs.write.fit_bits.Reads as fit-bits-reads
-use Rattle.fields.proofs.write.fit_text.Reads as fit-text-reads
 
 fit-bits-requires : tie.Need-fit-bits-requires
 fit-bits-requires c κs = search needs
@@ -30,13 +26,28 @@ same-length : tie.Need-same-length
 same-length c = search needs
 
 returns : tie.Need-returns
-returns c = let h = subst (λ (l : List ℕ). c .before .before .before .before .before .before .before .before .before .before .args .at + length l ≤ length (c .before .before .before .before .before .before .before .before .before .before .args .out .now)) (sym (controls-five (c .before .before .before .before .before .before .before .before .before .before .args .code) (c .before .before .before .before .before .before .before .before .before .before .args .cp1) (c .before .before .before .before .before .before .before .before .before .before .args .cp2) (c .before .before .before .before .before .before .before .before .if1 .taken))) (c .before .before .before .before .before .before .before .before .before .before .pre) in subst (λ (l : List ℕ). Put (c .before .before .before .before .before .before .before .before .before .before .args .out .now) (c .before .before .before .before .before .before .before .before .before .before .args .at) l (c .before .before .fit-bits2 .last .0) (c .before .before .fit-bits2 .result)) (controls-five (c .before .before .before .before .before .before .before .before .before .before .args .code) (c .before .before .before .before .before .before .before .before .before .before .args .cp1) (c .before .before .before .before .before .before .before .before .before .before .args .cp2) (c .before .before .before .before .before .before .before .before .if1 .taken)) (fit-then (c .before .before .before .before .before .before .fit-bits .ensures) (numberText 16 8 10 (c .before .before .before .before .before .before .before .before .before .before .args .cp2)) h (put-fits (c .before .before .fit-bits2 .ensures) (room-after (c .before .before .before .before .before .before .fit-bits .ensures) (numberText 16 8 10 (c .before .before .before .before .before .before .before .before .before .before .args .cp2)) h)))
+returns c =
+    let entry = c .before .before .before .before .before .before .before .before .before .before in
+    let args = entry .args in
+    let if1 = c .before .before .before .before .before .before .before .before .if1 in
+    let fit-bits = c .before .before .before .before .before .before .fit-bits in
+    let fit-bits2 = c .before .before .fit-bits2 in
+    let h = subst (λ (l : List ℕ). args .at + length l ≤ length (args .out .now)) (sym (controls-five (args .code) (args .cp1) (args .cp2) (if1 .taken))) (entry .pre) in
+    subst (λ (l : List ℕ). Put (args .out .now) (args .at) l (fit-bits2 .last .0) (fit-bits2 .result)) (controls-five (args .code) (args .cp1) (args .cp2) (if1 .taken))
+    (fit-then (fit-bits .ensures) (numberText 16 8 10 (args .cp2)) h (put-fits (fit-bits2 .ensures) (room-after (fit-bits .ensures) (numberText 16 8 10 (args .cp2)) h)))
 
 same-length-2 : tie.Need-same-length-2
 same-length-2 c = search needs
 
 returns-2 : tie.Need-returns-2
-returns-2 c = let h = subst (λ (l : List ℕ). c .before .before .before .before .before .before .before .args .at + length l ≤ length (c .before .before .before .before .before .before .before .args .out .now)) (sym (controls-other (c .before .before .before .before .before .before .before .args .code) (c .before .before .before .before .before .before .before .args .cp1) (c .before .before .before .before .before .before .before .args .cp2) (c .before .before .before .before .before .if1 .left))) (c .before .before .before .before .before .before .before .pre) in subst (λ (l : List ℕ). Put (c .before .before .before .before .before .before .before .args .out .now) (c .before .before .before .before .before .before .before .args .at) l (c .before .before .fit-text .last .0) (c .before .before .fit-text .result)) (controls-other (c .before .before .before .before .before .before .before .args .code) (c .before .before .before .before .before .before .before .args .cp1) (c .before .before .before .before .before .before .before .args .cp2) (c .before .before .before .before .before .if1 .left)) (put-fits (c .before .before .fit-text .ensures) h)
+returns-2 c =
+    let entry = c .before .before .before .before .before .before .before in
+    let args = entry .args in
+    let if1 = c .before .before .before .before .before .if1 in
+    let fit-text = c .before .before .fit-text in
+    let h = subst (λ (l : List ℕ). args .at + length l ≤ length (args .out .now)) (sym (controls-other (args .code) (args .cp1) (args .cp2) (if1 .left))) (entry .pre) in
+    subst (λ (l : List ℕ). Put (args .out .now) (args .at) l (fit-text .last .0) (fit-text .result)) (controls-other (args .code) (args .cp1) (args .cp2) (if1 .left))
+    (put-fits (fit-text .ensures) h)
 
 pub put-controls-spec : {M : Type 1} → statement M
 put-controls-spec =

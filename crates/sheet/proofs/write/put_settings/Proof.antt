@@ -5,11 +5,6 @@ use Rattle.sheet.proofs.Texts.{fifth-room, five-put}
 use borrow.Author.Needs.{needs}
 use Rattle.sheet.proofs.write.put_settings.Statement.{statement}
 use Rattle.sheet.proofs.write.put_settings.Tie as tie
-use Rattle.sheet.proofs.write.put_settings.Reads as reads
-use Rattle.sheet.proofs.write.put_settings.Lts as lts
-use Rattle.fields.proofs.write.fit_decimal.Reads as fit-decimal-reads
-use Rattle.fields.proofs.write.fit_flag.Reads as fit-flag-reads
-use Rattle.fields.proofs.write.fit_optional.Reads as fit-optional-reads
 
 fit-decimal-requires : tie.Need-fit-decimal-requires
 fit-decimal-requires c κs = search needs
@@ -31,7 +26,17 @@ same-length c = search needs
 
 returns : tie.Need-returns
 unfolding settingsText
-returns c = let u = optionalText 8 10 (c .before .before .before .before .before .before .before .before .before .before .before .before .before .before .before .before .before .before .before .before .before .args .r .step) in five-put u (c .before .before .before .before .before .before .before .before .before .before .before .before .before .before .before .before .before .before .before .before .before .pre) (c .before .before .before .before .before .before .before .before .before .before .before .before .before .before .before .before .before .before .fit-decimal .ensures) (c .before .before .before .before .before .before .before .before .before .before .before .before .before .before .fit-flag .ensures) (c .before .before .before .before .before .before .before .before .before .before .fit-optional .ensures) (c .before .before .before .before .before .before .fit-optional2 .ensures) (put-fits (c .before .before .fit-optional3 .ensures) (fifth-room u (c .before .before .before .before .before .before .before .before .before .before .before .before .before .before .before .before .before .before .before .before .before .pre) (c .before .before .before .before .before .before .before .before .before .before .before .before .before .before .before .before .before .before .fit-decimal .ensures) (c .before .before .before .before .before .before .before .before .before .before .before .before .before .before .fit-flag .ensures) (c .before .before .before .before .before .before .before .before .before .before .fit-optional .ensures) (c .before .before .before .before .before .before .fit-optional2 .ensures)))
+returns c =
+    let entry = c .before .before .before .before .before .before .before .before .before .before .before .before .before .before .before .before .before .before .before .before .before in
+    let args = entry .args in
+    let fit-decimal = c .before .before .before .before .before .before .before .before .before .before .before .before .before .before .before .before .before .before .fit-decimal in
+    let fit-flag = c .before .before .before .before .before .before .before .before .before .before .before .before .before .before .fit-flag in
+    let fit-optional = c .before .before .before .before .before .before .before .before .before .before .fit-optional in
+    let fit-optional2 = c .before .before .before .before .before .before .fit-optional2 in
+    let fit-optional3 = c .before .before .fit-optional3 in
+    let u = optionalText 8 10 (args .r .step) in
+    five-put u (entry .pre) (fit-decimal .ensures) (fit-flag .ensures) (fit-optional .ensures) (fit-optional2 .ensures)
+    (put-fits (fit-optional3 .ensures) (fifth-room u (entry .pre) (fit-decimal .ensures) (fit-flag .ensures) (fit-optional .ensures) (fit-optional2 .ensures)))
 
 pub put-settings-spec : {M : Type 1} → statement M
 put-settings-spec =

@@ -3,12 +3,6 @@ use Rattle.sheet.proofs.Valid.{limits-finite, points-finite}
 use borrow.Author.Needs.{needs}
 use Rattle.sheet.proofs.write.put_sheet.Statement.{statement}
 use Rattle.sheet.proofs.write.put_sheet.Tie as tie
-use Rattle.sheet.proofs.write.put_sheet.Reads as reads
-use Rattle.sheet.proofs.write.put_sheet.Lts as lts
-use Rattle.fields.proofs.write.fit_text.Reads as fit-text-reads
-use Rattle.sheet.proofs.write.put_points.Reads as put-points-reads
-use Rattle.sheet.proofs.write.put_settings.Reads as put-settings-reads
-use Rattle.sheet.proofs.write.raw_settings.Reads as raw-settings-reads
 
 slice-aggregate-fit-text : tie.Need-slice-aggregate-fit-text
 slice-aggregate-fit-text c = search needs
@@ -17,10 +11,17 @@ fit-text-requires : tie.Need-fit-text-requires
 fit-text-requires c κs = search needs
 
 raw-settings-requires : tie.Need-raw-settings-requires
-raw-settings-requires c κs = limits-finite (c .before .before .before .before .before .before .before .before .args .e) (c .before .before .before .before .before .before .before .before .pre .0)
+raw-settings-requires c κs =
+    let entry = c .before .before .before .before .before .before .before .before in
+    let args = entry .args in
+    limits-finite (args .e) (entry .pre .0)
 
 put-settings-requires : tie.Need-put-settings-requires
-put-settings-requires c κs = rw (c .raw-settings .ensures) (settings-room (c .before .before .before .before .before .before .before .before .before .args .e) (c .before .before .before .before .before .before .before .before .before .pre .1) (c .before .before .before .before .fit-text .ensures))
+put-settings-requires c κs =
+    let entry = c .before .before .before .before .before .before .before .before .before in
+    let args = entry .args in
+    let fit-text = c .before .before .before .before .fit-text in
+    rw (c .raw-settings .ensures) (settings-room (args .e) (entry .pre .1) (fit-text .ensures))
 
 slice-aggregate-fit-text-2 : tie.Need-slice-aggregate-fit-text-2
 slice-aggregate-fit-text-2 c = search needs
@@ -29,13 +30,28 @@ fit-text-requires-2 : tie.Need-fit-text-requires-2
 fit-text-requires-2 c κs = search needs
 
 put-points-requires : tie.Need-put-points-requires
-put-points-requires c κs = (points-finite (c .before .before .before .before .before .before .before .before .before .before .before .before .before .before .before .before .before .before .args .e) (c .before .before .before .before .before .before .before .before .before .before .before .before .before .before .before .before .before .before .pre .0), points-room (c .before .before .before .before .before .before .before .before .before .before .before .before .before .before .before .before .before .before .args .e) (c .before .before .before .before .before .before .before .before .before .before .before .before .before .before .before .before .before .before .pre .1) (c .before .before .before .before .before .before .before .before .before .before .before .before .before .fit-text .ensures) (rw (c .before .before .before .before .before .before .before .before .before .raw-settings .ensures) at (c .before .before .before .before .before .before .before .before .put-settings .ensures)) (c .before .before .before .fit-text2 .ensures))
+put-points-requires c κs =
+    let entry = c .before .before .before .before .before .before .before .before .before .before .before .before .before .before .before .before .before .before in
+    let args = entry .args in
+    let fit-text = c .before .before .before .before .before .before .before .before .before .before .before .before .before .fit-text in
+    let raw-settings = c .before .before .before .before .before .before .before .before .before .raw-settings in
+    let put-settings = c .before .before .before .before .before .before .before .before .put-settings in
+    let fit-text2 = c .before .before .before .fit-text2 in
+    (points-finite (args .e) (entry .pre .0), points-room (args .e) (entry .pre .1) (fit-text .ensures) (rw (raw-settings .ensures) at (put-settings .ensures)) (fit-text2 .ensures))
 
 same-length : tie.Need-same-length
 same-length c = search needs
 
 returns : tie.Need-returns
-returns c = sheet-put (c .before .before .before .before .before .before .before .before .before .before .before .before .before .before .before .before .before .before .before .before .before .args .e) (c .before .before .before .before .before .before .before .before .before .before .before .before .before .before .before .before .before .before .before .before .before .pre .1) (c .before .before .before .before .before .before .before .before .before .before .before .before .before .before .before .before .fit-text .ensures) (rw (c .before .before .before .before .before .before .before .before .before .before .before .before .raw-settings .ensures) at (c .before .before .before .before .before .before .before .before .before .before .before .put-settings .ensures)) (c .before .before .before .before .before .before .fit-text2 .ensures) (c .before .before .put-points .ensures)
+returns c =
+    let entry = c .before .before .before .before .before .before .before .before .before .before .before .before .before .before .before .before .before .before .before .before .before in
+    let args = entry .args in
+    let fit-text = c .before .before .before .before .before .before .before .before .before .before .before .before .before .before .before .before .fit-text in
+    let raw-settings = c .before .before .before .before .before .before .before .before .before .before .before .before .raw-settings in
+    let put-settings = c .before .before .before .before .before .before .before .before .before .before .before .put-settings in
+    let fit-text2 = c .before .before .before .before .before .before .fit-text2 in
+    let put-points = c .before .before .put-points in
+    sheet-put (args .e) (entry .pre .1) (fit-text .ensures) (rw (raw-settings .ensures) at (put-settings .ensures)) (fit-text2 .ensures) (put-points .ensures)
 
 pub put-sheet-spec : {M : Type 1} → statement M
 put-sheet-spec =

@@ -1,5 +1,5 @@
 use Rattle.sheet.specs.Text.{rawPoint}
-use Rattle.numbers.specs.Tests.{no}
+use Rattle.numbers.proofs.Tests.{no}
 use Rattle.numbers.proofs.Compare.{finite-number}
 use Rattle.sheet.proofs.Valid.{finite-time, finite-value, finite-cp1, finite-cp2}
 use borrow.Author.Needs.{needs}
@@ -13,23 +13,41 @@ position-bits-requires : tie.Need-position-bits-requires
 position-bits-requires c κs = search needs
 
 float-to-bits-t6 : tie.Need-float-to-bits-t6
-float-to-bits-t6 c = no (finite-number _ (finite-time (c .before .before .before .args .p) (c .before .before .before .pre)))
+float-to-bits-t6 c =
+    let entry = c .before .before .before in
+    let args = entry .args in
+    no (finite-number _ (finite-time (args .p) (entry .pre)))
 
 float-to-bits-t7 : tie.Need-float-to-bits-t7
-float-to-bits-t7 c = no (finite-number _ (finite-value (c .before .before .before .before .args .p) (c .before .before .before .before .pre)))
+float-to-bits-t7 c =
+    let entry = c .before .before .before .before in
+    let args = entry .args in
+    no (finite-number _ (finite-value (args .p) (entry .pre)))
 
 code-requires : tie.Need-code-requires
 code-requires c κs = search needs
 
 float-to-bits-t9 : tie.Need-float-to-bits-t9
-float-to-bits-t9 c = rw (c .before .before .before .before .before .controls .ensures) (no (finite-number _ (finite-cp1 (c .before .before .before .before .before .before .args .p) (c .before .before .before .before .before .before .pre))))
+float-to-bits-t9 c =
+    let entry = c .before .before .before .before .before .before in
+    let args = entry .args in
+    let controls = c .before .before .before .before .before .controls in
+    rw (controls .ensures) (no (finite-number _ (finite-cp1 (args .p) (entry .pre))))
 
 float-to-bits-t10 : tie.Need-float-to-bits-t10
-float-to-bits-t10 c = rw (c .before .before .before .before .before .before .controls .ensures) (no (finite-number _ (finite-cp2 (c .before .before .before .before .before .before .before .args .p) (c .before .before .before .before .before .before .before .pre))))
+float-to-bits-t10 c =
+    let entry = c .before .before .before .before .before .before .before in
+    let args = entry .args in
+    let controls = c .before .before .before .before .before .before .controls in
+    rw (controls .ensures) (no (finite-number _ (finite-cp2 (args .p) (entry .pre))))
 
 returns : tie.Need-returns
 unfolding rawPoint
-returns c = rw (c .before .before .before .before .before .before .controls .ensures, c .before .before .before .before .before .position-bits .ensures, c .before .before .code .ensures)
+returns c =
+    let controls = c .before .before .before .before .before .before .controls in
+    let position-bits = c .before .before .before .before .before .position-bits in
+    let code = c .before .before .code in
+    rw (controls .ensures, position-bits .ensures, code .ensures)
 
 pub raw-point-spec : {M : Type 1} → statement M
 raw-point-spec =

@@ -3,10 +3,6 @@ use Rattle.sheet.proofs.Valid.{finite-min, finite-max, finite-step}
 use borrow.Author.Needs.{needs}
 use Rattle.sheet.proofs.write.raw_settings.Statement.{statement}
 use Rattle.sheet.proofs.write.raw_settings.Tie as tie
-use Rattle.sheet.proofs.write.raw_settings.Reads as reads
-use Rattle.sheet.proofs.write.raw_settings.Lts as lts
-use Rattle.sheet.proofs.write.enabled_digit.Reads as enabled-digit-reads
-use Rattle.sheet.proofs.write.limit_bits.Reads as limit-bits-reads
 
 limit-bits-requires : tie.Need-limit-bits-requires
 limit-bits-requires c κs = finite-min (c .args .e) (c .pre)
@@ -22,7 +18,10 @@ enabled-digit-requires c κs = search needs
 
 returns : tie.Need-returns
 unfolding rawSettings
-returns c = rw (c .before .before .before .limit-bits .ensures, c .before .before .limit-bits2 .ensures, c .before .limit-bits3 .ensures, c .enabled-digit .ensures)
+returns c =
+    let limit-bits = c .before .before .before .limit-bits in
+    let limit-bits2 = c .before .before .limit-bits2 in
+    rw (limit-bits .ensures, limit-bits2 .ensures, c .before .limit-bits3 .ensures, c .enabled-digit .ensures)
 
 pub raw-settings-spec : {M : Type 1} → statement M
 raw-settings-spec =

@@ -10,11 +10,6 @@ use Rattle.fields.proofs.Stores.{put-all}
 use borrow.Author.Needs.{needs}
 use Rattle.sheet.proofs.write.write_sheet.Statement.{statement}
 use Rattle.sheet.proofs.write.write_sheet.Tie as tie
-use Rattle.sheet.proofs.write.write_sheet.Reads as reads
-use Rattle.sheet.proofs.write.write_sheet.Lts as lts
-use Rattle.envelope.proofs.AutomationEnvelope.is_valid.Reads as is-valid-reads
-use Rattle.sheet.proofs.write.put_sheet.Reads as put-sheet-reads
-use Rattle.sheet.proofs.write.sheet_length.Reads as sheet-length-reads
 
 is-valid-requires : tie.Need-is-valid-requires
 is-valid-requires c κs = search needs
@@ -28,19 +23,36 @@ sheet-length-requires c κs = sym (c .before .is-valid .ensures) ∙ not-false _
 
 returns-2 : tie.Need-returns-2
 unfolding writeSheet toldWritten
-returns-2 c = let short = lt-leb (length (sheetText (c .before .before .before .before .before .args .envelope))) (length (c .before .before .before .before .before .args .out .now)) (omega (arith, c .before .sheet-length .ensures, c .if2 .taken)) in
-    (rw (sym (c .before .before .before .is-valid .ensures) ∙ not-false _ (c .before .before .if1 .left), short), rw (sym (c .before .before .before .is-valid .ensures) ∙ not-false _ (c .before .before .if1 .left), short))
+returns-2 c =
+    let args = c .before .before .before .before .before .args in
+    let is-valid = c .before .before .before .is-valid in
+    let if1 = c .before .before .if1 in
+    let short = lt-leb (length (sheetText (args .envelope))) (length (args .out .now)) (omega (arith, c .before .sheet-length .ensures, c .if2 .taken)) in
+    (rw (sym (is-valid .ensures) ∙ not-false _ (if1 .left), short), rw (sym (is-valid .ensures) ∙ not-false _ (if1 .left), short))
 
 put-sheet-requires : tie.Need-put-sheet-requires
-put-sheet-requires c κs = (sym (c .before .before .before .before .is-valid .ensures) ∙ not-false _ (c .before .before .before .if1 .left), omega (arith, c .before .before .sheet-length .ensures, c .before .if2 .left))
+put-sheet-requires c κs =
+    let is-valid = c .before .before .before .before .is-valid in
+    let if1 = c .before .before .before .if1 in
+    let sheet-length = c .before .before .sheet-length in
+    (sym (is-valid .ensures) ∙ not-false _ (if1 .left), omega (arith, sheet-length .ensures, c .before .if2 .left))
 
 same-length : tie.Need-same-length
 same-length c = search needs
 
 returns-3 : tie.Need-returns-3
 unfolding writeSheet toldWritten
-returns-3 c = let fits = le-leb (length (sheetText (c .before .before .before .before .before .before .before .before .before .args .envelope))) (length (c .before .before .before .before .before .before .before .before .before .args .out .now)) (omega (arith, c .before .before .before .before .before .sheet-length .ensures, c .before .before .before .before .if2 .left)) in
-    (rw (sym (c .before .before .before .before .before .before .before .is-valid .ensures) ∙ not-false _ (c .before .before .before .before .before .before .if1 .left), fits) (ap gives (c .before .before .put-sheet .ensures .next ∙ zero-add _)), rw (sym (c .before .before .before .before .before .before .before .is-valid .ensures) ∙ not-false _ (c .before .before .before .before .before .before .if1 .left), fits) (put-all _ _ _ _ (c .before .before .put-sheet .ensures) (omega (arith, c .before .before .before .before .before .sheet-length .ensures, c .before .before .before .before .if2 .left))))
+returns-3 c =
+    let args = c .before .before .before .before .before .before .before .before .before .args in
+    let is-valid = c .before .before .before .before .before .before .before .is-valid in
+    let if1 = c .before .before .before .before .before .before .if1 in
+    let sheet-length = c .before .before .before .before .before .sheet-length in
+    let if2 = c .before .before .before .before .if2 in
+    let put-sheet = c .before .before .put-sheet in
+    let fits = le-leb (length (sheetText (args .envelope))) (length (args .out .now)) (omega (arith, sheet-length .ensures, if2 .left)) in (
+      rw (sym (is-valid .ensures) ∙ not-false _ (if1 .left), fits) (ap gives (put-sheet .ensures .next ∙ zero-add _)),
+      rw (sym (is-valid .ensures) ∙ not-false _ (if1 .left), fits) (put-all _ _ _ _ (put-sheet .ensures) (omega (arith, sheet-length .ensures, if2 .left))),
+    )
 
 pub write-sheet-spec : {M : Type 1} → statement M
 write-sheet-spec =

@@ -5,9 +5,6 @@ use Rattle.envelope.specs.declared.AutomationEnvelope.{AutomationEnvelope}
 use borrow.Author.Needs.{needs}
 use Rattle.state.proofs.read.no_state.Statement.{statement}
 use Rattle.state.proofs.read.no_state.Tie as tie
-use Rattle.state.proofs.read.no_state.Reads as reads
-use Rattle.state.proofs.read.no_state.Lts as lts
-use Rattle.envelope.proofs.AutomationEnvelope.new.Reads as new-reads
 
 new-requires : tie.Need-new-requires
 new-requires c κs = search needs

@@ -1,8 +1,6 @@
 use borrow.Author.Needs.{needs}
 use Rattle.state.proofs.read.position_of.Statement.{statement}
 use Rattle.state.proofs.read.position_of.Tie as tie
-use Rattle.state.proofs.read.position_of.Reads as reads
-use Rattle.state.proofs.read.position_of.Lts as lts
 
 returns : tie.Need-returns
 returns c = rw (c .if1 .taken)

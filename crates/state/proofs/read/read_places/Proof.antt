@@ -8,14 +8,16 @@ use lib.ListN.{length, take, drop, getD, length-set, getD-replicate}
 use lib.Seq.{getD-set-other}
 use Rattle.points.specs.Point.{unused, anyPoint}
 use Rattle.points.specs.Points.{everyPair}
-use Rattle.points.specs.Laws.{and-true}
+use Rattle.points.proofs.Laws.{and-true}
 use Rattle.state.specs.State.{packPoints, pointsOf}
 use Rattle.state.proofs.Words.{unused-read, unused-same, read-none, same-none, read-turn, stands-turn, same-turn, read-all, same-all}
 use Rattle.state.proofs.read.read_places.Statement.{statement}
 use Rattle.state.proofs.read.read_places.Tie as tie
 
 abbrev Inv-loop : tie.InvT-loop
-Inv-loop words places₀ same₀ i₀ places same i = (i ≤ 256) × (length places ≡ 256) × (take i places ≡ pointsOf i (drop 4 words)) × (same ≡ everyPair eqb (packPoints (pointsOf i (drop 4 words))) (take (4 * i) (drop 4 words))) × ((k : ℕ) → i ≤ k → k < 256 → getD places k anyPoint ≡ unused)
+Inv-loop words places₀ same₀ i₀ places same i =
+    (i ≤ 256) × (length places ≡ 256) × (take i places ≡ pointsOf i (drop 4 words)) × (same ≡ everyPair eqb (packPoints (pointsOf i (drop 4 words))) (take (4 * i) (drop 4 words)))
+    × ((k : ℕ) → i ≤ k → k < 256 → getD places k anyPoint ≡ unused)
 
 abbrev μ-loop : tie.MeasureT-loop
 μ-loop words places₀ same₀ i₀ places same i = 256 - i
@@ -24,7 +26,9 @@ unused-requires : tie.Need-unused-requires Inv-loop μ-loop
 unused-requires c κs = tt
 
 loop-holds : tie.Need-loop-holds Inv-loop μ-loop
-loop-holds c = (omega arith, refl, read-none (c .before .before .args .words .now), same-none (c .before .before .args .words .now), λ k a b. getD-replicate 256 k (c .unused .result) anyPoint b ∙ c .unused .ensures)
+loop-holds c =
+    let args = c .before .before .args in
+    (omega arith, refl, read-none (args .words .now), same-none (args .words .now), λ k a b. getD-replicate 256 k (c .unused .result) anyPoint b ∙ c .unused .ensures)
 
 mul-at : tie.Need-mul-at Inv-loop μ-loop
 mul-at c = omega arith
@@ -72,17 +76,29 @@ loop-less : tie.Need-loop-less Inv-loop μ-loop
 loop-less c = omega arith
 
 loop-again : tie.Need-loop-again Inv-loop μ-loop
-loop-again c = let w = c .before .before .before .before .before .before .before .before .before .args .words .now in
+loop-again c =
+    let args = c .before .before .before .before .before .before .before .before .before .args in
+    let pre = c .before .before .before .before .before .before .before .before .before .pre in
+    let w = args .words .now in
     let h = c .before .before .before .before .before .before .loop in
     let z = c .if1 .taken in
-    let u = unused-read w (4 + 4 * h .i) z in
-    (omega arith, h .inv .1, stands-turn w (h .i) unused u (h .places) anyPoint (omega (arith, h .inv .1)) (h .inv .4 (h .i) (omega arith) (omega arith)) (h .inv .2), sym (and-true (h .same)) ∙ same-turn w (h .i) unused u (h .same) true (omega (arith, c .before .before .before .before .before .before .before .before .before .pre)) (h .inv .3) (unused-same w (4 + 4 * h .i) z (omega (arith, c .before .before .before .before .before .before .before .before .before .pre))), λ k a b. h .inv .4 k (omega arith) b)
+    let u = unused-read w (4 + 4 * h .i) z in (
+      omega arith,
+      h .inv .1,
+      stands-turn w (h .i) unused u (h .places) anyPoint (omega (arith, h .inv .1)) (h .inv .4 (h .i) (omega arith) (omega arith)) (h .inv .2),
+      sym (and-true (h .same)) ∙ same-turn w (h .i) unused u (h .same) true (omega (arith, pre)) (h .inv .3) (unused-same w (4 + 4 * h .i) z (omega (arith, pre))),
+      λ k a b. h .inv .4 k (omega arith) b,
+    )
 
 read-point-requires : tie.Need-read-point-requires Inv-loop μ-loop
-read-point-requires c κs = omega (arith, c .before .before .before .before .before .before .before .before .before .pre)
+read-point-requires c κs =
+    let pre = c .before .before .before .before .before .before .before .before .before .pre in
+    omega (arith, pre)
 
 same-point-requires : tie.Need-same-point-requires Inv-loop μ-loop
-same-point-requires c κs = omega (arith, c .before .before .before .before .before .before .before .before .before .before .pre)
+same-point-requires c κs =
+    let pre = c .before .before .before .before .before .before .before .before .before .before .pre in
+    omega (arith, pre)
 
 mul-places : tie.Need-mul-places Inv-loop μ-loop
 mul-places c = omega arith
@@ -97,17 +113,28 @@ loop-less-2 : tie.Need-loop-less-2 Inv-loop μ-loop
 loop-less-2 c = omega arith
 
 loop-again-2 : tie.Need-loop-again-2 Inv-loop μ-loop
-loop-again-2 c = let w = c .before .before .before .before .before .before .before .before .before .before .before .args .words .now in
+loop-again-2 c =
+    let args = c .before .before .before .before .before .before .before .before .before .before .before .args in
+    let pre = c .before .before .before .before .before .before .before .before .before .before .before .pre in
+    let w = args .words .now in
     let h = c .before .before .before .before .before .before .before .before .loop in
     let p = c .before .read-point .result in
-    let is = c .before .read-point .ensures in
-    (omega arith, simp length-set (h .inv .1), read-turn w (h .i) p is (h .places) (omega (arith, h .inv .1)) (h .inv .2), same-turn w (h .i) p is (h .same) (c .same-point .result) (omega (arith, c .before .before .before .before .before .before .before .before .before .before .before .pre)) (h .inv .3) (c .same-point .ensures), λ k a b. getD-set-other (h .places) (h .i) k p anyPoint (λ e. omega (arith, e)) ∙ h .inv .4 k (omega arith) b)
+    let is = c .before .read-point .ensures in (
+      omega arith,
+      simp length-set (h .inv .1),
+      read-turn w (h .i) p is (h .places) (omega (arith, h .inv .1)) (h .inv .2),
+      same-turn w (h .i) p is (h .same) (c .same-point .result) (omega (arith, pre)) (h .inv .3) (c .same-point .ensures),
+      λ k a b. getD-set-other (h .places) (h .i) k p anyPoint (λ e. omega (arith, e)) ∙ h .inv .4 k (omega arith) b,
+    )
 
 returns : tie.Need-returns Inv-loop μ-loop
-returns c = let w = c .before .before .before .before .args .words .now in
+returns c =
+    let args = c .before .before .before .before .args in
+    let pre = c .before .before .before .before .pre in
+    let w = args .words .now in
     let h = c .before .loop in
     let i : h .i ≡ 256 = omega (arith, h .inv .0) in
-    (read-all w (h .places) (h .i) i (h .inv .1) (h .inv .2), same-all w (h .same) (h .i) i (c .before .before .before .before .pre) (h .inv .3))
+    (read-all w (h .places) (h .i) i (h .inv .1) (h .inv .2), same-all w (h .same) (h .i) i (pre) (h .inv .3))
 
 pub read-places-spec : {M : Type 1} → statement M
 read-places-spec =

@@ -79,16 +79,26 @@ from-code-requires c κs = search needs
 returns : tie.Need-returns
 unfolding pointOf
 returns c =
-    let w = c .before .before .before .before .before .before .before .before .before .before .before .before .before .before .before .before .args .words .now in
-    let at = c .before .before .before .before .before .before .before .before .before .before .before .before .before .before .before .before .args .at in
-    let tag = c .before .before .before .before .before .before .before .before .before .before .before .before .high .ensures in
+    let args = c .before .before .before .before .before .before .before .before .before .before .before .before .before .before .before .before .args in
+    let high = c .before .before .before .before .before .before .before .before .before .before .before .before .high in
+    let low = c .before .before .before .before .before .before .before .before .before .before .before .low in
+    let from-bitsf = c .before .before .before .before .before .before .before .before .before .before .from-bitsf in
+    let high2 = c .before .before .before .before .before .before .before .before .before .high2 in
+    let from-bitsf2 = c .before .before .before .before .before .before .before .before .from-bitsf2 in
+    let from-bits = c .before .before .before .before .before .before .from-bits in
+    let bit′ = c .before .before .before .before .before .bit in
+    let position-of = c .before .before .before .position-of in
+    let low2 = c .before .before .low2 in
+    let w = args .words .now in
+    let at = args .at in
+    let tag = high .ensures in
     (λ i. record {
-      time = c .before .before .before .before .before .before .from-bits .ensures i;
-      «sample_position» = (c .before .before .before .position-of .ensures ∙ ap (λ (b : Bool). positionOf b (getD w (at + 1) 0)) (c .before .before .before .before .before .bit .ensures ∙ ap (bit 1) tag)) i;
-      value = (c .before .from-bitsf3 .ensures ∙ ap (ofBits binary32) (c .before .before .low2 .ensures)) i;
+      time = from-bits .ensures i;
+      «sample_position» = (position-of .ensures ∙ ap (λ (b : Bool). positionOf b (getD w (at + 1) 0)) (bit′ .ensures ∙ ap (bit 1) tag)) i;
+      value = (c .before .from-bitsf3 .ensures ∙ ap (ofBits binary32) (low2 .ensures)) i;
       curve = (
           c .from-code .ensures
-          ∙ (λ j. curveOf (tag j / 2) ((c .before .before .before .before .before .before .before .before .before .before .from-bitsf .ensures ∙ ap (ofBits binary32) (c .before .before .before .before .before .before .before .before .before .before .before .low .ensures)) j) ((c .before .before .before .before .before .before .before .before .from-bitsf2 .ensures ∙ ap (ofBits binary32) (c .before .before .before .before .before .before .before .before .before .high2 .ensures)) j))) i;
+          ∙ (λ j. curveOf (tag j / 2) ((from-bitsf .ensures ∙ ap (ofBits binary32) (low .ensures)) j) ((from-bitsf2 .ensures ∙ ap (ofBits binary32) (high2 .ensures)) j))) i;
     })
     ∙ point-at w at
 

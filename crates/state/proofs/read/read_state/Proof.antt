@@ -10,19 +10,14 @@ use Rattle.state.proofs.Calls.{tested, other-length, accepted, refused}
 use borrow.Author.Needs.{needs}
 use Rattle.state.proofs.read.read_state.Statement.{statement}
 use Rattle.state.proofs.read.read_state.Tie as tie
-use Rattle.state.proofs.read.read_state.Reads as reads
-use Rattle.state.proofs.read.read_state.Lts as lts
-use Rattle.envelope.proofs.AutomationEnvelope.is_valid.Reads as is-valid-reads
-use Rattle.state.proofs.read.no_state.Reads as no-state-reads
-use Rattle.state.proofs.read.read_places.Reads as read-places-reads
-use Rattle.state.proofs.read.same_settings.Reads as same-settings-reads
-use Rattle.state.proofs.read.with_places.Reads as with-places-reads
 
 no-state-requires : tie.Need-no-state-requires
 no-state-requires c κs = search needs
 
 returns : tie.Need-returns
-returns c = refused (c .before .before .before .args .words .now) false (c .no-state .result) (other-length (c .before .before .before .args .words .now) (c .before .if1 .taken)) refl (c .no-state .ensures)
+returns c =
+    let args = c .before .before .before .args in
+    refused (args .words .now) false (c .no-state .result) (other-length (args .words .now) (c .before .if1 .taken)) refl (c .no-state .ensures)
 
 read-places-requires : tie.Need-read-places-requires
 read-places-requires c κs = search needs
@@ -41,24 +36,38 @@ no-state-requires-2 c κs = search needs
 
 returns-2 : tie.Need-returns-2
 returns-2 c =
-    let w = c .before .before .before .before .before .before .before .before .before .args .words .now in
-    let s = c .before .before .before .before .with-places .ensures in
-    let valid = c .before .before .before .is-valid .result in
-    let settings = c .before .before .same-settings .result in
-    let places = c .before .before .before .before .before .before .read-places .result .same in
-    accepted w (valid && (settings && places)) (c .before .before .before .before .with-places .result)
-    (tested w valid settings places (c .before .before .before .before .before .before .before .if1 .left) (c .before .before .before .is-valid .ensures ∙ ap validEnvelope s) (c .before .before .same-settings .ensures ∙ ap (λ (e : AutomationEnvelope). everyPair eqb (packSettings e) (take 4 w)) s) (c .before .before .before .before .before .before .read-places .ensures .1))
+    let args = c .before .before .before .before .before .before .before .before .before .args in
+    let if1 = c .before .before .before .before .before .before .before .if1 in
+    let read-places = c .before .before .before .before .before .before .read-places in
+    let with-places = c .before .before .before .before .with-places in
+    let is-valid = c .before .before .before .is-valid in
+    let same-settings = c .before .before .same-settings in
+    let w = args .words .now in
+    let s = with-places .ensures in
+    let valid = is-valid .result in
+    let settings = same-settings .result in
+    let places = read-places .result .same in
+    accepted w (valid && (settings && places)) (with-places .result)
+    (tested w valid settings places (if1 .left) (is-valid .ensures ∙ ap validEnvelope s)
+    (same-settings .ensures ∙ ap (λ (e : AutomationEnvelope). everyPair eqb (packSettings e) (take 4 w)) s) (read-places .ensures .1))
     (c .if2 .taken) s
 
 returns-3 : tie.Need-returns-3
 returns-3 c =
-    let w = c .before .before .before .before .before .before .before .before .before .before .args .words .now in
-    let s = c .before .before .before .before .before .with-places .ensures in
-    let valid = c .before .before .before .before .is-valid .result in
-    let settings = c .before .before .before .same-settings .result in
-    let places = c .before .before .before .before .before .before .before .read-places .result .same in
+    let args = c .before .before .before .before .before .before .before .before .before .before .args in
+    let if1 = c .before .before .before .before .before .before .before .before .if1 in
+    let read-places = c .before .before .before .before .before .before .before .read-places in
+    let with-places = c .before .before .before .before .before .with-places in
+    let is-valid = c .before .before .before .before .is-valid in
+    let same-settings = c .before .before .before .same-settings in
+    let w = args .words .now in
+    let s = with-places .ensures in
+    let valid = is-valid .result in
+    let settings = same-settings .result in
+    let places = read-places .result .same in
     refused w (valid && (settings && places)) (c .no-state2 .result)
-    (tested w valid settings places (c .before .before .before .before .before .before .before .before .if1 .left) (c .before .before .before .before .is-valid .ensures ∙ ap validEnvelope s) (c .before .before .before .same-settings .ensures ∙ ap (λ (e : AutomationEnvelope). everyPair eqb (packSettings e) (take 4 w)) s) (c .before .before .before .before .before .before .before .read-places .ensures .1))
+    (tested w valid settings places (if1 .left) (is-valid .ensures ∙ ap validEnvelope s)
+    (same-settings .ensures ∙ ap (λ (e : AutomationEnvelope). everyPair eqb (packSettings e) (take 4 w)) s) (read-places .ensures .1))
     (c .before .if2 .left) (c .no-state2 .ensures)
 
 pub read-state-spec : {M : Type 1} → statement M

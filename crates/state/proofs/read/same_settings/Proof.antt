@@ -40,13 +40,18 @@ shared-slice-read-result-4 c = search needs
 returns : tie.Need-returns
 unfolding packSettings
 returns c =
-    let w = c .before .before .before .before .before .before .before .before .before .before .args .words .now in
-    let e = c .before .before .before .before .before .before .before .before .before .before .args .envelope in
-    (λ i. eqb ((c .before .before .before .before .before .before .flags-word .ensures ∙ ap (λ (l : Limits). halves (flags (e .enabled) l) (e .target)) (c .before .before .before .before .before .before .before .before .limits .ensures)) i) (getD w 0 0)
+    let args = c .before .before .before .before .before .before .before .before .before .before .args in
+    let pre = c .before .before .before .before .before .before .before .before .before .before .pre in
+    let limits = c .before .before .before .before .before .before .before .before .limits in
+    let flags-word = c .before .before .before .before .before .before .flags-word in
+    let bounds-word = c .before .before .before .bounds-word in
+    let w = args .words .now in
+    let e = args .envelope in
+    (λ i. eqb ((flags-word .ensures ∙ ap (λ (l : Limits). halves (flags (e .enabled) l) (e .target)) (limits .ensures)) i) (getD w 0 0)
     && (eqb (e .points .count) (getD w 1 0)
-    && (eqb ((c .before .before .before .bounds-word .ensures ∙ ap boundsWord (c .before .before .before .before .before .before .before .before .limits .ensures)) i) (getD w 2 0)
+    && (eqb ((bounds-word .ensures ∙ ap boundsWord (limits .ensures)) i) (getD w 2 0)
     && eqb (c .before .limit-bits .ensures i) (getD w 3 0))))
-    ∙ same-four w 0 _ _ _ _ (omega (arith, c .before .before .before .before .before .before .before .before .before .before .pre))
+    ∙ same-four w 0 _ _ _ _ (omega (arith, pre))
 
 pub same-settings-spec : {M : Type 1} → statement M
 same-settings-spec =

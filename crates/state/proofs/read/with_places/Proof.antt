@@ -56,14 +56,26 @@ limit-of-requires-3 c κs = search needs
 returns : tie.Need-returns
 unfolding stateOf
 returns c =
-    let flags = c .before .before .before .before .before .before .before .before .before .before .before .before .before .before .high .ensures in
+    let entry = c .before .before .before .before .before .before .before .before .before .before .before .before .before .before .before .before .before in
+    let args = entry .args in
+    let high = c .before .before .before .before .before .before .before .before .before .before .before .before .before .before .high in
+    let low = c .before .before .before .before .before .before .before .before .before .before .before .low in
+    let bit′ = c .before .before .before .before .before .before .before .before .before .before .bit in
+    let bit2 = c .before .before .before .before .before .before .before .before .before .bit2 in
+    let low2 = c .before .before .before .before .before .before .before .before .low2 in
+    let limit-of = c .before .before .before .before .before .before .before .limit-of in
+    let bit3 = c .before .before .before .before .before .before .bit3 in
+    let high2 = c .before .before .before .before .before .high2 in
+    let limit-of2 = c .before .before .before .before .limit-of2 in
+    let bit4 = c .before .before .before .bit4 in
+    let flags = high .ensures in
     λ i. record {
-      target = c .before .before .before .before .before .before .before .before .before .before .before .low .ensures i;
-      points = record { count = getD (c .before .before .before .before .before .before .before .before .before .before .before .before .before .before .before .before .before .args .words .now) 1 0; places = c .before .before .before .before .before .before .before .before .before .before .before .before .before .before .before .before .before .pre .1 i };
-      enabled = (c .before .before .before .before .before .before .before .before .before .before .bit .ensures ∙ ap (bit 1) flags) i;
-      «min_value» = (c .before .before .before .before .before .before .before .limit-of .ensures ∙ (λ j. limitOf ((c .before .before .before .before .before .before .before .before .before .bit2 .ensures ∙ ap (bit 2) flags) j) (c .before .before .before .before .before .before .before .before .low2 .ensures j))) i;
-      «max_value» = (c .before .before .before .before .limit-of2 .ensures ∙ (λ j. limitOf ((c .before .before .before .before .before .before .bit3 .ensures ∙ ap (bit 4) flags) j) (c .before .before .before .before .before .high2 .ensures j))) i;
-      «step_size» = (c .limit-of3 .ensures ∙ (λ j. limitOf ((c .before .before .before .bit4 .ensures ∙ ap (bit 8) flags) j) (c .before .low3 .ensures j))) i;
+      target = low .ensures i;
+      points = record { count = getD (args .words .now) 1 0; places = entry .pre .1 i };
+      enabled = (bit′ .ensures ∙ ap (bit 1) flags) i;
+      «min_value» = (limit-of .ensures ∙ (λ j. limitOf ((bit2 .ensures ∙ ap (bit 2) flags) j) (low2 .ensures j))) i;
+      «max_value» = (limit-of2 .ensures ∙ (λ j. limitOf ((bit3 .ensures ∙ ap (bit 4) flags) j) (high2 .ensures j))) i;
+      «step_size» = (c .limit-of3 .ensures ∙ (λ j. limitOf ((bit4 .ensures ∙ ap (bit 8) flags) j) (c .before .low3 .ensures j))) i;
     }
 
 pub with-places-spec : {M : Type 1} → statement M

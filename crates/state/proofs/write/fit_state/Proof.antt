@@ -4,9 +4,6 @@ use Rattle.state.proofs.Calls.{over-none, over-all}
 use borrow.Author.Needs.{needs}
 use Rattle.state.proofs.write.fit_state.Statement.{statement}
 use Rattle.state.proofs.write.fit_state.Tie as tie
-use Rattle.state.proofs.write.fit_state.Reads as reads
-use Rattle.state.proofs.write.fit_state.Lts as lts
-use Rattle.state.proofs.write.put_state.Reads as put-state-reads
 
 returns : tie.Need-returns
 returns c = over-none (c .before .before .args .envelope) (c .before .before .args .words .now) (c .if1 .taken)

@@ -60,8 +60,11 @@ same-length c = search needs
 returns : tie.Need-returns
 unfolding packPoint
 returns c =
-    four-stores (c .before .before .before .before .before .args .words .now) (c .before .before .before .before .before .args .at) _ _ _ _
-    ∙ (λ i. sets (c .before .before .before .before .before .args .words .now) (c .before .before .before .before .before .args .at) (c .before .before .before .to-bits .ensures i ∷ c .before .before .position-word .ensures i ∷ c .before .controls-word .ensures i ∷ c .value-word .ensures i ∷ []))
+    let args = c .before .before .before .before .before .args in
+    let to-bits = c .before .before .before .to-bits in
+    let position-word = c .before .before .position-word in
+    four-stores (args .words .now) (args .at) _ _ _ _
+    ∙ (λ i. sets (args .words .now) (args .at) (to-bits .ensures i ∷ position-word .ensures i ∷ c .before .controls-word .ensures i ∷ c .value-word .ensures i ∷ []))
 
 pub put-point-spec : {M : Type 1} → statement M
 put-point-spec =

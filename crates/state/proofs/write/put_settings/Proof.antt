@@ -42,11 +42,14 @@ same-length c = search needs
 returns : tie.Need-returns
 unfolding packSettings
 returns c =
-    let e = c .before .before .before .before .before .before .args .envelope in
-    λ i. sets (c .before .before .before .before .before .before .args .words .now) 0
-    ((c .before .before .flags-word .ensures ∙ ap (λ (l : Limits). halves (flags (e .enabled) l) (e .target)) (c .before .before .before .before .limits .ensures)) i
+    let args = c .before .before .before .before .before .before .args in
+    let limits = c .before .before .before .before .limits in
+    let flags-word = c .before .before .flags-word in
+    let e = args .envelope in
+    λ i. sets (args .words .now) 0
+    ((flags-word .ensures ∙ ap (λ (l : Limits). halves (flags (e .enabled) l) (e .target)) (limits .ensures)) i
     ∷ e .points .count
-    ∷ (c .before .bounds-word .ensures ∙ ap boundsWord (c .before .before .before .before .limits .ensures)) i
+    ∷ (c .before .bounds-word .ensures ∙ ap boundsWord (limits .ensures)) i
     ∷ c .limit-bits .ensures i
     ∷ [])
 

@@ -1,5 +1,5 @@
 use native.Mathlib.Omega.{arith}
-use Rattle.curve.specs.Laws.{code-lt}
+use Rattle.curve.proofs.Laws.{code-lt}
 use borrow.Author.Needs.{needs}
 use Rattle.state.proofs.write.value_word.Statement.{statement}
 use Rattle.state.proofs.write.value_word.Tie as tie
@@ -14,7 +14,9 @@ position-flag-requires : tie.Need-position-flag-requires
 position-flag-requires c κs = search needs
 
 add-halves : tie.Need-add-halves
-add-halves c = omega (arith, c .before .code .ensures, code-lt (c .before .before .args .p .curve), c .position-flag .ensures .1)
+add-halves c =
+    let args = c .before .before .args in
+    omega (arith, c .before .code .ensures, code-lt (args .p .curve), c .position-flag .ensures .1)
 
 to-bitsf-requires : tie.Need-to-bitsf-requires
 to-bitsf-requires c κs = search needs

@@ -5,20 +5,21 @@ use Rattle.state.proofs.Calls.{not-valid, no-room, room}
 use borrow.Author.Needs.{needs}
 use Rattle.state.proofs.write.write_state.Statement.{statement}
 use Rattle.state.proofs.write.write_state.Tie as tie
-use Rattle.state.proofs.write.write_state.Reads as reads
-use Rattle.state.proofs.write.write_state.Lts as lts
-use Rattle.envelope.proofs.AutomationEnvelope.is_valid.Reads as is-valid-reads
-use Rattle.state.proofs.write.put_state.Reads as put-state-reads
 
 is-valid-requires : tie.Need-is-valid-requires
 is-valid-requires c κs = search needs
 
 returns : tie.Need-returns
-returns c = let told = not-valid (c .before .before .before .args .envelope) (c .before .before .before .args .words .now) (sym (c .before .is-valid .ensures) ∙ not-true _ (c .if1 .taken)) in
+returns c =
+    let args = c .before .before .before .args in
+    let told = not-valid (args .envelope) (args .words .now) (sym (c .before .is-valid .ensures) ∙ not-true _ (c .if1 .taken)) in
     (ap (λ (t : WordsTold). t .said) told, ap (λ (t : WordsTold). t .words) told)
 
 returns-2 : tie.Need-returns-2
-returns-2 c = let told = no-room (c .before .before .before .before .args .envelope) (c .before .before .before .before .args .words .now) (sym (c .before .before .is-valid .ensures) ∙ not-false _ (c .before .if1 .left)) (c .if2 .taken) in
+returns-2 c =
+    let args = c .before .before .before .before .args in
+    let is-valid = c .before .before .is-valid in
+    let told = no-room (args .envelope) (args .words .now) (sym (is-valid .ensures) ∙ not-false _ (c .before .if1 .left)) (c .if2 .taken) in
     (ap (λ (t : WordsTold). t .said) told, ap (λ (t : WordsTold). t .words) told)
 
 put-state-requires : tie.Need-put-state-requires
@@ -28,8 +29,14 @@ same-length : tie.Need-same-length
 same-length c = search needs
 
 returns-3 : tie.Need-returns-3
-returns-3 c = let told = room (c .before .before .before .before .before .before .before .before .args .envelope) (c .before .before .before .before .before .before .before .before .args .words .now) (sym (c .before .before .before .before .before .before .is-valid .ensures) ∙ not-false _ (c .before .before .before .before .before .if1 .left)) (c .before .before .before .before .if2 .left) in
-    (ap (λ (t : WordsTold). t .said) told, c .before .before .put-state .ensures ∙ ap (λ (t : WordsTold). t .words) told)
+returns-3 c =
+    let args = c .before .before .before .before .before .before .before .before .args in
+    let is-valid = c .before .before .before .before .before .before .is-valid in
+    let if1 = c .before .before .before .before .before .if1 in
+    let if2 = c .before .before .before .before .if2 in
+    let put-state = c .before .before .put-state in
+    let told = room (args .envelope) (args .words .now) (sym (is-valid .ensures) ∙ not-false _ (if1 .left)) (if2 .left) in
+    (ap (λ (t : WordsTold). t .said) told, put-state .ensures ∙ ap (λ (t : WordsTold). t .words) told)
 
 pub write-state-spec : {M : Type 1} → statement M
 write-state-spec =

@@ -4,26 +4,6 @@ use Rattle.envelope.specs.Edit.{pointsEdited}
 use borrow.Author.Needs.{needs}
 use Rattle.envelope.proofs.edit.PointsEdit.apply.Statement.{statement}
 use Rattle.envelope.proofs.edit.PointsEdit.apply.Tie as tie
-use Rattle.envelope.proofs.edit.PointsEdit.apply.Reads as reads
-use Rattle.envelope.proofs.edit.PointsEdit.apply.Lts as lts
-use Rattle.pointwise.proofs.apply_compression.Reads as apply-compression-reads
-use Rattle.pointwise.proofs.apply_fade_in.Reads as apply-fade-in-reads
-use Rattle.pointwise.proofs.apply_fade_out.Reads as apply-fade-out-reads
-use Rattle.pointwise.proofs.apply_fades.Reads as apply-fades-reads
-use Rattle.pointwise.proofs.apply_gate.Reads as apply-gate-reads
-use Rattle.pointwise.proofs.clamp_values.Reads as clamp-values-reads
-use Rattle.pointwise.proofs.invert_values.Reads as invert-values-reads
-use Rattle.pointwise.proofs.normalize.Reads as normalize-reads
-use Rattle.pointwise.proofs.offset.Reads as offset-reads
-use Rattle.pointwise.proofs.scale.Reads as scale-reads
-use Rattle.pointwise.proofs.scale_time.Reads as scale-time-reads
-use Rattle.pointwise.proofs.shift_points.Reads as shift-points-reads
-use Rattle.insert.proofs.add_point.Reads as add-point-reads
-use Rattle.shape.proofs.quantize_time.Reads as quantize-time-reads
-use Rattle.shape.proofs.remove_point_at.Reads as remove-point-at-reads
-use Rattle.shape.proofs.reverse.Reads as reverse-reads
-use Rattle.shape.proofs.simplify.Reads as simplify-reads
-use Rattle.shape.proofs.trim.Reads as trim-reads
 
 enum-known-self : tie.Need-enum-known-self
 enum-known-self c = search needs

@@ -3,12 +3,6 @@ use Rattle.envelope.specs.Edit.{replacedPoints}
 use borrow.Author.Needs.{needs}
 use Rattle.envelope.proofs.edit.Replacement.apply.Statement.{statement}
 use Rattle.envelope.proofs.edit.Replacement.apply.Tie as tie
-use Rattle.envelope.proofs.edit.Replacement.apply.Reads as reads
-use Rattle.envelope.proofs.edit.Replacement.apply.Lts as lts
-use Rattle.insert.proofs.fade_in.Reads as fade-in-reads
-use Rattle.insert.proofs.fade_out.Reads as fade-out-reads
-use Rattle.insert.proofs.pulse.Reads as pulse-reads
-use Rattle.insert.proofs.ramp.Reads as ramp-reads
 
 enum-known-self : tie.Need-enum-known-self
 enum-known-self c = search needs

@@ -1,0 +1,6 @@
+-- Laws of these definitions.
+pub mod Slots
+pub mod One
+pub mod Ways
+pub mod Refusals
+pub mod PlayLaws

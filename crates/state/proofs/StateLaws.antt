@@ -1,0 +1,367 @@
+-- Laws of the stored state: what was packed reads back, and what reads was packed so. Assumes nothing.
+use Prim.Native.Nat.{ℕ, zero, suc, _+_, _*_, _/_, _%_, _<_}
+use mathlib.Core.Path.{_≡_, refl, sym, ap, _∙_}
+use mathlib.Core.Bool.{Bool, true, false, _&&_, false≢true}
+use mathlib.Core.List.{List, [], _∷_, _++_}
+use mathlib.Core.Option.{some, Option·some-injective, Option·none-ne-some}
+use native.Mathlib.Nat.{mod-eq-of-lt}
+use native.Mathlib.Omega.{arith}
+use borrow.Author.Tests.{ltb-true, lt-ltb, eqb-true, eq-eqb}
+use lib.Arith.{digits-lt, digits-div, digits-mod}
+use lib.Dec.{ltb, eqb}
+use lib.ListN.{length, getD, drop, length-append}
+use lib.Ieee.{Float, Format, binary32, binary64, ofBits, toBits, fits, top}
+use lib.Ieee.Bits.{is-true, ofBits-toBits, toBits-lt, ofBits-fits}
+use Rattle.numbers.proofs.Tests.{yes}
+use Rattle.curve.specs.Curve.{code, controls, curves, curveOf}
+use Rattle.curve.proofs.Laws.{code-lt, curveOf-code}
+use Rattle.curve.specs.declared.CurveType.the-variants.{Linear}
+use Rattle.points.specs.Points.{every, everyPair}
+use Rattle.points.proofs.Laws.{and-left, and-right, and-both, every-append}
+use Rattle.points.specs.declared.AutomationPoint.{AutomationPoint}
+use Rattle.points.specs.declared.SamplePosition.{SamplePosition}
+use Rattle.points.specs.declared.SamplePosition.the-variants as position
+use Rattle.lookup.specs.declared.Limit.{Limit}
+use Rattle.lookup.specs.declared.Limit.the-variants as limit
+use Rattle.envelope.specs.Envelope.{limitsOf, validEnvelope}
+use Rattle.envelope.specs.Typed.{typedCurve, typedPosition, typedPoint, typedPoints, typedLimit, typed}
+use Rattle.envelope.specs.declared.AutomationEnvelope.{AutomationEnvelope}
+use Rattle.state.specs.State.{halves, high, low, flag, bit, hasLimit, limitBits, limitOf, hasPosition, positionWord, positionOf, flags, packSettings, packPoint, pointOf, packPoints, pointsOf}
+use Rattle.state.specs.State.{pack, stateOf, ifTest, unpacked}
+
+-- ---- the parts of a word
+
+pub low-halves : (h : ℕ) {l : ℕ} → l < 0x1_0000_0000 → low (halves h l) ≡ l
+low-halves h s = digits-mod h s
+
+pub high-halves : (h : ℕ) {l : ℕ} → l < 0x1_0000_0000 → high (halves h l) ≡ h
+high-halves h s = digits-div h s
+
+pub flag-lt : (b : Bool) → flag b < 2
+flag-lt true = omega arith
+flag-lt false = omega arith
+
+flag-back : (b : Bool) {n : ℕ} → n ≡ flag b → eqb n 1 ≡ b
+flag-back true e = eq-eqb _ 1 e
+flag-back false e = rw e
+
+pub bits-lt : (f : Format) (x : Float) → fits f x ≡ true → toBits f x < 2 * top f
+bits-lt f x t = toBits-lt f x (yes t)
+
+bits-back : (f : Format) (x : Float) → fits f x ≡ true → ofBits f (toBits f x) ≡ x
+bits-back f x t = ofBits-toBits f x (yes t)
+
+-- ---- what the tests of `typed` tell
+
+four-true : (a b c d : Bool) → (a && b && c && d) ≡ true → (a ≡ true) × (b ≡ true) × (c ≡ true) × (d ≡ true)
+four-true a b c d t =
+    let abc = and-left (a && b && c) d t in
+    let ab = and-left (a && b) c abc in
+    (and-left a b ab, and-right a b ab, and-right (a && b) c abc, and-right (a && b && c) d t)
+
+module _ (p : AutomationPoint) (t : typedPoint p ≡ true) where
+  -- the time, the position, the value, the curve
+  point-typings : (fits binary64 (p .time) ≡ true) × (typedPosition (p .«sample_position») ≡ true) × (fits binary32 (p .value) ≡ true) × (typedCurve (p .curve) ≡ true)
+  point-typings = four-true (fits binary64 (p .time)) (typedPosition (p .«sample_position»)) (fits binary32 (p .value)) (typedCurve (p .curve)) t
+
+  cp1-fits : fits binary32 (controls (p .curve) .cp1) ≡ true
+  cp1-fits = and-left (fits binary32 (controls (p .curve) .cp1)) (fits binary32 (controls (p .curve) .cp2)) (point-typings .3)
+
+  cp2-fits : fits binary32 (controls (p .curve) .cp2) ≡ true
+  cp2-fits = and-right (fits binary32 (controls (p .curve) .cp1)) (fits binary32 (controls (p .curve) .cp2)) (point-typings .3)
+
+module _ (e : AutomationEnvelope) (t : typed e ≡ true) where
+  settings-test : Bool
+  settings-test = ltb (e .target) 0x1_0000_0000 && typedLimit (e .«min_value») && typedLimit (e .«max_value») && typedLimit (e .«step_size»)
+
+  -- the target, the minimum, the maximum, the step
+  settings-typings : (ltb (e .target) 0x1_0000_0000 ≡ true) × (typedLimit (e .«min_value») ≡ true) × (typedLimit (e .«max_value») ≡ true) × (typedLimit (e .«step_size») ≡ true)
+  unfolding typed settings-test
+  settings-typings =
+      four-true (ltb (e .target) 0x1_0000_0000) (typedLimit (e .«min_value»)) (typedLimit (e .«max_value»)) (typedLimit (e .«step_size»))
+      (and-left settings-test (typedPoints (e .points)) t)
+
+  points-typing : typedPoints (e .points) ≡ true
+  unfolding typed settings-test
+  points-typing = and-right settings-test (typedPoints (e .points)) t
+
+  pub places-length : length (e .points .places) ≡ 256
+  places-length = eqb-true (length (e .points .places)) 256 (and-left (eqb (length (e .points .places)) 256) (every typedPoint (e .points .places)) points-typing)
+
+  places-typing : every typedPoint (e .points .places) ≡ true
+  places-typing = and-right (eqb (length (e .points .places)) 256) (every typedPoint (e .points .places)) points-typing
+
+  target-lt : e .target < 0x1_0000_0000
+  target-lt = ltb-true (e .target) 0x1_0000_0000 (settings-typings .0)
+
+-- ---- a number or none
+
+limit-back : (l : Limit) {b : Bool} {n : ℕ} → typedLimit l ≡ true → b ≡ hasLimit l → n ≡ limitBits l → limitOf b n ≡ l
+limit-back limit.None t e k = rw e
+limit-back (limit.Number x) t e k = rw (e, k) (ap limit.Number (bits-back binary32 x t))
+
+limit-lt : (l : Limit) → typedLimit l ≡ true → limitBits l < 0x1_0000_0000
+limit-lt limit.None t = omega arith
+limit-lt (limit.Number x) t = bits-lt binary32 x t
+
+position-back : (p : SamplePosition) {b : Bool} → b ≡ hasPosition p → positionOf b (positionWord p) ≡ p
+position-back position.None e = rw e
+position-back (position.At n) e = rw e
+
+-- ---- a point
+
+point-back : (p : AutomationPoint) (l : List ℕ) → typedPoint p ≡ true → pointOf (packPoint p ++ l) ≡ p
+unfolding packPoint pointOf
+point-back p l t =
+    let typings = point-typings p t in
+    let cp1 = cp1-fits p t in
+    let cp2 = cp2-fits p t in
+    let value-lt : toBits binary32 (p .value) < 0x1_0000_0000 = bits-lt binary32 (p .value) (typings .2) in
+    let cp1-lt : toBits binary32 (controls (p .curve) .cp1) < 0x1_0000_0000 = bits-lt binary32 (controls (p .curve) .cp1) cp1 in
+    let has = flag (hasPosition (p .«sample_position»)) in
+    let tag = code (p .curve) * 2 + has in
+    let tag-is : high (halves tag (toBits binary32 (p .value))) ≡ tag = high-halves tag value-lt in
+    let has-lt : has < 2 = flag-lt (hasPosition (p .«sample_position»)) in
+    let odd : tag / 1 % 2 ≡ has = omega arith in
+    let half : tag / 2 ≡ code (p .curve) = omega arith in
+    λ i. record {
+      time = bits-back binary64 (p .time) (typings .0) i;
+      «sample_position» = position-back (p .«sample_position») (flag-back (hasPosition (p .«sample_position»)) (ap (λ (n : ℕ). n / 1 % 2) tag-is ∙ odd)) i;
+      value = (ap (ofBits binary32) (low-halves tag value-lt) ∙ bits-back binary32 (p .value) (typings .2)) i;
+      curve = (
+          (λ j. curveOf ((ap (λ (n : ℕ). n / 2) tag-is ∙ half) j)
+          ((ap (ofBits binary32) (low-halves (toBits binary32 (controls (p .curve) .cp2)) cp1-lt) ∙ bits-back binary32 (controls (p .curve) .cp1) cp1) j)
+          ((ap (ofBits binary32) (high-halves (toBits binary32 (controls (p .curve) .cp2)) cp1-lt) ∙ bits-back binary32 (controls (p .curve) .cp2) cp2) j))
+          ∙ curveOf-code (p .curve)) i;
+    }
+
+after-point : (p : AutomationPoint) (l : List ℕ) → drop 4 (packPoint p ++ l) ≡ l
+unfolding packPoint
+after-point p l = refl
+
+points-back : (l : List AutomationPoint) → every typedPoint l ≡ true → pointsOf (length l) (packPoints l) ≡ l
+unfolding pointsOf packPoints every
+points-back [] t = refl
+points-back (p ∷ l) t =
+    λ i. point-back p (packPoints l) (and-left (typedPoint p) (every typedPoint l) t) i
+    ∷ (ap (pointsOf (length l)) (after-point p (packPoints l)) ∙ points-back l (and-right (typedPoint p) (every typedPoint l) t)) i
+
+-- ---- the envelope
+
+after-settings : (e : AutomationEnvelope) (l : List ℕ) → drop 4 (packSettings e ++ l) ≡ l
+unfolding packSettings
+after-settings e l = refl
+
+-- four flags in one number
+module _ (a b c d : Bool) where
+  four : ℕ
+  four = flag a + 2 * flag b + 4 * flag c + 8 * flag d
+
+  bits-of-four : (four / 1 % 2 ≡ flag a) × (four / 2 % 2 ≡ flag b) × (four / 4 % 2 ≡ flag c) × (four / 8 % 2 ≡ flag d)
+  unfolding four
+  bits-of-four =
+      let ha = flag-lt a in
+      let hb = flag-lt b in
+      let hc = flag-lt c in
+      let hd = flag-lt d in
+      (omega arith, omega arith, omega arith, omega arith)
+
+pub stateOf-pack : (e : AutomationEnvelope) → typed e ≡ true → stateOf (pack e) ≡ e
+unfolding stateOf pack packSettings four
+stateOf-pack e t =
+    let s = settings-typings e t in
+    let min-lt : limitBits (e .«min_value») < 0x1_0000_0000 = limit-lt (e .«min_value») (s .1) in
+    let flags-are : high (halves (flags (e .enabled) (limitsOf e)) (e .target)) ≡ flags (e .enabled) (limitsOf e) = high-halves (flags (e .enabled) (limitsOf e)) (target-lt e t) in
+    let bits = bits-of-four (e .enabled) (hasLimit (e .«min_value»)) (hasLimit (e .«max_value»)) (hasLimit (e .«step_size»)) in
+    λ i. record {
+      target = low-halves (flags (e .enabled) (limitsOf e)) (target-lt e t) i;
+      points = record {
+        count = e .points .count;
+        places = (
+            ap (pointsOf 256) (after-settings e (packPoints (e .points .places)))
+            ∙ ap (λ (n : ℕ). pointsOf n (packPoints (e .points .places))) (sym (places-length e t))
+            ∙ points-back (e .points .places) (places-typing e t)) i;
+      };
+      enabled = flag-back (e .enabled) (ap (λ (n : ℕ). n / 1 % 2) flags-are ∙ bits .0) i;
+      «min_value» = limit-back (e .«min_value») (s .1) (flag-back _ (ap (λ (n : ℕ). n / 2 % 2) flags-are ∙ bits .1)) (low-halves (limitBits (e .«max_value»)) min-lt) i;
+      «max_value» = limit-back (e .«max_value») (s .2) (flag-back _ (ap (λ (n : ℕ). n / 4 % 2) flags-are ∙ bits .2)) (high-halves (limitBits (e .«max_value»)) min-lt) i;
+      «step_size» = limit-back (e .«step_size») (s .3) (flag-back _ (ap (λ (n : ℕ). n / 8 % 2) flags-are ∙ bits .3)) (mod-eq-of-lt (limit-lt (e .«step_size») (s .3))) i;
+    }
+
+-- "packed one-to-one": the same words, the same envelope
+pub pack-one : (e f : AutomationEnvelope) → typed e ≡ true → typed f ≡ true → pack e ≡ pack f → e ≡ f
+pack-one e f t u h = sym (stateOf-pack e t) ∙ ap stateOf h ∙ stateOf-pack f u
+
+-- ---- "1,028 words"
+
+pub length-settings : (e : AutomationEnvelope) → length (packSettings e) ≡ 4
+unfolding packSettings
+length-settings e = refl
+
+pub length-point : (p : AutomationPoint) → length (packPoint p) ≡ 4
+unfolding packPoint
+length-point p = refl
+
+pub length-points : (l : List AutomationPoint) → length (packPoints l) ≡ 4 * length l
+unfolding packPoints
+length-points [] = refl
+length-points (p ∷ l) = omega (arith, length-append (packPoint p) (packPoints l), length-point p, length-points l)
+
+pub length-places : (e : AutomationEnvelope) → length (e .points .places) ≡ 256 → length (pack e) ≡ 1028
+unfolding pack
+length-places e h = omega (arith, length-append (packSettings e) (packPoints (e .points .places)), length-settings e, length-points (e .points .places))
+
+pub length-pack : (e : AutomationEnvelope) → typed e ≡ true → length (pack e) ≡ 1028
+length-pack e t = length-places e (places-length e t)
+
+-- ---- words of 64 bits
+
+abbrev pub word : ℕ → Bool
+word n = ltb n 0x1_0000_0000_0000_0000
+
+halves-word : (h l : ℕ) → h < 0x1_0000_0000 → l < 0x1_0000_0000 → word (halves h l) ≡ true
+halves-word h l p q = lt-ltb (halves h l) 0x1_0000_0000_0000_0000 (digits-lt p q)
+
+position-word : (p : SamplePosition) → typedPosition p ≡ true → word (positionWord p) ≡ true
+position-word position.None t = refl
+position-word (position.At n) t = t
+
+point-words : (p : AutomationPoint) → typedPoint p ≡ true → every word (packPoint p) ≡ true
+unfolding packPoint every
+point-words p t =
+    let typings = point-typings p t in
+    let has = flag (hasPosition (p .«sample_position»)) in
+    let tag-lt : code (p .curve) * 2 + has < 0x1_0000_0000 = omega (arith, code-lt (p .curve), flag-lt (hasPosition (p .«sample_position»))) in
+    and-both (lt-ltb (toBits binary64 (p .time)) 0x1_0000_0000_0000_0000 (bits-lt binary64 (p .time) (typings .0)))
+    (and-both (position-word (p .«sample_position») (typings .1))
+    (and-both (halves-word _ _ (bits-lt binary32 (controls (p .curve) .cp2) (cp2-fits p t)) (bits-lt binary32 (controls (p .curve) .cp1) (cp1-fits p t)))
+    (and-both (halves-word _ _ tag-lt (bits-lt binary32 (p .value) (typings .2))) refl)))
+
+points-words : (l : List AutomationPoint) → every typedPoint l ≡ true → every word (packPoints l) ≡ true
+unfolding packPoints every
+points-words [] t = refl
+points-words (p ∷ l) t =
+    every-append word (packPoint p) (packPoints l)
+    ∙ and-both (point-words p (and-left (typedPoint p) (every typedPoint l) t)) (points-words l (and-right (typedPoint p) (every typedPoint l) t))
+
+settings-words : (e : AutomationEnvelope) → typed e ≡ true → word (e .points .count) ≡ true → every word (packSettings e) ≡ true
+unfolding packSettings every
+settings-words e t n =
+    let s = settings-typings e t in
+    let flags-lt : flags (e .enabled) (limitsOf e) < 0x1_0000_0000 = omega
+    (arith, flag-lt (e .enabled), flag-lt (hasLimit (e .«min_value»)), flag-lt (hasLimit (e .«max_value»)), flag-lt (hasLimit (e .«step_size»))) in
+    let step-lt : limitBits (e .«step_size») < 0x1_0000_0000 = limit-lt (e .«step_size») (s .3) in
+    and-both (halves-word _ _ flags-lt (target-lt e t))
+    (and-both n
+    (and-both (halves-word _ _ (limit-lt (e .«max_value») (s .2)) (limit-lt (e .«min_value») (s .1)))
+    (and-both (lt-ltb (limitBits (e .«step_size»)) 0x1_0000_0000_0000_0000 (omega arith)) refl)))
+
+-- `typed` does not speak of the count, which is a word of its own
+pub pack-words : (e : AutomationEnvelope) → typed e ≡ true → word (e .points .count) ≡ true → every word (pack e) ≡ true
+unfolding pack
+pack-words e t n =
+    every-append word (packSettings e) (packPoints (e .points .places))
+    ∙ and-both (settings-words e t n) (points-words (e .points .places) (places-typing e t))
+
+-- ---- unpacking
+
+same-self : (l : List ℕ) → everyPair eqb l l ≡ true
+unfolding everyPair
+same-self [] = refl
+same-self (n ∷ l) = and-both (eq-eqb n n refl) (same-self l)
+
+same-is : (l m : List ℕ) → everyPair eqb l m ≡ true → l ≡ m
+unfolding everyPair
+same-is [] [] h = refl
+same-is [] (n ∷ m) h = absurd (false≢true h)
+same-is (k ∷ l) [] h = absurd (false≢true h)
+same-is (k ∷ l) (n ∷ m) h = λ i. eqb-true k n (and-left (eqb k n) (everyPair eqb l m) h) i ∷ same-is l m (and-right (eqb k n) (everyPair eqb l m) h) i
+
+pub unpacked-pack : (e : AutomationEnvelope) → typed e ≡ true → validEnvelope e ≡ true → unpacked (pack e) ≡ some e
+unfolding unpacked
+unpacked-pack e t v =
+    ap (λ (s : AutomationEnvelope). ifTest (validEnvelope s && everyPair eqb (pack s) (pack e)) s) (stateOf-pack e t)
+    ∙ ap (λ (b : Bool). ifTest b e) (and-both v (same-self (pack e)))
+
+passed : {A : Type 0} (b : Bool) (x y : A) → ifTest b x ≡ some y → (b ≡ true) × (x ≡ y)
+passed true x y h = (refl, Option·some-injective x y h)
+passed false x y h = absurd (Option·none-ne-some y h)
+
+module _ (w : List ℕ) (e : AutomationEnvelope) (h : unpacked w ≡ some e) where
+  test : ((validEnvelope (stateOf w) && everyPair eqb (pack (stateOf w)) w) ≡ true) × (stateOf w ≡ e)
+  unfolding unpacked
+  test = passed (validEnvelope (stateOf w) && everyPair eqb (pack (stateOf w)) w) (stateOf w) e h
+
+  pub unpacked-is : stateOf w ≡ e
+  unpacked-is = test .1
+
+  pub unpacked-valid : validEnvelope e ≡ true
+  unpacked-valid = ap validEnvelope (sym unpacked-is) ∙ and-left (validEnvelope (stateOf w)) (everyPair eqb (pack (stateOf w)) w) (test .0)
+
+  pub unpacked-packs : pack e ≡ w
+  unpacked-packs = ap pack (sym unpacked-is) ∙ same-is (pack (stateOf w)) w (and-right (validEnvelope (stateOf w)) (everyPair eqb (pack (stateOf w)) w) (test .0))
+
+-- ---- what is read from words of 64 bits has numbers in range of their types
+
+read-fits : (f : Format) (n : ℕ) → fits f (ofBits f n) ≡ true
+read-fits f n = is-true (fits f (ofBits f n)) (ofBits-fits f n)
+
+every-getD : {A : Type 0} (q : A → Bool) (l : List A) (i : ℕ) (d : A) → q d ≡ true → every q l ≡ true → q (getD l i d) ≡ true
+unfolding every
+every-getD q [] i d h t = h
+every-getD q (x ∷ l) zero d h t = and-left (q x) (every q l) t
+every-getD q (x ∷ l) (suc i) d h t = every-getD q l i d h (and-right (q x) (every q l) t)
+
+every-drop : {A : Type 0} (q : A → Bool) (n : ℕ) (l : List A) → every q l ≡ true → every q (drop n l) ≡ true
+unfolding every
+every-drop q zero l t = t
+every-drop q (suc n) [] t = t
+every-drop q (suc n) (x ∷ l) t = every-drop q n l (and-right (q x) (every q l) t)
+
+curve-typed : (n : ℕ) (cp1 cp2 : Float) → fits binary32 cp1 ≡ true → fits binary32 cp2 ≡ true → typedCurve (curveOf n cp1 cp2) ≡ true
+unfolding curveOf fits controls ofBits every
+curve-typed n cp1 cp2 p q = every-getD typedCurve (curves cp1 cp2) n Linear plain all
+  where
+    plain : typedCurve Linear ≡ true
+    plain = refl
+
+    all : every typedCurve (curves cp1 cp2) ≡ true
+    all = rw (p, q)
+
+limit-typed : (b : Bool) (n : ℕ) → typedLimit (limitOf b n) ≡ true
+limit-typed true n = read-fits binary32 n
+limit-typed false n = refl
+
+position-typed : (b : Bool) (n : ℕ) → word n ≡ true → typedPosition (positionOf b n) ≡ true
+position-typed true n h = h
+position-typed false n h = refl
+
+point-typed : (w : List ℕ) → every word w ≡ true → typedPoint (pointOf w) ≡ true
+unfolding pointOf
+point-typed w h =
+    and-both (and-both (and-both (read-fits binary64 (getD w 0 0)) (position-typed (bit 1 (high (getD w 3 0))) (getD w 1 0) (every-getD word w 1 0 refl h))) (read-fits binary32 (low (getD w 3 0))))
+    (curve-typed (high (getD w 3 0) / 2) _ _ (read-fits binary32 (low (getD w 2 0))) (read-fits binary32 (high (getD w 2 0))))
+
+points-typed : (n : ℕ) (w : List ℕ) → every word w ≡ true → every typedPoint (pointsOf n w) ≡ true
+unfolding pointsOf every
+points-typed zero w h = refl
+points-typed (suc n) w h = and-both (point-typed w h) (points-typed n (drop 4 w) (every-drop word 4 w h))
+
+pub length-pointsOf : (n : ℕ) (w : List ℕ) → length (pointsOf n w) ≡ n
+unfolding pointsOf
+length-pointsOf zero w = refl
+length-pointsOf (suc n) w = ap suc (length-pointsOf n (drop 4 w))
+
+pub stateOf-typed : (w : List ℕ) → every word w ≡ true → typed (stateOf w) ≡ true
+unfolding typed stateOf
+stateOf-typed w h =
+    let target : low (getD w 0 0) < 0x1_0000_0000 = omega arith in
+    and-both
+    (and-both
+    (and-both (and-both (lt-ltb (low (getD w 0 0)) 0x1_0000_0000 target) (limit-typed (bit 2 (high (getD w 0 0))) (low (getD w 2 0))))
+    (limit-typed (bit 4 (high (getD w 0 0))) (high (getD w 2 0))))
+    (limit-typed (bit 8 (high (getD w 0 0))) (low (getD w 3 0))))
+    (and-both (eq-eqb (length (pointsOf 256 (drop 4 w))) 256 (length-pointsOf 256 (drop 4 w))) (points-typed 256 (drop 4 w) (every-drop word 4 w h)))
+
+pub unpacked-typed : (w : List ℕ) (e : AutomationEnvelope) → every word w ≡ true → unpacked w ≡ some e → typed e ≡ true
+unpacked-typed w e h u = ap typed (sym (unpacked-is w e u)) ∙ stateOf-typed w h
