@@ -9,6 +9,7 @@ use lib.ListN.{length, take, drop, getD, set, length-append, length-map}
 use lib.Seq.{take-take, drop-cons, set-at, append-snoc}
 use lib.Dec.{leb}
 use lib.Ieee.{Float}
+use Rattle.points.specs.Point.{timeOf}
 use Rattle.points.proofs.Laws.{take-min}
 use Rattle.points.specs.Middles.{middles}
 use Rattle.points.proofs.MiddleLaws.{middles-yes, middles-two}
@@ -16,10 +17,10 @@ use Rattle.points.specs.Points.{listOf}
 use Rattle.points.specs.Refusal.{gives, refuses}
 use Rattle.points.specs.declared.AutomationPoint.{AutomationPoint}
 use Rattle.points.specs.declared.Points.{Points}
-use Rattle.lookup.specs.Limits.{valid}
+use Rattle.lookup.specs.Valid.{valid}
 use Rattle.analysis.specs.Analysis.{findMiddles}
-use Rattle.analysis.specs.Ranges.{timeOf, valueOf}
-use Rattle.lookup.specs.declared.Limits.{Limits}
+use Rattle.analysis.specs.Ranges.{valueOf}
+use Rattle.limits.specs.declared.Limits.{Limits}
 
 module _ {A : Type 0} (q : A → A → A → Bool) where
   -- where the loop ends: at n, or at 2 where n is less

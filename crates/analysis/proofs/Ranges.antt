@@ -19,7 +19,7 @@ use Rattle.points.specs.Points.{listOf, timeKey}
 use Rattle.points.specs.Refusal.{Said, gives, refuses}
 use Rattle.points.specs.declared.AutomationPoint.{AutomationPoint}
 use Rattle.points.specs.declared.Points.{Points}
-use Rattle.lookup.specs.Limits.{constrained}
+use Rattle.limits.specs.Limits.{constrained}
 use Rattle.lookup.specs.Lookup.{pointAt, between, rawAt, keyFrom, sampleKey, betweenSamples, rawAtSample, heard, valueAt, valueAtSample, told, constrainedAnswer}
 use Rattle.points.specs.Search.{placeBy}
 use Rattle.lookup.specs.Keys.{around}
@@ -28,7 +28,7 @@ use Rattle.lookup.specs.Runs.{run}
 use Rattle.lookup.proofs.RunLaws.{run-cut, run-one}
 use Rattle.analysis.specs.Analysis.{givenValues, rangeOf, rawInside, slopeOf}
 use Rattle.analysis.specs.Ranges.{noValues, widen, addLookup, asRange, slopeSaid}
-use Rattle.lookup.specs.declared.Limits.{Limits}
+use Rattle.limits.specs.declared.Limits.{Limits}
 use Rattle.lookup.specs.declared.Lookup.{Lookup}
 use Rattle.analysis.specs.declared.Bounds.{Bounds}
 

@@ -15,10 +15,10 @@ use Rattle.points.specs.Points.{listOf}
 use Rattle.points.specs.Refusal.{Said, refuses, gives, number}
 use Rattle.points.specs.declared.AutomationPoint.{AutomationPoint}
 use Rattle.points.specs.declared.Points.{Points}
-use Rattle.lookup.specs.Limits.{valid}
+use Rattle.lookup.specs.Valid.{valid}
 use Rattle.lookup.specs.Lookup.{valueAt, valueAtSample, keysRise}
 use Rattle.lookup.specs.Runs.{run}
-use Rattle.lookup.specs.declared.Limits.{Limits}
+use Rattle.limits.specs.declared.Limits.{Limits}
 use Rattle.analysis.specs.declared.Range.{Range}
 use Rattle.analysis.specs.declared.Range.the-variants as range
 use Rattle.analysis.specs.declared.Found.{Found}

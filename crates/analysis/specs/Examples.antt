@@ -9,11 +9,11 @@ use Rattle.curve.specs.F32.{f1, f2}
 use Rattle.curve.specs.Curve.{code, controls, finiteControls}
 use Rattle.points.specs.Points.{holding, every, risingBy, validPoints}
 use Rattle.points.specs.Refusal.{gives}
-use Rattle.lookup.specs.Limits.{constrained}
+use Rattle.limits.specs.Limits.{constrained}
 use Rattle.lookup.specs.Lookup.{foundAt}
 use Rattle.lookup.specs.Examples.{at, limits, t0, t1}
 use Rattle.lookup.specs.Runs.{run}
-use Rattle.lookup.specs.declared.Limit.the-variants as limit
+use Rattle.limits.specs.declared.Limit.the-variants as limit
 use Rattle.analysis.specs.Analysis.{givenValues, rangeOf, rawInside, getRange}
 
 -- "P12 value 2, maximum 1, time 0, range 0 to 1: (1, 2)."

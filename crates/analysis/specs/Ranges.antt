@@ -13,7 +13,7 @@ use Rattle.points.specs.declared.Points.{Points}
 use Rattle.lookup.specs.Lookup.{valueAt, valueAtSample}
 use Rattle.lookup.specs.Runs.{run}
 use Rattle.analysis.specs.Analysis.{givenValues, rangeTime, slopeOf, isPeak, isValley}
-use Rattle.lookup.specs.declared.Limits.{Limits}
+use Rattle.limits.specs.declared.Limits.{Limits}
 use Rattle.analysis.specs.declared.Bounds.{Bounds}
 
 -- ---- the least and the greatest
@@ -65,10 +65,6 @@ middleTest false = isPeak
 -- the peaks of points, or the valleys
 abbrev pub middlesOf : Bool → Points → List AutomationPoint
 middlesOf valley points = middles (middleTest valley) (listOf points)
-
--- a point's time
-abbrev pub timeOf : AutomationPoint → Float
-timeOf p = p .time
 
 -- a point's value
 abbrev pub valueOf : AutomationPoint → Float

@@ -3,7 +3,7 @@ use crate::made::curve_of;
 use crate::made::made;
 use crate::made::point;
 use crate::made::shown;
-use lookup::Limit;
+use limits::Limit;
 use points::refusal::Answer;
 
 #[no_mangle]

@@ -3,7 +3,7 @@ ghost use mathlib.Core.Path.{_≡_};
 ghost use Prim.Native.Nat.{min};
 use curve::CurveType;
 use envelope::AutomationEnvelope;
-use lookup::Limit;
+use limits::Limit;
 use points::AutomationPoint;
 use points::SamplePosition;
 use points::refusal::Answer;

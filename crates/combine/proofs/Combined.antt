@@ -4,16 +4,17 @@ use mathlib.Core.Path.{_≡_, refl, ap, _∙_}
 use mathlib.Core.Bool.{Bool, true, _&&_}
 use mathlib.Core.List.{List, [], _∷_, map}
 use lib.Dec.{ltb}
+use Rattle.points.specs.Point.{timeOf}
+use Rattle.numbers.proofs.Tests.{and-left, and-right}
 use Rattle.numbers.specs.Order.{orderKey}
 use Rattle.points.specs.Points.{risingBy, rising, timeKey, listOf, validPoints}
-use Rattle.points.proofs.Laws.{and-left, and-right}
 use Rattle.points.proofs.ValidLaws.{valid-rising}
 use Rattle.points.specs.declared.refusal.Refusal.the-variants.{TimesDontRise}
 use Rattle.points.specs.declared.refusal.Answer.the-variants.{Refused}
 use Rattle.settle.specs.Settle.{plain}
 use Rattle.settle.proofs.Judging.{never-six}
-use Rattle.lookup.specs.Limits.{finiteLimits}
-use Rattle.combine.specs.Combine.{finiteOperation, mergeTimes, timeOf, timesOf, validSide, combinedPoint, combinedList, combinedPoints}
+use Rattle.limits.specs.Limits.{finiteLimits}
+use Rattle.combine.specs.Combine.{finiteOperation, mergeTimes, timesOf, validSide, combinedPoint, combinedList, combinedPoints}
 use Rattle.combine.proofs.Times.{merged-rising}
 use Rattle.combine.specs.declared.Operation.{Operation}
 use Rattle.combine.specs.declared.Side.{Side}

@@ -14,7 +14,7 @@ use Rattle.curve.specs.F32.{f0}
 use Rattle.points.specs.Points.{listOf, timeKey}
 use Rattle.points.specs.Search.{placeBy}
 use Rattle.points.specs.declared.AutomationPoint.{AutomationPoint}
-use Rattle.lookup.specs.Limits.{constrained}
+use Rattle.limits.specs.Limits.{constrained}
 use Rattle.points.specs.Refusal.{gives}
 use Rattle.lookup.specs.Keys.{around}
 use Rattle.lookup.specs.Lookup.{pointAt, between, rawAt, heard, told, constrainedAnswer}

@@ -7,9 +7,9 @@ use native.Mathlib.Omega.{arith}
 use lib.Dec.{ltb, eqb}
 use lib.Ieee.{Float}
 use borrow.Author.Tests.{ltb-false, eqb-true, eqb-false, lt-ltb}
+use Rattle.numbers.proofs.Tests.{and-left, and-right, and-both}
 use Rattle.numbers.specs.Order.{orderKey}
 use Rattle.points.specs.Points.{every, risingBy}
-use Rattle.points.proofs.Laws.{and-left, and-right, and-both}
 use Rattle.combine.specs.Combine.{mergeFrom, mergeTimes}
 
 -- ---- which times they are

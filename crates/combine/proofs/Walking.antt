@@ -11,11 +11,12 @@ use lib.ListN.{length, take, drop, set, length-append, length-map, drop-of-lengt
 use lib.Seq.{drop-cons, getD-take, length-take-le, take-all, take-append-le}
 use lib.Ieee.{Float}
 use borrow.Author.Tests.{ltb-true, ltb-false, leb-true, leb-false, le-leb, lt-leb, eqb-true, eqb-false}
+use Rattle.numbers.proofs.Tests.{and-both}
 use Rattle.numbers.specs.Order.{orderKey}
-use Rattle.points.specs.Point.{anyPoint, finitePoint, pointWith}
+use Rattle.points.specs.Point.{anyPoint, finitePoint, pointWith, timeOf}
 use Rattle.curve.specs.declared.CurveType.the-variants.{Linear}
 use Rattle.points.specs.Points.{every, rising, timeKey, listOf, holding, validPoints}
-use Rattle.points.proofs.Laws.{and-both, every-append, every-one}
+use Rattle.points.proofs.Laws.{every-append, every-one}
 use Rattle.points.specs.Search.{placeBy}
 use Rattle.points.proofs.SearchLaws.{place-at, rising-at, lower-up-to}
 use Rattle.points.proofs.ValidLaws.{valid-count, valid-rising}
@@ -27,7 +28,7 @@ use Rattle.settle.proofs.Ends.{pushed}
 use Rattle.settle.proofs.Judging.{one, argument-three, result-three, five, accepts}
 use Rattle.lookup.specs.Lookup.{pointAt}
 use Rattle.lookup.proofs.LookupLaws.{at-place}
-use Rattle.combine.specs.Combine.{finiteOperation, applied, mergeFrom, mergeTimes, timeOf, timesOf, validSide, sideAt, combinedPoint, combinedList, combinedPoints}
+use Rattle.combine.specs.Combine.{finiteOperation, applied, mergeFrom, mergeTimes, timesOf, validSide, sideAt, combinedPoint, combinedList, combinedPoints}
 use Rattle.combine.proofs.Combined.{combined-rises}
 use Rattle.combine.specs.Walk.{endsOf, sideWith, nearAt, nextOf, walked}
 use Rattle.combine.specs.declared.Operation.{Operation}

@@ -12,9 +12,9 @@ use Rattle.curve.specs.declared.CurveType.the-variants.{Linear}
 use Rattle.points.specs.Points.{listOf}
 use Rattle.points.specs.declared.AutomationPoint.{AutomationPoint}
 use Rattle.settle.specs.Settle.{plain, judged}
-use Rattle.points.specs.Point.{pointWith}
+use Rattle.points.specs.Point.{timeOf, pointWith}
 use Rattle.settle.specs.declared.EditedPoints.{EditedPoints}
-use Rattle.lookup.specs.Limits.{valid}
+use Rattle.lookup.specs.Valid.{valid}
 use Rattle.lookup.specs.Lookup.{valueAt}
 use Rattle.combine.specs.declared.Operation.{Operation}
 use Rattle.combine.specs.declared.Operation.the-variants.{Blend, Add, Multiply, Min, Max, Subtract}
@@ -56,10 +56,6 @@ mergeTimes [] bs = bs
 mergeTimes (a ∷ rest) bs = mergeFrom a (mergeTimes rest) bs
 
 -- ---- the combination of two sides
-
--- a point's time
-abbrev pub timeOf : AutomationPoint → Float
-timeOf p = p .time
 
 -- the times of a side
 abbrev pub timesOf : Side → List Float

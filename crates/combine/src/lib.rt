@@ -5,7 +5,7 @@ ghost use Prim.Native.Nat.{_≤_};
 ghost use Rattle.points.specs.Points.{validPoints};
 ghost use Rattle.combine.specs.Combine.{finiteOperation, applied, validSide, combinedPoints};
 ghost use Rattle.combine.specs.Walk.{endsOf, sideWith, orZero, nearAt, nextOf, walked};
-use lookup::Limits;
+use limits::Limits;
 use lookup::Lookup;
 use lookup::place::previous;
 use lookup::place::within;

@@ -54,15 +54,9 @@ code-known c = numbered c .is-known
 pub curveOf-code : (c : CurveType) → curveOf (code c) (controls c .cp1) (controls c .cp2) ≡ c
 curveOf-code c = numbered c .back
 
-pub code-controls : (c d : CurveType) → code c ≡ code d → controls c ≡ controls d → c ≡ d
-code-controls c d n k = sym (curveOf-code c) ∙ ap (λ m. curveOf m (controls c .cp1) (controls c .cp2)) n ∙ ap (λ s. curveOf (code d) (s .cp1) (s .cp2)) k ∙ curveOf-code d
-
 -- a curve that is not Bezier has no controls, so that its number alone says which it is
 pub plain-controls : (c : CurveType) → (code c ≡ 5 → ⊥) → controls c ≡ noControls
 plain-controls c h = sym (rw (ne-eqb (code c) 5 h) at (numbered c .uncontrolled))
-
-pub plain-code : (c d : CurveType) → (code c ≡ 5 → ⊥) → code c ≡ code d → c ≡ d
-plain-code c d h n = code-controls c d n (plain-controls c h ∙ sym (plain-controls d (λ e. h (n ∙ e))))
 
 pub linear-is : (c : CurveType) → isLinear c ≡ true → c ≡ Linear
 unfolding curveOf

@@ -1,5 +1,5 @@
+-- Laws that the crates above cite too: a curve's number and back, its controls.
+pub mod Laws
 -- What the proofs of several functions cite.
 pub mod Plain
 pub mod Codes
--- Laws of the definitions in specs/.
-pub mod Laws

@@ -6,7 +6,7 @@ use lib.Dec.{eqb, ltb}
 use lib.ListN.{getD}
 use lib.Ieee as Ieee
 use lib.Ieee.{Float, binary32, neg}
-use Rattle.numbers.specs.Bounds.{finite}
+use Rattle.numbers.specs.Bounds.{finite, clampedTo}
 use Rattle.numbers.specs.Root.{sqrt}
 use Rattle.curve.specs.F32.{_+ᶠ_, _-ᶠ_, _*ᶠ_, _/ᶠ_, _<ᶠ_, f0, f1, f2, f3, f4, f8, f16, f0·5, f0·75, f0·9375, f0·984375, f1·5, f1·70158, f2·25, f2·5, f2·625, f2·75}
 use Rattle.curve.specs.F32.{f7·5625}
@@ -17,7 +17,7 @@ use Rattle.curve.specs.declared.CurveType.the-variants.{CubicInOut, Quar
 
 -- 01: "first clamps the fraction t to 0..1 (NaN stays)"; a -0.0 stays too
 unfoldable pub clamped : Float → Float
-clamped t = cond (t <ᶠ f0) f0 (cond (f1 <ᶠ t) f1 t)
+clamped t = clampedTo f0 f1 t
 
 -- 001's `cubic_bezier`
 unfoldable pub cubicBezier : Float → Float → Float → Float

@@ -1,32 +1,34 @@
 -- The edits that take a second envelope: accepted they leave a valid envelope, refused they change nothing, the target stays, and the numbers stay in range of their types. Assumes nothing.
-use Prim.Native.Nat.{ℕ}
-use mathlib.Core.Path.{_≡_, refl}
-use mathlib.Core.Bool.{true, _&&_}
+use mathlib.Core.Path.{_≡_, refl, ap}
+use mathlib.Core.Bool.{true, false, _&&_}
 use mathlib.Core.Option.{Option, none, some, Option·getD}
 use lib.Dec.{T}
 use lib.Ieee.{Float, binary32, binary64, fits}
 use lib.Ieee.Bits.{ofBits-fits}
 use lib.Ieee.Fits.{add-fits, sub-fits, mul-fits}
-use Rattle.numbers.proofs.Tests.{yes as passes}
+use Rattle.points.specs.Point.{timeOf}
+use Rattle.points.proofs.Laws.{every-map}
+use Rattle.numbers.proofs.Tests.{yes as passes, and-left}
 use Rattle.curve.specs.F32.{f0}
 use Rattle.curve.specs.declared.CurveType.the-variants.{Linear}
 use Rattle.points.specs.Refusal.{gives, refuses}
 use Rattle.points.specs.Points.{every, listOf, holding}
-use Rattle.points.proofs.Laws.{and-left}
 use Rattle.settle.proofs.Judging.{Passes}
 use Rattle.insert.specs.Insert.{merged}
 use Rattle.lookup.specs.Lookup.{valueAt}
-use Rattle.combine.specs.Combine.{applied, mergeTimes, timeOf, timesOf, sideAt, combinedPoint, combinedList}
+use Rattle.combine.specs.Combine.{applied, mergeTimes, timesOf, sideAt, combinedPoint, combinedList}
 use Rattle.combine.proofs.Times.{merged-every}
 use Rattle.combine.specs.declared.Operation.{Operation}
 use Rattle.combine.specs.declared.Operation.the-variants.{Blend, Add, Multiply, Min, Max, Subtract}
 use Rattle.envelope.specs.Envelope.{validEnvelope}
-use Rattle.envelope.specs.Edit.{sideOf, joinProposal, joinSuccessor, joinOf}
+use Rattle.envelope.specs.Edit.{EditTold, sideOf, joinProposal, joinSuccessor, joinOf}
 use Rattle.envelope.specs.Typed.{typedPoint, typed}
-use Rattle.envelope.proofs.EditLaws.{Fair, outcome-fair, kept-settings}
-use Rattle.envelope.proofs.TypedLists.{TypedList, every-map, point-parts, linear-typed, pointWith-typed, listOf-typed, merged-typed}
+use Rattle.envelope.specs.Promised.{JoinsFair}
+use Rattle.envelope.proofs.EditLaws.{outcome-one, outcome-fair, kept-settings}
+use Rattle.envelope.proofs.TypedLists.{TypedList, linear-typed, pointWith-typed, listOf-typed, merged-typed}
 use Rattle.envelope.proofs.TypedLookup.{FitsIf, maxNum-fits, minNum-fits, valueAt-fits}
-use Rattle.envelope.proofs.TypedLaws.{parted, withPoints-typed, anew-typed, holds-typed, outcome-typed}
+use Rattle.envelope.proofs.TypedParts.{point-parts, parted}
+use Rattle.envelope.proofs.TypedLaws.{withPoints-typed, anew-typed, holds-typed, outcome-typed}
 use Rattle.envelope.specs.declared.AutomationEnvelope.{AutomationEnvelope}
 use Rattle.envelope.specs.declared.edit.Join.{Join}
 use Rattle.envelope.specs.declared.edit.Join.the-variants.{Merge, Combine}
@@ -44,21 +46,13 @@ unfolding joinSuccessor
 successor-target (Merge offset) e other = refl
 successor-target (Combine op) e other = refl
 
-join-fair : (j : Join) (e other : AutomationEnvelope) → Fair e (joinOf j e other)
+pub join-fair : JoinsFair
 unfolding joinOf
 join-fair j e other = outcome-fair e (validEnvelope e && validEnvelope other) (joinProposal j e other) _ (successor-valid j e other) (successor-target j e other)
 
 -- an accepted edit leaves a valid envelope
 pub join-valid : (j : Join) (e other : AutomationEnvelope) → joinOf j e other .said ≡ gives tt → validEnvelope (joinOf j e other .envelope) ≡ true
 join-valid j e other h = join-fair j e other .valid h
-
--- "A refusal returns its number .. and changes nothing."
-pub join-refused : (j : Join) (e other : AutomationEnvelope) (n : ℕ) → joinOf j e other .said ≡ refuses n → joinOf j e other .envelope ≡ e
-join-refused j e other n h = join-fair j e other .kept n h
-
--- "keeps the first target"
-pub join-target : (j : Join) (e other : AutomationEnvelope) → joinOf j e other .envelope .target ≡ e .target
-join-target j e other = join-fair j e other .target
 
 -- ---- numbers in range: the values are results of f32 arithmetic, or one of the two; the times are times of either
 
@@ -108,3 +102,8 @@ successor-typed (Combine op) e other t u q =
 pub join-typed : (j : Join) (e other : AutomationEnvelope) → typed e ≡ true → typed other ≡ true → typed (joinOf j e other .envelope) ≡ true
 unfolding joinOf
 join-typed j e other t u = outcome-typed e (validEnvelope e && validEnvelope other) (joinProposal j e other) _ t (successor-typed j e other t u)
+
+-- 1 where all that it is given isn't valid
+pub join-one : (j : Join) (e o : AutomationEnvelope) → (validEnvelope e && validEnvelope o) ≡ false → joinOf j e o .said ≡ refuses 1
+unfolding joinOf
+join-one j e o h = ap (λ (t : EditTold). t .said) (outcome-one e (validEnvelope e && validEnvelope o) (joinProposal j e o) _ h)

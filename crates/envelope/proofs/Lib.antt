@@ -2,9 +2,12 @@
 pub mod Outcomes
 -- Laws of the calls on an envelope, for the crates above.
 pub mod CallLaws
--- Laws that the crates above cite too.
+-- Laws of its edits that the crates above cite too: what is accepted is valid, what is refused changes nothing, and 1.
 pub mod EditLaws
+pub mod JoinLaws
+-- What `valid` and `typed` say of an envelope's parts, and that edits keep numbers in range of their types.
+pub mod ValidParts
+pub mod TypedParts
 pub mod TypedLists
 pub mod TypedLaws
 pub mod TypedLookup
-pub mod JoinLaws

@@ -6,17 +6,17 @@ use mathlib.Core.Option.{Option, none, some}
 use native.Mathlib.Omega.{arith}
 use borrow.Author.Tests.{le-leb}
 use lib.ListN.{length, length-take}
+use Rattle.numbers.proofs.Tests.{and-right}
 use Rattle.points.specs.Checks.{firstFailing, unlessRefused}
 use Rattle.points.specs.Refusal.{number, said}
 use Rattle.points.specs.Points.{listOf, holding, validPoints}
-use Rattle.points.proofs.Laws.{and-right}
 use Rattle.points.proofs.ValidLaws.{valid-count, valid-finite, valid-rising}
 use Rattle.points.specs.declared.refusal.Refusal.{Refusal}
 use Rattle.settle.specs.Settle.{Proposal, plain, causes, refused, judged}
 use Rattle.settle.specs.Settle as points
 use Rattle.settle.specs.declared.EditedPoints.{EditedPoints}
 use Rattle.settle.proofs.Judging.{argument-three, accepts}
-use Rattle.lookup.specs.Limits.{finiteLimits}
+use Rattle.limits.specs.Limits.{finiteLimits}
 use Rattle.envelope.specs.Envelope.{limitsOf, validEnvelope}
 use Rattle.envelope.specs.Edit.{EditTold, declined, outcome, withPoints, anew, edited, renewed, setting}
 use Rattle.envelope.proofs.EditLaws.{accepted, outcome-one}

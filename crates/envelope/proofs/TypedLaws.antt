@@ -6,10 +6,9 @@ use mathlib.Core.List.{List, []}
 use lib.Dec.{ltb, leb}
 use lib.Ieee.{binary32, binary64, fits}
 use lib.Ieee.Bits.{ofBits-fits}
-use Rattle.numbers.proofs.Tests.{yes as passes}
+use Rattle.numbers.proofs.Tests.{yes as passes, and-left, and-right, and-four, and-both as both}
 use Rattle.points.specs.Point.{finitePoint}
 use Rattle.points.specs.Points.{every, risingBy, rising, listOf, holding}
-use Rattle.points.proofs.Laws.{and-left, and-right}
 use Rattle.points.proofs.ValidLaws.{holding-valid, valid-count}
 use Rattle.points.specs.declared.AutomationPoint.{AutomationPoint}
 use Rattle.points.specs.declared.Points.{Points}
@@ -18,12 +17,14 @@ use Rattle.settle.proofs.Judging.{Passes}
 use Rattle.pointwise.specs.Each.{fadedInAll}
 use Rattle.pointwise.specs.declared.Change.the-variants as change
 use Rattle.shape.specs.Shape.{inside, near}
-use Rattle.lookup.specs.declared.Limits.{Limits}
+use Rattle.limits.specs.declared.Limits.{Limits}
 use Rattle.envelope.specs.Envelope.{new, limitsOf, validEnvelope}
 use Rattle.envelope.specs.Edit.{withPoints, anew, withSettings, outcome, proposed, constructed, proposal, successor, editOf}
 use Rattle.envelope.specs.Typed.{typedCurve, typedPoint, typedPoints, typedLimit, typed, typedPointsEdit, typedReplacement, typedEdit}
-use Rattle.envelope.proofs.EditLaws.{both, parts, outcome-either}
-use Rattle.envelope.proofs.TypedLists.{TypedList, every-sub, keepIf-sub, removeFirst-sub, simplified-sub, every-insert, each, scaledTime-typed, normalized-typed, fadedInAll-typed}
+use Rattle.envelope.proofs.EditLaws.{outcome-either}
+use Rattle.insert.proofs.Inserting.{every-insert}
+use Rattle.envelope.proofs.TypedParts.{Parts, parted}
+use Rattle.envelope.proofs.TypedLists.{TypedList, every-sub, keepIf-sub, removeFirst-sub, simplified-sub, each, scaledTime-typed, normalized-typed, fadedInAll-typed}
 use Rattle.envelope.proofs.TypedLists.{fadedOutAll-typed, reversed-typed, quantized-typed, rampList-typed, pulseList-typed, listOf-typed, holding-typed}
 use Rattle.envelope.specs.declared.AutomationEnvelope.{AutomationEnvelope}
 use Rattle.envelope.specs.declared.edit.PointsEdit.{PointsEdit}
@@ -39,7 +40,7 @@ use Rattle.envelope.specs.declared.edit.Edit.the-variants.{OfPoints, Rep
 module _ (l : List AutomationPoint) (t : TypedList l) where
   proposed-typed : (d : PointsEdit) → typedPointsEdit d ≡ true → TypedList (proposed d l .list)
   unfolding proposed typedPointsEdit
-  proposed-typed (AddPoint p) u = every-insert typedPoint p u l t
+  proposed-typed (AddPoint p) u = every-insert p typedPoint l t u
   proposed-typed (RemovePointAt time) u = every-sub typedPoint (removeFirst-sub (near time) l) t
   proposed-typed (ShiftPoints offset) u = each (change.Shift offset) refl l t
   proposed-typed (ScaleTime factor) u = scaledTime-typed l t factor
@@ -67,10 +68,10 @@ constructed-typed (FadeOut duration c) u =
     rampList-typed duration _ _ c (passes (and-left (fits binary64 duration) (typedCurve c) u)) (ofBits-fits binary32 0x3F80_0000) (ofBits-fits binary32 0)
     (and-right (fits binary64 duration) (typedCurve c) u)
 constructed-typed (Pulse fadeIn sustain fadeOut c) u =
-    let k = parts (fits binary64 fadeIn) (fits binary64 sustain) (fits binary64 fadeOut) (typedCurve c) u in
+    let k = and-four (fits binary64 fadeIn) (fits binary64 sustain) (fits binary64 fadeOut) (typedCurve c) u in
     pulseList-typed fadeIn sustain fadeOut c (passes (k .0)) (k .3)
 constructed-typed (Ramp duration start end c) u =
-    let k = parts (fits binary64 duration) (fits binary32 start) (fits binary32 end) (typedCurve c) u in
+    let k = and-four (fits binary64 duration) (fits binary32 start) (fits binary32 end) (typedCurve c) u in
     rampList-typed duration start end c (passes (k .0)) (passes (k .1)) (passes (k .2)) (k .3)
 
 -- the points that hold such a list
@@ -78,21 +79,6 @@ pub holds-typed : {valid : Bool} (p : Proposal) → Passes valid p → TypedList
 holds-typed p q h = holding-typed (p .list) (valid-count (holding (p .list)) (q .makes)) h
 
 -- ---- the envelope
-
--- what an envelope in range has
-pub record Parts (e : AutomationEnvelope) : Type 0 where
-  pub target : ltb (e .target) 0x1_0000_0000 ≡ true
-  pub least : typedLimit (e .«min_value») ≡ true
-  pub greatest : typedLimit (e .«max_value») ≡ true
-  pub step : typedLimit (e .«step_size») ≡ true
-  pub points : typedPoints (e .points) ≡ true
-
-pub parted : (e : AutomationEnvelope) → typed e ≡ true → Parts e
-unfolding typed
-parted e t =
-    let known = ltb (e .target) 0x1_0000_0000 in
-    let k = parts (known && typedLimit (e .«min_value»)) (typedLimit (e .«max_value»)) (typedLimit (e .«step_size»)) (typedPoints (e .points)) t in
-    record { target = and-left known (typedLimit (e .«min_value»)) (k .0); least = and-right known (typedLimit (e .«min_value»)) (k .0); greatest = k .1; step = k .2; points = k .3 }
 
 joined : (e : AutomationEnvelope) → Parts e → typed e ≡ true
 unfolding typed

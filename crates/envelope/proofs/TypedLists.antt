@@ -1,34 +1,36 @@
--- What keeps a list's elements good, for any test; and that what each edit makes of points in range of their types is so too. Assumes nothing.
+-- Lists without some of the elements of another; and that what each edit makes of points in range of their types is so too. Assumes nothing.
 use Prim.Native.Nat.{ℕ, zero, suc, _-_, _≤_}
 use mathlib.Core.Path.{_≡_, refl, _∙_}
 use mathlib.Core.Bool.{Bool, true, cond, _&&_}
-use mathlib.Core.List.{List, [], _∷_, _++_, map, foldl, reverse, reverseAux}
+use mathlib.Core.List.{List, [], _∷_, _++_, map}
 use native.Mathlib.Omega.{arith}
 use borrow.Author.Tests.{eq-eqb}
-use lib.Dec.{T, ltb, eqb}
+use lib.Dec.{T, eqb}
 use lib.ListN.{length, take, drop, replicate, length-append, length-replicate}
 use lib.Ieee.{Float, binary32, binary64, fits, add, sub, lt, le}
 use lib.Ieee.Bits.{is-true, ofBits-fits}
 use lib.Ieee.Fits.{cond-fits, add-fits, sub-fits, mul-fits}
-use Rattle.numbers.proofs.Tests.{yes as passes}
+use Rattle.numbers.specs.Bounds.{zero64}
+use Rattle.numbers.proofs.Tests.{yes as passes, and-left, and-right, and-both as both, either}
 use Rattle.curve.specs.Curve.{controls}
 use Rattle.curve.specs.F32.{f0, f1}
 use Rattle.curve.specs.declared.CurveType.{CurveType}
 use Rattle.curve.specs.declared.CurveType.the-variants.{Linear}
 use Rattle.points.specs.Point.{unused, pointWith}
-use Rattle.points.specs.Points.{every, timeKey, listOf, holding}
-use Rattle.points.proofs.Laws.{and-left, and-right, every-append}
+use Rattle.points.specs.Points.{every, listOf, holding}
+use Rattle.points.proofs.Laws.{every-append, every-fold, every-map, every-replicate, every-reverse}
 use Rattle.points.specs.Middles.{middles}
 use Rattle.points.specs.declared.AutomationPoint.{AutomationPoint}
 use Rattle.points.specs.declared.Points.{Points}
-use Rattle.pointwise.specs.Each.{zero64, withTime, withValue, clampedTo, fadedIn, fadedOut, gated, compressed, changed, lowestValue, highestValue, firstTime, lastTime, scaledTime, normalized}
+use Rattle.pointwise.specs.Each.{withTime, withValue, fadedIn, fadedOut, gated, compressed, changed, lowestValue, highestValue, firstTime, lastTime, scaledTime, normalized}
 use Rattle.pointwise.specs.Each.{fadedInAll, fadedOutAll}
 use Rattle.pointwise.specs.declared.Change.{Change}
 use Rattle.pointwise.specs.declared.Change.the-variants.{Shift, ScaleTime, Reflect, Quantize, Invert, Normalize, Scale, Offset, Clamp, FadeIn, FadeOut, Gate, Compress}
+use Rattle.insert.proofs.Inserting.{every-insert}
 use Rattle.insert.specs.Insert.{insertPoint, insertAll, merged, rampList, pulseList}
 use Rattle.shape.specs.Shape.{keepIf, removeFirst, reversed, firsts, quantized, differs, simplified}
-use Rattle.envelope.specs.Typed.{typedCurve, typedPosition, typedPoint, typedPoints}
-use Rattle.envelope.proofs.EditLaws.{either, both, parts}
+use Rattle.envelope.specs.Typed.{typedCurve, typedPoint, typedPoints}
+use Rattle.envelope.proofs.TypedParts.{point-parts}
 
 -- ---- a list without some of its elements
 
@@ -89,50 +91,11 @@ module _ {A : Type 0} (q : A → Bool) where
   every-sub (keep {x = x} {l = l} s) h = both (and-left (q x) (every q l) h) (every-sub s (and-right (q x) (every q l) h))
   every-sub (skip {x = x} {l = l} s) h = every-sub s (and-right (q x) (every q l) h)
 
-  every-onto : (l r : List A) → every q l ≡ true → every q r ≡ true → every q (reverseAux l r) ≡ true
-  unfolding every
-  every-onto [] r h k = k
-  every-onto (x ∷ l) r h k = every-onto l (x ∷ r) (and-right (q x) (every q l) h) (both (and-left (q x) (every q l) h) k)
-
-  pub every-reverse : (l : List A) → every q l ≡ true → every q (reverse l) ≡ true
-  unfolding every
-  every-reverse l h = every-onto l [] h refl
-
-  pub every-replicate : (n : ℕ) (x : A) → q x ≡ true → every q (replicate n x) ≡ true
-  unfolding every
-  every-replicate zero x h = refl
-  every-replicate (suc n) x h = both h (every-replicate n x h)
-
-  -- a list that grows by the elements of another
-  pub every-fold : (f : List A → A → List A) → ((l : List A) (x : A) → every q l ≡ true → q x ≡ true → every q (f l x) ≡ true)
-      → (l new : List A) → every q l ≡ true → every q new ≡ true → every q (foldl f l new) ≡ true
-  unfolding every
-  every-fold f k l [] h g = h
-  every-fold f k l (x ∷ new) h g = every-fold f k (f l x) new (k l x h (and-left (q x) (every q new) g)) (and-right (q x) (every q new) g)
-
-pub every-map : {A B : Type 0} (q : A → Bool) (r : B → Bool) (f : A → B) → ((x : A) → q x ≡ true → r (f x) ≡ true) → (l : List A) → every q l ≡ true
-    → every r (map f l) ≡ true
-unfolding every
-every-map q r f k [] h = refl
-every-map q r f k (x ∷ l) h = both (k x (and-left (q x) (every q l) h)) (every-map q r f k l (and-right (q x) (every q l) h))
-
-pub every-insert : (q : AutomationPoint → Bool) (p : AutomationPoint) → q p ≡ true → (l : List AutomationPoint) → every q l ≡ true → every q (insertPoint p l) ≡ true
-unfolding every insertPoint
-every-insert q p k [] h = both k refl
-every-insert q p k (x ∷ l) h =
-    let tail = and-right (q x) (every q l) h in
-    either (λ (m : List AutomationPoint). every q m ≡ true) (ltb (timeKey x) (timeKey p)) (λ b. both (and-left (q x) (every q l) h) (every-insert q p k l tail))
-    (either (λ (m : List AutomationPoint). every q m ≡ true) (eqb (timeKey x) (timeKey p)) (λ b. both k tail) (both k h))
-
 -- ---- a point in range of its types
 
 -- every point of the list is in range
 abbrev pub TypedList : List AutomationPoint → Type 0
 TypedList l = every typedPoint l ≡ true
-
-pub point-parts : (p : AutomationPoint) → typedPoint p ≡ true
-    → (fits binary64 (p .time) ≡ true) × (typedPosition (p .«sample_position») ≡ true) × (fits binary32 (p .value) ≡ true) × (typedCurve (p .curve) ≡ true)
-point-parts p t = parts (fits binary64 (p .time)) (typedPosition (p .«sample_position»)) (fits binary32 (p .value)) (typedCurve (p .curve)) t
 
 withTime-typed : (p : AutomationPoint) (x : Float) → typedPoint p ≡ true → T (fits binary64 x) → typedPoint (withTime p x) ≡ true
 withTime-typed p x t h = let k = point-parts p t in both (both (both (is-true (fits binary64 x) h) (k .1)) (k .2)) (k .3)
@@ -149,8 +112,7 @@ unfolding controls
 linear-typed = let z = is-true (fits binary32 f0) (ofBits-fits binary32 0) in both z z
 
 pub unused-typed : typedPoint unused ≡ true
-unfolding fits
-unused-typed = linear-typed
+unused-typed = both (both (both (is-true (fits binary64 zero64) (ofBits-fits binary64 0)) refl) (is-true (fits binary32 f0) (ofBits-fits binary32 0))) linear-typed
 
 -- ---- what each change makes of it. The operations round to their format; only a clamp's bounds come back as they are.
 abbrev pub clampFits : Change → Bool
@@ -169,7 +131,7 @@ clampFits (Gate threshold) = true
 clampFits (Compress threshold ratio) = true
 
 changed-typed : (c : Change) (p : AutomationPoint) → clampFits c ≡ true → typedPoint p ≡ true → typedPoint (changed c p) ≡ true
-unfolding clampedTo fadedIn fadedOut gated compressed
+unfolding fadedIn fadedOut gated compressed
 changed-typed (Shift offset) p b t = withTime-typed p _ t (add-fits binary64 _ _)
 changed-typed (ScaleTime factor) p b t = withTime-typed p _ t (mul-fits binary64 _ _)
 changed-typed (Reflect maxTime) p b t = withTime-typed p _ t (sub-fits binary64 _ _)
@@ -216,7 +178,7 @@ module _ (l : List AutomationPoint) (h : TypedList l) where
       (every-sub typedPoint (firsts-sub (map (changed (Quantize grid)) l)) (each (Quantize grid) refl l h))
 
   pub insertAll-typed : (new : List AutomationPoint) → TypedList new → TypedList (insertAll l new)
-  insertAll-typed new k = every-fold typedPoint (λ made p. insertPoint p made) (λ made p m t. every-insert typedPoint p t made m) l new h k
+  insertAll-typed new k = every-fold typedPoint (λ made p. insertPoint p made) (λ made p m t. every-insert p typedPoint made m t) l new h k
 
   pub merged-typed : (other : List AutomationPoint) (offset : Float) → TypedList other → TypedList (merged l other offset)
   merged-typed other offset k = insertAll-typed (map (changed (Shift offset)) other) (each (Shift offset) refl other k)

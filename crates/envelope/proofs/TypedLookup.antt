@@ -8,23 +8,22 @@ use lib.Dec.{T, ltb, eqb}
 use lib.ListN.{length}
 use lib.Ieee.{Float, binary32, fits, lt, le, isNan, ofBits}
 use lib.Ieee.Fits.{cond-fits, nan-fits, add-fits, mul-fits}
-use Rattle.numbers.proofs.Tests.{yes as passes}
+use Rattle.numbers.proofs.Tests.{yes as passes, and-left, and-right, either}
 use Rattle.numbers.specs.Order.{orderKey}
 use Rattle.numbers.specs.Bounds.{maxNum, minNum}
 use Rattle.curve.specs.Curve.{interpolated}
 use Rattle.points.specs.Points.{every, timeKey, listOf}
 use Rattle.points.specs.Search.{placeBy}
-use Rattle.points.proofs.Laws.{and-left, and-right}
 use Rattle.points.specs.declared.AutomationPoint.{AutomationPoint}
 use Rattle.points.specs.declared.Points.{Points}
-use Rattle.lookup.specs.Limits.{atLeast, atMost, toStep, constrained}
+use Rattle.limits.specs.Limits.{atLeast, atMost, toStep, constrained}
 use Rattle.lookup.specs.Lookup.{pointAt, lastPoint, surrounded, between, rawAt, foundAt, heard, valueAt}
-use Rattle.lookup.specs.declared.Limit.{Limit}
-use Rattle.lookup.specs.declared.Limit.the-variants as limit
-use Rattle.lookup.specs.declared.Limits.{Limits}
+use Rattle.limits.specs.declared.Limit.{Limit}
+use Rattle.limits.specs.declared.Limit.the-variants as limit
+use Rattle.limits.specs.declared.Limits.{Limits}
 use Rattle.envelope.specs.Typed.{typedPoint, typedLimit}
-use Rattle.envelope.proofs.EditLaws.{either}
-use Rattle.envelope.proofs.TypedLists.{TypedList, point-parts}
+use Rattle.envelope.proofs.TypedLists.{TypedList}
+use Rattle.envelope.proofs.TypedParts.{point-parts}
 
 -- ---- the constraints
 

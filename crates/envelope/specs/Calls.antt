@@ -8,7 +8,7 @@ use lib.Ieee.{Float}
 use Rattle.points.specs.Refusal.{Said}
 use Rattle.points.specs.declared.AutomationPoint.{AutomationPoint}
 use Rattle.lookup.specs.Lookup.{getValueAt, getValueAtSample}
-use Rattle.render.specs.Render.{Rendered, Stepped, sampleAt, render, toBuffer, iterSamples, nextSample}
+use Rattle.render.specs.Render.{Rendered, WalkStep, sampleAt, render, toBuffer, iterSamples, nextSample}
 use Rattle.render.specs.Pieces.{Pieces, pieces}
 use Rattle.render.specs.declared.SampleIterator.{SampleIterator}
 use Rattle.analysis.specs.Analysis.{Filled, getRange, getRangeSamples, getSlopeAt, findMiddles}
@@ -48,7 +48,7 @@ abbrev pub iterSamplesOf : AutomationEnvelope → Float → Float → Said Sampl
 iterSamplesOf e rate duration = iterSamples (e .points) (limitsOf e) rate duration
 
 -- `next`: the walk's next sample, and the walk after it
-abbrev pub nextSampleOf : AutomationEnvelope → SampleIterator → Stepped
+abbrev pub nextSampleOf : AutomationEnvelope → SampleIterator → WalkStep
 nextSampleOf e walk = nextSample (e .points) (e .enabled) (limitsOf e) walk
 
 -- ---- the analyses

@@ -20,8 +20,8 @@ use Rattle.pointwise.specs.Each.{changed, scaledTime, normalized, clamping, fad
 use Rattle.pointwise.specs.declared.Change.the-variants as change
 use Rattle.insert.specs.Insert.{insertPoint, merged, rampList, pulseList}
 use Rattle.shape.specs.Shape.{keepIf, inside, removeFirst, near, reversed, quantized, simplified}
-use Rattle.lookup.specs.Limits.{finiteLimit, finiteLimits}
-use Rattle.lookup.specs.declared.Limits.{Limits}
+use Rattle.limits.specs.Limits.{finiteLimit, finiteLimits}
+use Rattle.limits.specs.declared.Limits.{Limits}
 use Rattle.combine.specs.Combine.{finiteOperation, combinedList}
 use Rattle.combine.specs.declared.Side.{Side}
 use Rattle.envelope.specs.Envelope.{new, limitsOf, validEnvelope}

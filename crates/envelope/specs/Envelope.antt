@@ -7,10 +7,10 @@ use lib.Ieee.{eq}
 use Rattle.points.specs.Refusal.{Said, refuses, gives}
 use Rattle.points.specs.Point.{matching}
 use Rattle.points.specs.Points.{listOf, holding, everyPair}
-use Rattle.lookup.specs.Limits.{valid}
-use Rattle.lookup.specs.declared.Limit.{Limit}
-use Rattle.lookup.specs.declared.Limit.the-variants as limit
-use Rattle.lookup.specs.declared.Limits.{Limits}
+use Rattle.lookup.specs.Valid.{valid}
+use Rattle.limits.specs.declared.Limit.{Limit}
+use Rattle.limits.specs.declared.Limit.the-variants as limit
+use Rattle.limits.specs.declared.Limits.{Limits}
 use Rattle.envelope.specs.declared.AutomationEnvelope.{AutomationEnvelope}
 
 -- 000's `new`: enabled, no points, no limits

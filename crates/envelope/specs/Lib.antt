@@ -3,3 +3,5 @@ pub mod Envelope
 pub mod Calls
 pub mod Edit
 pub mod Typed
+-- What is promised beyond the contracts.
+pub mod Promised

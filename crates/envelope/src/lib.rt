@@ -9,8 +9,8 @@ pub mod bench;
 pub mod edit;
 pub mod player;
 
-use lookup::Limit;
-use lookup::Limits;
+use limits::Limit;
+use limits::Limits;
 use points::Points;
 use points::refusal::Answer;
 use points::refusal::Compared;

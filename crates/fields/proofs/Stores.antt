@@ -16,7 +16,7 @@ use Rattle.fields.specs.declared.Optional.the-variants as optional
 -- ---- one text after another
 
 -- one run after another
-sets-append : (l : List ℕ) (i : ℕ) (us vs : List ℕ) → sets l i (us ++ vs) ≡ sets (sets l i us) (i + length us) vs
+pub sets-append : (l : List ℕ) (i : ℕ) (us vs : List ℕ) → sets l i (us ++ vs) ≡ sets (sets l i us) (i + length us) vs
 sets-append l i [] vs = ap (λ (k : ℕ). sets l k vs) (sym (add-zero i))
 sets-append l i (a ∷ us) vs =
     let k : suc i + length us ≡ i + suc (length us) = omega arith in

@@ -24,7 +24,7 @@ use Rattle.session.specs.declared.Session.{Session}
 use Rattle.history.specs.Rule.{Hist, made, upTo, joinedBy, ruledBy, editRuled, ruleTests, ruleOf}
 use Rattle.history.proofs.Entries.{entry-valid, entry-typed}
 use Rattle.history.specs.After.{Holds, Outside, typedEntry}
-use Rattle.history.proofs.Steps.{Inv, Stepped, made-snoc, states, envelope-typed, envelope-words, marks, at-fits, rule-by, calls-by}
+use Rattle.history.proofs.Steps.{Inv, CallStep, made-snoc, states, envelope-typed, envelope-words, marks, at-fits, rule-by, calls-by}
 
 module _ (start : AutomationEnvelope) (d : ℕ) (h : Hist) (s : Session) (m : List ℕ) (v : Inv start d h s m) where
   module _ (x : Entry) (passed : firstFailing (inTurn (ruleTests h (edit x))) ≡ none) where
@@ -34,7 +34,7 @@ module _ (start : AutomationEnvelope) (d : ℕ) (h : Hist) (s : Session) (m : Li
     calls-edit : callOf (edit x) s m ≡ settled s m (madeBy x (s .envelope) .said) (madeBy x (s .envelope) .envelope)
     calls-edit = calls-by start d h s m v (edit x) none passed
 
-    refused-edit : (n : ℕ) → madeBy x (s .envelope) .said ≡ refuses n → Stepped start d h s m (edit x)
+    refused-edit : (n : ℕ) → madeBy x (s .envelope) .said ≡ refuses n → CallStep start d h s m (edit x)
     refused-edit n r =
         record {
           answer = refuses n;
@@ -165,7 +165,7 @@ module _ (start : AutomationEnvelope) (d : ℕ) (h : Hist) (s : Session) (m : Li
           (λ e. out (h .mark) (omega arith) (omega (arith, length-h′)) (e ∙ v .at-slot p)))
           (eq-zero-or-pos d)
 
-      accepted-edit : Stepped start d h s m (edit x)
+      accepted-edit : CallStep start d h s m (edit x)
       accepted-edit =
           record {
             answer = gives tt;
@@ -179,6 +179,6 @@ module _ (start : AutomationEnvelope) (d : ℕ) (h : Hist) (s : Session) (m : Li
             stays = stays′;
           }
 
-    pub edit-stepped : (a : Said (Unit {0})) → madeBy x (s .envelope) .said ≡ a → Stepped start d h s m (edit x)
+    pub edit-stepped : (a : Said (Unit {0})) → madeBy x (s .envelope) .said ≡ a → CallStep start d h s m (edit x)
     edit-stepped (refuses n) a = refused-edit n a
     edit-stepped (gives u) a = accepted-edit a

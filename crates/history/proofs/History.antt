@@ -1,5 +1,5 @@
 -- The history theorem, demand 3: one law over every list of calls from a new session.
-use Prim.Native.Nat.{ℕ, _<_}
+use Prim.Native.Nat.{ℕ}
 use mathlib.Core.Path.{_≡_, refl, ap, ap₂, sym, _∙_}
 use mathlib.Core.List.{List, _∷_}
 use mathlib.Core.Bool.{true}
@@ -9,10 +9,10 @@ use native.Mathlib.Omega.{arith}
 use lib.ListN.{length, getD}
 use lib.Seq.{take-nil}
 use borrow.Author.Tests.{lt-ltb}
+use Rattle.numbers.proofs.Tests.{and-left, and-right}
 use Rattle.points.specs.Checks.{firstFailing}
 use Rattle.points.specs.Refusal.{Said, said}
 use Rattle.points.specs.Points.{every}
-use Rattle.points.proofs.Laws.{and-left, and-right}
 use Rattle.points.specs.declared.refusal.Refusal.{Refusal}
 use Rattle.envelope.specs.Envelope.{new, validEnvelope}
 use Rattle.envelope.specs.Typed.{typed}
@@ -23,23 +23,24 @@ use Rattle.session.specs.Calls.{Entry, madeBy, Call, edit, back, forward, inTur
 use Rattle.session.specs.declared.Session.{Session}
 use Rattle.session.specs.declared.SessionAnswer.{SessionAnswer}
 use Rattle.history.specs.Rule.{Hist, newHist, made, upTo, Ruled, ruleTests, ruleOf, histAfter, answersAfter}
-use Rattle.history.specs.After.{typedCall, After}
-use Rattle.history.proofs.Steps.{Inv, Stepped, refused-call, session-valid, place-is}
+use Rattle.history.specs.After.{typedCall}
+use Rattle.history.specs.Promised.{HistoryFrom, History}
+use Rattle.history.proofs.Steps.{Inv, CallStep, refused-call, session-valid, place-is}
 use Rattle.history.proofs.Edits.{edit-stepped}
 use Rattle.history.proofs.Moves.{yes-back, yes-forward}
 use Rattle.history.proofs.Played.{runs-of}
 
 -- what a call does
 module _ (start : AutomationEnvelope) (d : ℕ) (h : Hist) (s : Session) (m : List ℕ) (v : Inv start d h s m) where
-  passes : (c : Call) → firstFailing (inTurn (ruleTests h c)) ≡ none → Stepped start d h s m c
+  passes : (c : Call) → firstFailing (inTurn (ruleTests h c)) ≡ none → CallStep start d h s m c
   passes (edit x) p = edit-stepped start d h s m v x p (madeBy x (s .envelope) .said) refl
   passes back p = yes-back start d h s m v p
   passes forward p = yes-forward start d h s m v p
 
-  step : (c : Call) → Stepped start d h s m c
+  step : (c : Call) → CallStep start d h s m c
   step c = go (firstFailing (inTurn (ruleTests h c))) refl
     where
-      go : (o : Option Refusal) → firstFailing (inTurn (ruleTests h c)) ≡ o → Stepped start d h s m c
+      go : (o : Option Refusal) → firstFailing (inTurn (ruleTests h c)) ≡ o → CallStep start d h s m c
       go none e = passes c e
       go (some r) e = refused-call start d h s m v c r e
 
@@ -48,7 +49,7 @@ carry start d h h′ s s′ m m′ p q r v = rw (p, q, r) v
 
 -- one call that obeys its contract takes the rule's history to the rule's next, and says what the rule says
 module _ (start : AutomationEnvelope) (d : ℕ) (h : Hist) (s : Session) (m : List ℕ) (v : Inv start d h s m) (c : Call) (a : SessionAnswer) (m′ : List ℕ) (ob : Obeys s m c a m′) where
-  abbrev st : Stepped start d h s m c
+  abbrev st : CallStep start d h s m c
   st = step start d h s m v c
 
   as-stepped : called a m′ ≡ record { said = st .answer; session = st .session; memory = st .memory }
@@ -94,8 +95,7 @@ begun start m t f =
     }
 
 -- demand 3, from any valid envelope
-pub history : (start : AutomationEnvelope) → typed start ≡ true → validEnvelope start ≡ true → (m₀ : List ℕ) (cs : List Call) → every typedCall cs ≡ true
-    → (answers : List (Said (Unit {0}))) (s : Session) (m : List ℕ) → Ran (opened start (length m₀)) m₀ cs answers s m → After start m₀ cs answers s m
+pub history : HistoryFrom
 history start t f m₀ cs ts answers s m r =
     let d : ℕ = statesIn (length m₀) in
     let k = keeps start d newHist r ts (begun start m₀ t f) in
@@ -118,7 +118,6 @@ history start t f m₀ cs ts answers s m r =
     }
 
 -- demand 3: from a new session for any target and step memory
-pub history-new : (target : ℕ) → target < 0x1_0000_0000 → (m₀ : List ℕ) (cs : List Call) → every typedCall cs ≡ true
-    → (answers : List (Said (Unit {0}))) (s : Session) (m : List ℕ) → Ran (openSession target m₀) m₀ cs answers s m → After (new target) m₀ cs answers s m
+pub history-new : History
 unfolding openSession
 history-new target f m₀ cs ts answers s m r = history (new target) (new-typed target (lt-ltb target 0x1_0000_0000 f)) (new-valid target) m₀ cs ts answers s m r

@@ -19,7 +19,7 @@ use Rattle.session.specs.Calls.{back, forward, inTurn, callOf}
 use Rattle.session.specs.declared.Session.{Session}
 use Rattle.history.specs.Rule.{Hist, upTo, steppedBack, steppedForward, ruleTests}
 use Rattle.history.specs.After.{Holds}
-use Rattle.history.proofs.Steps.{Inv, Stepped, stands, states, envelope-words, rule-by, calls-by}
+use Rattle.history.proofs.Steps.{Inv, CallStep, stands, states, envelope-words, rule-by, calls-by}
 
 module _ (start : AutomationEnvelope) (d : ℕ) (h : Hist) (s : Session) (m : List ℕ) (v : Inv start d h s m) where
   -- ---- a step over edit j, whose slot is p: the session's envelope and the state in the slot change places
@@ -116,7 +116,7 @@ module _ (start : AutomationEnvelope) (d : ℕ) (h : Hist) (s : Session) (m : Li
         calls-by start d h s m v back none passed
         ∙ rw (states start d h s m v) (stepped (h .mark - 1) pb pos-b slot-b (h .mark - 1) pb (s .kept - 1) (s .ahead + 1) read-b)
 
-    pub yes-back : Stepped start d h s m back
+    pub yes-back : CallStep start d h s m back
     yes-back =
         record {
           answer = gives tt;
@@ -192,7 +192,7 @@ module _ (start : AutomationEnvelope) (d : ℕ) (h : Hist) (s : Session) (m : Li
         calls-by start d h s m v forward none passed
         ∙ rw (states start d h s m v) (stepped (h .mark) (s .at) pos-f (v .at-slot pos-f) (h .mark + 1) (slotAfter d (s .at)) (s .kept + 1) (s .ahead - 1) read-f)
 
-    pub yes-forward : Stepped start d h s m forward
+    pub yes-forward : CallStep start d h s m forward
     yes-forward =
         record {
           answer = gives tt;

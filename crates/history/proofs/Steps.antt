@@ -10,11 +10,11 @@ use native.Mathlib.Omega.{arith}
 use lib.Dec.{ltb}
 use lib.ListN.{length, getD}
 use borrow.Author.Tests.{lt-ltb, le-ltb, le-leb, eq-eqb, ne-eqb}
+use Rattle.numbers.proofs.Tests.{and-left, and-right}
 use Rattle.points.specs.Checks.{firstFailing, unlessRefused}
 use Rattle.points.proofs.CheckLaws.{all-hold}
 use Rattle.points.specs.Refusal.{Said, refuses, said, number}
 use Rattle.points.specs.Points.{every}
-use Rattle.points.proofs.Laws.{and-left, and-right}
 use Rattle.points.specs.declared.refusal.Refusal.{Refusal}
 use Rattle.envelope.specs.Envelope.{validEnvelope}
 use Rattle.envelope.specs.Typed.{typed}
@@ -49,7 +49,7 @@ made-snoc [] x e = refl
 made-snoc (y ∷ xs) x e = made-snoc xs x (madeBy y e .envelope)
 
 -- what one call does, as the rule and as the contracts have it
-pub record Stepped (start : AutomationEnvelope) (d : ℕ) (h : Hist) (s : Session) (m : List ℕ) (c : Call) : Type 0 where
+pub record CallStep (start : AutomationEnvelope) (d : ℕ) (h : Hist) (s : Session) (m : List ℕ) (c : Call) : Type 0 where
   pub answer : Said (Unit {0})
   pub hist : Hist
   pub session : Session
@@ -126,7 +126,7 @@ module _ (start : AutomationEnvelope) (d : ℕ) (h : Hist) (s : Session) (m : Li
         (ap (λ (t : Tests). firstFailing (inTurn t)) (tests-agree c) ∙ e)
 
   -- one that a test refuses
-  pub refused-call : (c : Call) (r : Refusal) → firstFailing (inTurn (ruleTests h c)) ≡ some r → Stepped start d h s m c
+  pub refused-call : (c : Call) (r : Refusal) → firstFailing (inTurn (ruleTests h c)) ≡ some r → CallStep start d h s m c
   refused-call c r e =
       record {
         answer = refuses (number r);

@@ -20,11 +20,11 @@ use Rattle.points.specs.Search.{placeBy}
 use Rattle.points.specs.declared.AutomationPoint.{AutomationPoint}
 use Rattle.lookup.specs.Examples as lookups
 use Rattle.lookup.specs.Examples.{minusZero, at, rise, limits, t0, t1, t2, t10, t20}
-use Rattle.lookup.specs.Limits.{constrained}
+use Rattle.limits.specs.Limits.{constrained}
 use Rattle.lookup.specs.Lookup.{surrounded, fraction, foundAt, foundAtSample, getValueAt, getValueAtSample}
 use Rattle.lookup.specs.Runs.{run}
-use Rattle.lookup.specs.declared.Limit.{Limit}
-use Rattle.lookup.specs.declared.Limit.the-variants as limit
+use Rattle.limits.specs.declared.Limit.{Limit}
+use Rattle.limits.specs.declared.Limit.the-variants as limit
 use Rattle.analysis.specs.Examples as ranges
 use Rattle.analysis.specs.Analysis.{givenValues, rangeOf, rawInside, getRange}
 use Rattle.envelope.specs.Envelope.{new}
@@ -39,17 +39,17 @@ use Rattle.history.specs.Examples.{p13-calls}
 -- ---- envelopes: 000's `new` with points and limits
 
 -- `new` with these points
-abbrev holds : List AutomationPoint → AutomationEnvelope
-holds l = withPoints (new 0) (holding l)
+abbrev withList : List AutomationPoint → AutomationEnvelope
+withList l = withPoints (new 0) (holding l)
 
 -- (0,0),(4,1) by a curve
-abbrev rising : CurveType → AutomationEnvelope
-rising c = holds (rise c)
+abbrev riseOf : CurveType → AutomationEnvelope
+riseOf c = withList (rise c)
 
 -- one point at time 0, with a maximum and a step
 abbrev limited : Limit → Limit → Float → AutomationEnvelope
 limited max step v =
-    let e = holds (at t0 v ∷ []) in
+    let e = withList (at t0 v ∷ []) in
     withSettings e (e .enabled) (limits max step)
 
 -- ---- the table
@@ -59,25 +59,25 @@ pub record Table : Type 0 where
   -- "P1 empty: silent."
   pub p1 : valueAtOf (new 0) t1 ≡ gives none
   -- "P2 (0,0),(4,1) at 1: 0.25."
-  pub p2 : valueAtOf (rising Linear) t1 ≡ gives (some (f32 0x3E80_0000))
+  pub p2 : valueAtOf (riseOf Linear) t1 ≡ gives (some (f32 0x3E80_0000))
   -- "P3 QuadIn at 2: 0.25."
-  pub p3 : valueAtOf (rising QuadIn) t2 ≡ gives (some (f32 0x3E80_0000))
+  pub p3 : valueAtOf (riseOf QuadIn) t2 ≡ gives (some (f32 0x3E80_0000))
   -- "P4 Logarithmic at 1: 0.5."
-  pub p4 : valueAtOf (rising Logarithmic) t1 ≡ gives (some f0·5)
+  pub p4 : valueAtOf (riseOf Logarithmic) t1 ≡ gives (some f0·5)
   -- "P5 CubicInOut at 1: 0.0625."
-  pub p5 : valueAtOf (rising CubicInOut) t1 ≡ gives (some (f32 0x3D80_0000))
+  pub p5 : valueAtOf (riseOf CubicInOut) t1 ≡ gives (some (f32 0x3D80_0000))
   -- "P6 Bezier(1,1) at 2: 0.875."
-  pub p6 : valueAtOf (rising (Bezier f1 f1)) t2 ≡ gives (some (f32 0x3F60_0000))
+  pub p6 : valueAtOf (riseOf (Bezier f1 f1)) t2 ≡ gives (some (f32 0x3F60_0000))
   -- "P7 maximum 1, step 0.625, value 1: 1.25."
   pub p7 : valueAtOf (limited (limit.Number f1) (limit.Number (f32 0x3F20_0000)) f1) t0 ≡ gives (some (f32 0x3FA0_0000))
   -- "P8 step 1, value −2.5: −3."
   pub p8 : valueAtOf (limited limit.None (limit.Number f1) (f32 0xC020_0000)) t0 ≡ gives (some (f32 0xC040_0000))
   -- "P9 alone, −0.0 stays; as the middle of three, at its time, 0.0."
-  pub p9-alone : valueAtOf (holds (at t1 minusZero ∷ [])) t1 ≡ gives (some minusZero)
-  pub p9-middle : valueAtOf (holds (at t0 f1 ∷ at t1 minusZero ∷ at t2 f1 ∷ [])) t1 ≡ gives (some f0)
+  pub p9-alone : valueAtOf (withList (at t1 minusZero ∷ [])) t1 ≡ gives (some minusZero)
+  pub p9-middle : valueAtOf (withList (at t0 f1 ∷ at t1 minusZero ∷ at t2 f1 ∷ [])) t1 ≡ gives (some f0)
   -- "P10 times 10 and 20, no positions: sample 5 silent, sample 0 the first value."
-  pub p10-silent : valueAtSampleOf (holds (at t10 f1 ∷ at t20 f0 ∷ [])) 5 ≡ gives none
-  pub p10-first : valueAtSampleOf (holds (at t10 f1 ∷ at t20 f0 ∷ [])) 0 ≡ gives (some f1)
+  pub p10-silent : valueAtSampleOf (withList (at t10 f1 ∷ at t20 f0 ∷ [])) 5 ≡ gives none
+  pub p10-first : valueAtSampleOf (withList (at t10 f1 ∷ at t20 f0 ∷ [])) 0 ≡ gives (some f1)
   -- "P11 16,777,219 to f32: 16,777,220."
   pub p11 : ofInt binary32 (pos 16777219) ≡ f32 0x4B80_0002
   -- "P12 value 2, maximum 1, time 0, range 0 to 1: (1, 2)."

@@ -1,1 +1,1 @@
-// The history theorem: specs/ alone.
+// The history theorem: specs/ and proofs/ alone.

@@ -9,12 +9,13 @@ use lib.Dec.{ltb, eqb}
 use lib.ListN.{length, take, drop, getD, set, replicate, length-set, length-append, length-replicate, length-take, take-append-drop}
 use lib.Seq.{getD-take, set-append-left, length-take-le, take-append-seam, take-all}
 use borrow.Author.Tests.{ltb-true, ltb-false, lt-ltb, le-leb, lt-leb, eqb-true, eqb-false, eq-eqb, ne-eqb, not-true, not-false}
+use Rattle.numbers.proofs.Tests.{and-left, and-right, and-both as and-yes}
 use Rattle.points.specs.Point.{unused, anyPoint}
 use Rattle.points.specs.Points.{every, rising, risingBy, timeKey, listOf, holding}
-use Rattle.points.proofs.Laws.{and-left, and-right, and-both as and-yes}
 use Rattle.points.proofs.ValidLaws.{listOf-holding}
 use Rattle.points.specs.Search.{placeBy}
-use Rattle.points.proofs.SearchLaws.{place-bound, Searching, search-end}
+use Rattle.points.proofs.Laws.{rising-front}
+use Rattle.points.proofs.SearchLaws.{place-bound, Halving, halving-place}
 use Rattle.points.specs.declared.AutomationPoint.{AutomationPoint}
 use Rattle.points.specs.declared.Points.{Points}
 use Rattle.settle.proofs.Lists.{fold-more}
@@ -195,14 +196,6 @@ rising-all l (p ∷ new) r = rising-all (insertPoint p l) new (rising-insert p l
 
 -- ---- points whose times rise go behind each other
 
-pub rising-prefix : (xs ys : List AutomationPoint) → rising (xs ++ ys) ≡ true → rising xs ≡ true
-unfolding risingBy
-rising-prefix [] ys r = refl
-rising-prefix (x ∷ []) ys r = refl
-rising-prefix (x ∷ (y ∷ xs)) ys r =
-    let first = ltb (timeKey x) (timeKey y) in
-    and-yes (and-left first (rising (y ∷ (xs ++ ys))) r) (rising-prefix (y ∷ xs) ys (and-right first (rising (y ∷ (xs ++ ys))) r))
-
 rising-last : (x : AutomationPoint) (xs : List AutomationPoint) (p : AutomationPoint) → rising (x ∷ (xs ++ (p ∷ []))) ≡ true → timeKey x < timeKey p
 unfolding risingBy
 rising-last x [] p r = ltb-true (timeKey x) (timeKey p) (and-left (ltb (timeKey x) (timeKey p)) true r)
@@ -225,7 +218,7 @@ all-last : (xs ys : List AutomationPoint) → rising (xs ++ ys) ≡ true → ins
 all-last xs [] r = sym (append-nil xs)
 all-last xs (p ∷ ys) r =
     let s : rising ((xs ++ (p ∷ [])) ++ ys) ≡ true = ap rising (append-assoc xs (p ∷ []) ys) ∙ r in
-    ap (λ (l : List AutomationPoint). insertAll l ys) (insert-last xs p (rising-prefix (xs ++ (p ∷ [])) ys s)) ∙ all-last (xs ++ (p ∷ [])) ys s ∙ append-assoc xs (p ∷ []) ys
+    ap (λ (l : List AutomationPoint). insertAll l ys) (insert-last xs p (rising-front timeKey (xs ++ (p ∷ [])) ys s)) ∙ all-last (xs ++ (p ∷ [])) ys s ∙ append-assoc xs (p ∷ []) ys
 
 pub rising-inserts : (l : List AutomationPoint) → rising l ≡ true → insertAll [] l ≡ l
 rising-inserts l r = all-last [] l r
@@ -358,7 +351,7 @@ module _ (ps₀ new ps : Points) (m i : ℕ) (f : Filling ps₀ new m ps i) wher
       }
 
   -- a turn: the search for the time of the next point has ended at lo
-  module _ (more : i < m) (key lo hi : ℕ) (fresh : Bool) (k : key ≡ keyOf new i) (s : Searching timeKey anyPoint key (ps .places) (ps .count) lo hi) (end : hi ≤ lo)
+  module _ (more : i < m) (key lo hi : ℕ) (fresh : Bool) (k : key ≡ keyOf new i) (s : Halving timeKey anyPoint key (ps .places) (ps .count) lo hi) (end : hi ≤ lo)
       (there : Standing ps key lo fresh) where
     abbrev p : AutomationPoint
     p = getD (new .places) i anyPoint
@@ -370,7 +363,7 @@ module _ (ps₀ new ps : Points) (m i : ℕ) (f : Filling ps₀ new m ps i) wher
     len = sorted-places ps (f .sorted)
 
     at : lo ≡ placeBy timeKey (timeKey p) (listOf ps)
-    at = sym (search-end timeKey anyPoint key (ps .places) (ps .count) lo hi s (omega (arith, len, f .sorted .few)) end) ∙ ap (λ (x : ℕ). placeBy timeKey x (listOf ps)) k
+    at = sym (halving-place timeKey anyPoint key (ps .places) (ps .count) lo hi s (f .sorted .rises) (omega (arith, len, f .sorted .few)) end) ∙ ap (λ (x : ℕ). placeBy timeKey x (listOf ps)) k
 
     next : p ≡ getD (listOf new) i anyPoint
     next = sym (getD-take (new .count) (new .places) i anyPoint (omega (arith, f .whole, length-take (new .count) (new .places))))

@@ -1,7 +1,7 @@
 -- Laws of the edits that put points in: their refusals, and what a merge's offset does. Assumes nothing.
 use Prim.Native.Nat.{_≤_, _<_}
 use mathlib.Core.Path.{_≡_, refl, sym, ap, _∙_}
-use mathlib.Core.Bool.{Bool, true, false, cond, _&&_, false≢true, and-false}
+use mathlib.Core.Bool.{Bool, true, false, cond, _&&_, false≢true, and-false, and-true}
 use mathlib.Core.List.{List, [], _∷_, map}
 use native.Mathlib.Omega.{arith}
 use lib.Dec.{T, ltb, eqb, leb}
@@ -9,7 +9,8 @@ use lib.Ieee.{Float, nan, inf, fin, binary64, add, fits, ofBits}
 use lib.Ieee.Fits.{nan-fits, inf-fits, add-fits}
 use lib.ListN.{length}
 use borrow.Author.Tests.{eqb-true, eq-eqb, ne-eqb, lt-ltb, le-ltb, le-leb}
-use Rattle.numbers.specs.Bounds.{finite}
+use Rattle.numbers.proofs.Tests.{and-left, and-right, and-both as both}
+use Rattle.numbers.specs.Bounds.{finite, zero64}
 use Rattle.numbers.proofs.OrderLaws.{key-same}
 use Rattle.curve.specs.Curve.{finiteControls, controls}
 use Rattle.curve.specs.F32.{f0, f1}
@@ -17,7 +18,6 @@ use Rattle.curve.specs.declared.CurveType.{CurveType}
 use Rattle.curve.specs.declared.CurveType.the-variants.{Linear}
 use Rattle.points.specs.Point.{finitePoint, pointWith}
 use Rattle.points.specs.Points.{every, rising, timeKey, listOf, holding, validPoints}
-use Rattle.points.proofs.Laws.{and-left, and-right, and-true, and-both as both}
 use Rattle.points.proofs.ValidLaws.{holding-listOf, valid-count, valid-finite, valid-rising}
 use Rattle.points.specs.declared.AutomationPoint.{AutomationPoint}
 use Rattle.points.specs.declared.Points.{Points}
@@ -25,7 +25,7 @@ use Rattle.points.specs.declared.refusal.Refusal.the-variants.{NotValid, NotFin
 use Rattle.settle.specs.Settle.{plain, refused, accepted, judged, settle, editPoints}
 use Rattle.settle.specs.declared.EditedPoints.{EditedPoints}
 use Rattle.settle.proofs.Judging.{one, argument-three, result-three, five, accepts}
-use Rattle.pointwise.specs.Each.{zero64, changed}
+use Rattle.pointwise.specs.Each.{changed}
 use Rattle.pointwise.specs.Places.{mappedIn}
 use Rattle.pointwise.specs.declared.Change.the-variants.{Shift}
 use Rattle.pointwise.proofs.Mapped.{mapped-list}

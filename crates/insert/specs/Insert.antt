@@ -3,7 +3,7 @@ use mathlib.Core.Bool.{cond, _&&_}
 use mathlib.Core.List.{List, [], _∷_, map, foldl}
 use lib.Dec.{ltb, eqb}
 use lib.Ieee.{Float, binary64, add}
-use Rattle.numbers.specs.Bounds.{finite}
+use Rattle.numbers.specs.Bounds.{finite, zero64}
 use Rattle.curve.specs.F32.{f0, f1}
 use Rattle.curve.specs.declared.CurveType.{CurveType}
 use Rattle.curve.specs.declared.CurveType.the-variants.{Linear}
@@ -14,7 +14,7 @@ use Rattle.settle.specs.declared.EditedPoints.{EditedPoints}
 use Rattle.settle.specs.Settle.{plain, judged}
 use Rattle.points.specs.Point.{pointWith}
 use Rattle.pointwise.specs.declared.Change.the-variants.{Shift}
-use Rattle.pointwise.specs.Each.{zero64, changed}
+use Rattle.pointwise.specs.Each.{changed}
 
 -- "`add_point` replaces only at bit-equal time; otherwise it inserts"
 unfoldable pub insertPoint : AutomationPoint → List AutomationPoint → List AutomationPoint

@@ -1,16 +1,17 @@
 -- The fold of `merge_points` is what 01 says.
 use Prim.Native.Nat.{_≤_}
 use mathlib.Core.Path.{_≡_, refl, sym, ap, subst, _∙_}
-use mathlib.Core.Bool.{Bool, true, false, cond, not, _&&_, _||_, true≢false}
+use mathlib.Core.Bool.{Bool, true, false, cond, not, _&&_, _||_, true≢false, and-true, and-false}
 use mathlib.Core.List.{List, [], _∷_, _++_, append-nil, append-assoc}
 use native.Mathlib.Omega.{arith}
 use lib.ListN.{length, length-append}
 use lib.Dec.{leb, ltb}
 use lib.Ieee.{Float}
 use borrow.Author.Tests.{le-leb, leb-true}
+use Rattle.numbers.proofs.Tests.{and-left, and-right}
 use Rattle.points.specs.Point.{finitePoint}
 use Rattle.points.specs.Points.{every, risingBy, rising, timeKey, listOf, holding, validPoints}
-use Rattle.points.proofs.Laws.{and-true, and-false, and-left, and-right, every-append, every-one}
+use Rattle.points.proofs.Laws.{every-append, every-one, rising-front}
 use Rattle.points.proofs.ValidLaws.{listOf-holding, holding-valid}
 use Rattle.points.specs.declared.AutomationPoint.{AutomationPoint}
 use Rattle.points.specs.declared.Points.{Points}
@@ -18,7 +19,7 @@ use Rattle.settle.specs.Settle.{plain, refused, accepted, editPoints}
 use Rattle.settle.proofs.Judging.{one, argument-three, accepts}
 use Rattle.settle.specs.declared.EditedPoints.{EditedPoints}
 use Rattle.insert.specs.Insert.{insertPoint}
-use Rattle.insert.proofs.Inserting.{insert-last, rising-prefix}
+use Rattle.insert.proofs.Inserting.{insert-last}
 use Rattle.envelope.specs.Envelope.{new}
 use Rattle.envelope.specs.Edit.{withPoints, joinOf, declined}
 use Rattle.envelope.specs.declared.AutomationEnvelope.{AutomationEnvelope}
@@ -85,7 +86,7 @@ not-rising l ps p h = go (rising (l ++ (p ∷ ps))) refl
   where
     go : (b : Bool) → rising (l ++ (p ∷ ps)) ≡ b → (leb (length (l ++ (p ∷ ps))) 256 && every finitePoint (l ++ (p ∷ ps)) && b) ≡ false
     go false e = and-false (leb (length (l ++ (p ∷ ps))) 256 && every finitePoint (l ++ (p ∷ ps)))
-    go true e = absurd (true≢false (sym (rising-prefix (l ++ (p ∷ [])) ps (ap rising (append-assoc l (p ∷ []) ps) ∙ e)) ∙ h))
+    go true e = absurd (true≢false (sym (rising-front timeKey (l ++ (p ∷ [])) ps (ap rising (append-assoc l (p ∷ []) ps) ∙ e)) ∙ h))
 
 -- ---- a turn
 

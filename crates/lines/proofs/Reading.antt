@@ -1,7 +1,7 @@
 -- The loop over the point lines: what holds before each line, and what it comes to. Assumes nothing.
 use Prim.Native.Nat.{ℕ, zero, suc, _+_, _-_, _≤_, _<_}
 use mathlib.Core.Path.{_≡_, refl, sym, ap, _∙_}
-use mathlib.Core.Bool.{Bool, true, false, cond, _&&_, _||_}
+use mathlib.Core.Bool.{Bool, true, false, cond, _&&_, _||_, and-true}
 use mathlib.Core.List.{List, [], _∷_, _++_}
 use native.Mathlib.Numerals.{add-one}
 use native.Mathlib.Omega.{arith}
@@ -9,7 +9,7 @@ use borrow.Author.Tests.{lt-ltb, le-ltb, leb-true, leb-false}
 use lib.Dec.{ltb, leb}
 use lib.ListN.{length, drop, take, set, replicate, length-set, length-replicate, take-append-drop}
 use lib.Seq.{drop-drop, length-take-le, take-suc-set, drop-set-lt}
-use Rattle.points.proofs.Laws.{and-true, and-left, and-right}
+use Rattle.numbers.proofs.Tests.{and-left, and-right}
 use Rattle.points.specs.Point.{unused}
 use Rattle.points.specs.Points.{holding, timeKey, rising, risingBy}
 use Rattle.points.specs.declared.AutomationPoint.{AutomationPoint}

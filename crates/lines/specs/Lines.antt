@@ -12,8 +12,8 @@ use Rattle.points.specs.Refusal.{Said, refuses, gives}
 use Rattle.points.specs.declared.AutomationPoint.{AutomationPoint}
 use Rattle.points.specs.declared.SamplePosition.{SamplePosition}
 use Rattle.points.specs.declared.SamplePosition.the-variants as position
-use Rattle.lookup.specs.declared.Limit.{Limit}
-use Rattle.lookup.specs.declared.Limit.the-variants as limit
+use Rattle.limits.specs.declared.Limit.{Limit}
+use Rattle.limits.specs.declared.Limit.the-variants as limit
 use Rattle.fields.specs.Form.{Got, bad, got, then, space, newline, text, startsWith, numberForm, optionalForm, targetForm}
 use Rattle.fields.specs.declared.Optional.{Optional}
 use Rattle.fields.specs.declared.Optional.the-variants as optional

@@ -9,7 +9,7 @@ ghost use Rattle.lines.specs.Told.{toldSettingsForm, toldSettings, toldS
 use crate::field::OptionalAt;
 use crate::field::Single;
 use fields::Optional;
-use lookup::Limit;
+use limits::Limit;
 use points::refusal::Refusal;
 
 // The line's numbers as they stand.

@@ -2,6 +2,8 @@
 ghost use mathlib.Core.Path.{_≡_};
 ghost use Prim.Native.Nat.{min};
 use curve::CurveType;
+use limits::Limit;
+use limits::Limits;
 use listing::text::Double;
 use listing::text::Place;
 use listing::text::Single;
@@ -16,8 +18,6 @@ use listing::text::single_at;
 use listing::text::word_at;
 use listing_numbers::curves::Curve;
 use listing_numbers::curves::curve_at;
-use lookup::Limit;
-use lookup::Limits;
 use points::AutomationPoint;
 use points::Points;
 use points::SamplePosition;

@@ -4,64 +4,41 @@ use mathlib.Core.Path.{_≡_, refl, sym, ap, subst, _∙_}
 use mathlib.Core.Bool.{Bool, true, cond, _&&_}
 use mathlib.Core.List.{List, [], _∷_, _++_, map, map-append}
 use native.Mathlib.Numerals.{add-one}
-use native.Mathlib.Nat.{not-suc-le-zero}
 use native.Mathlib.Omega.{arith}
 use lib.Dec.{ltb}
 use lib.ListN.{length, take, getD, set, replicate, length-take, length-map}
 use lib.Seq.{take-suc, take-at, set-at, append-snoc, length-take-le}
 use Rattle.points.specs.Points.{risingBy}
 use Rattle.points.specs.Search.{placeBy}
-use Rattle.points.proofs.SearchLaws.{place-at, lower-up-to}
+use Rattle.points.proofs.SearchLaws.{Halving, halving-place}
 use Rattle.lookup.specs.Keys.{EndsAt}
 
 -- the key of a number in a list of keys
-abbrev itself : ℕ → ℕ
+abbrev pub itself : ℕ → ℕ
 itself k = k
 
--- ---- a binary search, as its loop has it: the key before low is below k, and the one at high isn't
+-- ---- a search by halving over the keys
 
-pub record Halving (keys : List ℕ) (n k low high : ℕ) : Type 0 where
-  pub ordered : low ≤ high
-  pub bounded : high ≤ n
-  pub before : 0 < low → getD keys (low - 1) 0 < k
-  pub from : high < n → k ≤ getD keys high 0
+-- where it ends, whatever the order of the keys
+pub halving-end : (keys : List ℕ) (n k low high : ℕ) → Halving itself 0 k keys n low high → high ≤ low → EndsAt keys n k low
+halving-end keys n k low high s h =
+    let e : high ≡ low = omega (arith, s .ordered) in
+    record { most = omega (arith, s .bounded); before = s .before; from = rw e at (s .from) }
 
-module _ (keys : List ℕ) (n k : ℕ) where
-  pub halving-start : Halving keys n k 0 n
-  halving-start = record { ordered = omega arith; bounded = omega arith; before = λ s. absurd (not-suc-le-zero s); from = λ s. absurd (omega arith) }
-
-  -- a lower key in the middle: the search goes on after it
-  pub halving-up : (low high mid : ℕ) → Halving keys n k low high → mid < high → getD keys mid 0 < k → Halving keys n k (mid + 1) high
-  halving-up low high mid s h b =
-      let e : mid + 1 - 1 ≡ mid = omega arith in
-      record { ordered = omega arith; bounded = s .bounded; before = λ w. rw e b; from = s .from }
-
-  -- no lower key there: it goes on before it
-  pub halving-down : (low high mid : ℕ) → Halving keys n k low high → low ≤ mid → mid < high → k ≤ getD keys mid 0 → Halving keys n k low mid
-  halving-down low high mid s h t a = record { ordered = h; bounded = omega (arith, s .bounded); before = s .before; from = λ w. a }
-
-  pub halving-end : (low high : ℕ) → Halving keys n k low high → high ≤ low → EndsAt keys n k low
-  halving-end low high s h =
-      let e : high ≡ low = omega (arith, s .ordered) in
-      record { most = omega (arith, s .bounded); before = s .before; from = rw e at (s .from) }
-
--- where it ends in keys that rise
+-- and in keys that rise
 ends-place : (keys : List ℕ) (n k r : ℕ) → risingBy itself (take n keys) ≡ true → n ≤ length keys → EndsAt keys n k r → placeBy itself k (take n keys) ≡ r
-ends-place keys n k r i f s =
-    place-at itself 0 k keys n r f (s .most)
-    (λ j h. lower-up-to itself 0 keys n (r - 1) k i f (omega (arith, s .most)) (s .before (omega arith)) j (omega arith))
-    (s .from)
+ends-place keys n k r i f s = halving-place itself 0 k keys n r r (record { ordered = omega arith; bounded = s .most; before = s .before; from = s .from }) i f (omega arith)
 
 module _ {A : Type 0} (key : A → ℕ) where
   -- the keys of the first i, and 0 in the rest of 256 places
-  abbrev pub Filled : List A → ℕ → List ℕ → Type 0
-  Filled l i keys = keys ≡ map key (take i l) ++ replicate (256 - i) 0
+  abbrev pub KeysFilled : List A → ℕ → List ℕ → Type 0
+  KeysFilled l i keys = keys ≡ map key (take i l) ++ replicate (256 - i) 0
 
   keys-long : (l : List A) (i : ℕ) → i ≤ length l → length (map key (take i l)) ≡ i
   keys-long l i h = length-map (take i l) key ∙ length-take-le i l h
 
   -- a turn of the loop that writes them
-  pub keys-turn : (l : List A) (keys : List ℕ) (i : ℕ) (d : A) (k : ℕ) → i < length l → i < 256 → Filled l i keys → k ≡ key (getD l i d) → Filled l (i + 1) (set keys i k)
+  pub keys-turn : (l : List A) (keys : List ℕ) (i : ℕ) (d : A) (k : ℕ) → i < length l → i < 256 → KeysFilled l i keys → k ≡ key (getD l i d) → KeysFilled l (i + 1) (set keys i k)
   keys-turn l keys i d k h g e w =
       let rest : List ℕ = replicate (256 - suc i) 0 in
       let one : 256 - i ≡ suc (256 - suc i) = omega arith in
@@ -85,7 +62,7 @@ module _ {A : Type 0} (key : A → ℕ) where
   place-keys k (x ∷ l) = ap (λ (n : ℕ). cond (ltb (key x) k) (suc n) 0) (place-keys k l)
 
   -- the first n of an array are the keys of the first n places, which rise: where a search for q, which is k, ends is k's place
-  pub keys-place : (l : List A) (keys : List ℕ) (n : ℕ) → n ≤ length l → n ≤ 256 → Filled l n keys → risingBy key (take n l) ≡ true
+  pub keys-place : (l : List A) (keys : List ℕ) (n : ℕ) → n ≤ length l → n ≤ 256 → KeysFilled l n keys → risingBy key (take n l) ≡ true
       → (k q j : ℕ) → q ≡ k → EndsAt keys (min n 256) q j → placeBy key k (take n l) ≡ j
   keys-place l keys n f b filled r k q j w s =
       let m : min n 256 ≡ n = omega arith in

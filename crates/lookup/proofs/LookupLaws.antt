@@ -19,7 +19,7 @@ use Rattle.points.specs.Refusal.{gives}
 use Rattle.points.specs.declared.AutomationPoint.{AutomationPoint}
 use Rattle.lookup.specs.Lookup.{pointAt, lastPoint, around, surrounded, found, foundAt, keyFrom, sampleKey, foundAtSample, heard, keysRise, told, constrainedAnswer}
 use Rattle.points.specs.Search.{placeBy}
-use Rattle.lookup.specs.declared.Limits.{Limits}
+use Rattle.limits.specs.declared.Limits.{Limits}
 use Rattle.lookup.specs.declared.Lookup.{Lookup}
 use Rattle.lookup.specs.declared.Lookup.the-variants.{Silent, Value, Refused}
 -- what validity tells of the points

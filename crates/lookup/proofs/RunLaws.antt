@@ -1,4 +1,4 @@
--- Laws of specs/Runs.
+-- A run of values: how long it is, cut in two, as a loop writes it over a list, and runs of functions that agree. Assumes nothing.
 use Prim.Native.Nat.{ℕ, zero, suc, _+_, _-_, _≤_, _<_, suc-le-suc, zero-le}
 use mathlib.Core.Path.{_≡_, refl, sym, ap, ap₂, _∙_}
 use mathlib.Core.List.{List, [], _∷_, _++_, append-assoc, append-nil}

@@ -17,12 +17,12 @@ use Rattle.points.specs.Point.{pointWith}
 use Rattle.points.specs.Points.{holding, every, risingBy, validPoints}
 use Rattle.points.specs.Refusal.{Said, gives}
 use Rattle.points.specs.declared.AutomationPoint.{AutomationPoint}
-use Rattle.lookup.specs.Limits.{constrained}
+use Rattle.limits.specs.Limits.{constrained}
 use Rattle.lookup.specs.Lookup.{surrounded, fraction, foundAt, foundAtSample, getValueAt, getValueAtSample}
 use Rattle.points.specs.Search.{placeBy}
-use Rattle.lookup.specs.declared.Limit.{Limit}
-use Rattle.lookup.specs.declared.Limit.the-variants as limit
-use Rattle.lookup.specs.declared.Limits.{Limits}
+use Rattle.limits.specs.declared.Limit.{Limit}
+use Rattle.limits.specs.declared.Limit.the-variants as limit
+use Rattle.limits.specs.declared.Limits.{Limits}
 
 -- ---- what the examples are made of, here and in the crates above
 
@@ -78,7 +78,7 @@ bySample l sample = getValueAtSample (holding l) true free sample
 
 -- "P1 empty: silent."
 pub p1 : byTime [] free t1 ≡ gives none
-unfolding getValueAt validPoints every risingBy foundAt code
+unfolding getValueAt validPoints every risingBy foundAt code ofBits
 p1 = refl
 
 -- "P2 (0,0),(4,1) at 1: 0.25."

@@ -7,6 +7,7 @@ use lib.ListN.{length, getD}
 use lib.Dec.{ltb, leb, eqb}
 use lib.IntN.{pos}
 use lib.Ieee.{Float, binary32, binary64, sub, mul, div, lt, le, ofInt, toUnsigned, ofBits}
+use Rattle.numbers.specs.Bounds.{zero64}
 use Rattle.numbers.specs.Narrow.{narrow}
 use Rattle.numbers.specs.Order.{orderKey}
 use Rattle.curve.specs.Curve.{interpolated}
@@ -18,8 +19,9 @@ use Rattle.points.specs.declared.AutomationPoint.{AutomationPoint}
 use Rattle.points.specs.declared.Points.{Points}
 use Rattle.points.specs.declared.SamplePosition.{SamplePosition}
 use Rattle.points.specs.declared.SamplePosition.the-variants as position
-use Rattle.lookup.specs.Limits.{valid, constrained}
-use Rattle.lookup.specs.declared.Limits.{Limits}
+use Rattle.limits.specs.Limits.{constrained}
+use Rattle.lookup.specs.Valid.{valid}
+use Rattle.limits.specs.declared.Limits.{Limits}
 use Rattle.lookup.specs.declared.Lookup.{Lookup}
 use Rattle.lookup.specs.declared.Lookup.the-variants.{Silent, Value, Refused}
 
@@ -60,7 +62,7 @@ ended p = p .value
 unfoldable pub fraction : Float → Float → Float → Float
 fraction previous next time =
     let span = sub binary64 next previous in
-    cond (lt (ofBits binary64 0) span) (narrow (div binary64 (sub binary64 time previous) span)) (ofBits binary32 0)
+    cond (lt zero64 span) (narrow (div binary64 (sub binary64 time previous) span)) (ofBits binary32 0)
 
 -- the value on the way from one point to the next
 abbrev pub between : Float → AutomationPoint → AutomationPoint → Float

@@ -1,11 +1,11 @@
 -- Bit patterns, at any format: which are a NaN's, which a finite number's, and that a pattern tells two values apart. Assumes nothing.
 use Prim.Native.Nat.{ℕ, zero, suc, _+_, _*_, _/_, _%_, _≤_, _<_}
-use mathlib.Core.Path.{_≡_, refl, sym, ap, _∙_}
+use mathlib.Core.Path.{_≡_, refl, sym, ap, _∙_, subst}
 use mathlib.Core.Bool.{Bool, true, false, cond, not}
 use native.Mathlib.Omega.{arith}
 use lib.Dec.{T, eqb, leb}
 use lib.Ieee.{Float, Format, nan, inf, binary32, binary64, ofBits, ofFields, toBits, isNan, nanBits, odd, prec, low, hid, ones, top, fits, ne, div}
-use lib.Ieee.Bits.{ofBits-toBits, nanBits-is, nanBits-above}
+use lib.Ieee.Bits.{ofBits-toBits, toBits-ofBits, toBits-lt, nanBits-is, nanBits-above}
 use lib.Ieee.Compare.{differs-from-itself}
 use borrow.Author.Tests.{lt-ltb, le-ltb, eq-eqb, ne-eqb, eqb-true}
 use Rattle.numbers.specs.Bounds.{finite}
@@ -59,7 +59,20 @@ finite-bits f n = fields-finite f (leb (top f) n) (n % top f / hid f) (n % hid f
 pub finite-no-nan : (f : Format) (n : ℕ) → finite (ofBits f n) ≡ true → T (not (nanBits f n))
 finite-no-nan f n h = no (nanBits-is f n ∙ finite-number (ofBits f n) h)
 
--- ---- two values are the same exactly where their patterns are
+-- ---- a pattern and its value
+
+pub bits-lt : (f : Format) (x : Float) → fits f x ≡ true → toBits f x < 2 * top f
+bits-lt f x t = toBits-lt f x (yes t)
+
+-- what was written reads back
+pub bits-back : (f : Format) (x : Float) → fits f x ≡ true → ofBits f (toBits f x) ≡ x
+bits-back f x t = ofBits-toBits f x (yes t)
+
+-- and what reads as a finite number was written so
+pub pattern-back : (f : Format) (n : ℕ) → n < 2 * top f → finite (ofBits f n) ≡ true → toBits f (ofBits f n) ≡ n
+pattern-back f n h k = toBits-ofBits f n h (subst (λ (t : Bool). T (not t)) (nanBits-is f n) (finite-no-nan f n k))
+
+-- two values are the same exactly where their patterns are
 pub same-bits : (f : Format) (x y : Float) → T (fits f x) → T (fits f y) → (eqb (toBits f x) (toBits f y) ≡ true → x ≡ y) × (x ≡ y → eqb (toBits f x) (toBits f y) ≡ true)
 same-bits f x y F G = (
   (λ h. sym (ofBits-toBits f x F) ∙ ap (ofBits f) (eqb-true _ _ h) ∙ ofBits-toBits f y G),

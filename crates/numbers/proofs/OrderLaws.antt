@@ -271,7 +271,3 @@ key-same x y F G h =
     go b c l r true false p q h = absurd (omega (arith, ltb-false c 0x8000_0000_0000_0000 q))
     go b c l r false true p q h = absurd (omega (arith, ltb-false b 0x8000_0000_0000_0000 p))
     go b c l r false false p q h = omega arith
-
--- a key is a `u64`
-pub key-lt : (x : Float) → T (fits binary64 x) → orderKey x < 2 ^ 64
-key-lt x F = omega (arith, last x F, key-nan)

@@ -23,6 +23,6 @@ unfolding before
 totalOf x y = cond (before x y) Less (cond (before y x) Greater Equal)
 
 -- The bit pattern, turned so that it grows with the order: above the middle without a sign, and counted down from it with one.
--- `OrderLaws.antt` shows that x is before y exactly where its key is smaller, and that no two values share a key.
+-- proofs/OrderLaws.antt shows that x is before y exactly where its key is smaller, and that no two values share a key.
 unfoldable pub orderKey : Float → ℕ
 orderKey x = let b = toBits binary64 x in cond (ltb b 0x8000_0000_0000_0000) (b + 0x8000_0000_0000_0000) (0xFFFF_FFFF_FFFF_FFFF - b)

@@ -10,7 +10,8 @@ use lib.Ieee.{Float}
 use lib.ListN.{length, take, drop, length-append}
 use lib.Seq.{take-at}
 use Rattle.numbers.specs.Bounds.{finite}
-use Rattle.points.specs.Refusal.{Said, refuses, gives}
+use Rattle.points.proofs.CheckLaws.{never}
+use Rattle.points.specs.Refusal.{refuses, gives}
 use Rattle.render.specs.Render.{written, Rendered, declined, mostSamples, runInto}
 use Rattle.lookup.specs.Runs.{run}
 use Rattle.lookup.proofs.RunLaws.{run-long}
@@ -23,9 +24,6 @@ use Rattle.play.specs.Play.{sampleLines}
 use Rattle.play.specs.Blocks.{over, blockCount, blockText, after, BlockTold, declines, nextBlock}
 use Rattle.play.specs.declared.Play.{Play}
 use Rattle.play.proofs.Texts.{lines-length}
-
-never : {C : Type 0} {n : ℕ} → _≡_ {A = Said (Unit {0})} (refuses n) (gives tt) → C
-never h = let z : _≡_ {A = ℕ} 0 1 = cc in absurd (omega arith)
 
 module _ (p : Play) (room : List Float) (long : 1024 ≤ length room) where
   -- the block's samples, rendered into the room

@@ -1,6 +1,6 @@
 pub mod Texts
 pub mod Opening
 pub mod Blocks
--- Laws behind Output.
+-- That the blocks are the output, and the laws behind it.
 pub mod OutputLaws
 pub mod Output

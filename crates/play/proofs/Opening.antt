@@ -4,8 +4,8 @@ use mathlib.Core.Path.{_≡_, refl, sym, ap, subst, _∙_}
 use mathlib.Core.List.{List}
 use native.Mathlib.Omega.{arith}
 use borrow.Author.Tests.{le-leb, lt-leb}
-use lib.Ieee.{binary64, ofBits}
 use lib.ListN.{length}
+use Rattle.numbers.specs.Bounds.{zero64}
 use Rattle.points.specs.Refusal.{number}
 use Rattle.points.specs.declared.refusal.Refusal.{Refusal}
 use Rattle.render.specs.Render.{sampleCount, mostSamples}
@@ -26,10 +26,10 @@ use Rattle.play.proofs.Texts.{refusal-length, opens}
 
 -- a refusal
 pub refused-opens : (n k : ℕ) {e : AutomationEnvelope} {out m : List ℕ} {b : ℕ} → e ≡ new 0 → Put out 0 (refusalText n k) m b → 35 ≤ length out
-    → Opens (declined n k) out (record { bytes = b; play = record { envelope = e; rate = ofBits binary64 0; count = 0; next = 0 } }) m
+    → Opens (declined n k) out (record { bytes = b; play = record { envelope = e; rate = zero64; count = 0; next = 0 } }) m
 unfolding firstText firstPlay
 refused-opens n k {e} q p h =
-    opens (declined n k) p (omega (arith, refusal-length n k)) refl (ap (λ (d : AutomationEnvelope). record { envelope = d; rate = ofBits binary64 0; count = 0; next = 0 }) q)
+    opens (declined n k) p (omega (arith, refusal-length n k)) refl (ap (λ (d : AutomationEnvelope). record { envelope = d; rate = zero64; count = 0; next = 0 }) q)
 
 module _ (l : List ℕ) (r : PlayInput) (told : toldInput r ≡ playInput l) where
   block : Block

@@ -1,11 +1,11 @@
--- The program's output is what its blocks have, one after the other, and its first bytes decide it.
+-- The program's output is what its blocks have, one after the other, and the first bytes of its input decide it: specs/Promised.
 use Prim.Native.Nat.{ℕ, zero, suc, _+_, _*_, _≤_, _<_}
 use mathlib.Core.Path.{_≡_, refl, sym, ap, ap₂, _∙_}
 use mathlib.Core.Bool.{Bool, true, false, cond}
 use mathlib.Core.List.{List, [], _++_}
 use native.Mathlib.Omega.{arith}
 use lib.Dec.{ltb, leb}
-use lib.ListN.{length, take, drop}
+use lib.ListN.{length, drop}
 use lib.Seq.{take-at}
 use lib.Ieee.{ofBits}
 use borrow.Author.Tests.{leb-true, le-leb, ltb-true, ltb-false}
@@ -20,14 +20,14 @@ use Rattle.sheet.specs.Sheet.{Input, declined, input, playInput}
 use Rattle.lines.specs.declared.block.Block.{Block}
 use Rattle.sheet.proofs.Prefix.{input-decided}
 use Rattle.play.specs.Play.{counted, printed, output}
+use Rattle.play.specs.Promised.{OutputDecided, BlocksAreOutput}
 use Rattle.play.specs.Blocks.{over, firstText, firstPlay, blockCount, blockText, after, nextBlock, taken, played}
 use Rattle.play.specs.declared.Play.{Play}
 use Rattle.play.proofs.OutputLaws.{left, left-cut, nothing-left, starts, whole, input-playable}
 
 -- ---- the first bytes decide
 
--- input of any length: bytes after the first 16,536 change nothing
-pub output-decided : (n : ℕ) (l : List ℕ) → 16536 ≤ n → output (take n l) ≡ output l
+pub output-decided : OutputDecided
 unfolding output
 output-decided n l h = ap (λ (i : Input). printed (counted i)) (input-decided n l h)
 
@@ -84,13 +84,7 @@ first-playable l = on (playInput l) refl
 
 -- ---- the theorem
 
--- the first bytes of an opened play
-abbrev pub opened : Input → List ℕ → List ℕ
-opened i out = take (length (firstText i)) (over (firstText i) out)
-
--- the first bytes and those of the calls after it are the output, whatever stood in the lent bytes
-pub blocks-are-output : (l out : List ℕ) (n : ℕ) → firstPlay (counted (playInput l)) .count ≤ 1024 * n
-    → opened (counted (playInput l)) out ++ played n (firstPlay (counted (playInput l))) (over (firstText (counted (playInput l))) out) ≡ output l
+pub blocks-are-output : BlocksAreOutput
 unfolding output
 blocks-are-output l out n h =
     let i = counted (playInput l) in

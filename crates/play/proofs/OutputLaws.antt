@@ -20,7 +20,7 @@ use Rattle.lines.specs.PointLines.{Lines, stop, lines, isEmpty}
 use Rattle.sheet.specs.Sheet.{Input, declined, input, sheetLines, blockFrom, lastLine, playInput}
 use Rattle.lines.specs.declared.block.RawBlock.{RawBlock}
 use Rattle.lines.specs.declared.block.Block.{Block}
-use Rattle.sheet.proofs.Sheets.{sheet-read}
+use Rattle.sheet.proofs.Sheets.{sheet-read, no-line}
 use Rattle.play.specs.Play.{sampleLine, sampleLines, refusalText, printed}
 use Rattle.play.specs.Blocks.{firstText, firstPlay, blockCount, blockText, after}
 use Rattle.play.specs.declared.Play.{Play}
@@ -75,12 +75,9 @@ whole (input e b) = rw sub-zero
 
 -- ---- what is read
 
--- a refusal is no input, and no line
+-- a refusal is no input
 no-input : {C : Type 0} {n k : ℕ} {e : AutomationEnvelope} {b : Block} → declined n k ≡ input e b → C
 no-input q = let z : _≡_ {A = ℕ} 0 1 = cc in absurd (omega arith)
-
-no-line : {C : Type 0} {n : ℕ} {b : Block} {rest : List ℕ} → refused n ≡ line b rest → C
-no-line q = let z : _≡_ {A = ℕ} 0 1 = cc in absurd (omega arith)
 
 -- a rate that is read is finite
 rate-finite : (l : List ℕ) (b : Block) (rest : List ℕ) → blockLine l ≡ line b rest → finite (b .rate) ≡ true

@@ -5,8 +5,7 @@ use mathlib.Core.Bool.{cond}
 use mathlib.Core.List.{List, [], _++_}
 use lib.Dec.{ltb, leb}
 use lib.ListN.{length, take, drop}
-use lib.Ieee.{binary64, ofBits}
-use Rattle.numbers.specs.Bounds.{finite}
+use Rattle.numbers.specs.Bounds.{zero64, finite}
 use Rattle.points.specs.Refusal.{Said, refuses, gives}
 use Rattle.lookup.specs.Runs.{run}
 use Rattle.render.specs.Render.{sampleCount, mostSamples}
@@ -30,7 +29,7 @@ firstText (input e b) = sampleNames
 
 -- what is left to play after them: nothing after a refusal
 unfoldable pub firstPlay : Input → Play
-firstPlay (declined n k) = record { envelope = new 0; rate = ofBits binary64 0; count = 0; next = 0 }
+firstPlay (declined n k) = record { envelope = new 0; rate = zero64; count = 0; next = 0 }
 firstPlay (input e b) = record { envelope = e; rate = b .rate; count = sampleCount (b .rate) (b .duration); next = 0 }
 
 -- an opened play, and the lent bytes after it
@@ -38,6 +37,10 @@ pub record Opens (i : Input) (out : List ℕ) (r : Opened) (m : List ℕ) : Type
   pub bytes : r .bytes ≡ length (firstText i)
   pub play : r .play ≡ firstPlay i
   pub lent : m ≡ over (firstText i) out
+
+-- the bytes that opening writes
+abbrev pub openedText : Input → List ℕ → List ℕ
+openedText i out = take (length (firstText i)) (over (firstText i) out)
 
 -- ---- a block
 

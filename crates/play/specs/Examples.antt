@@ -9,7 +9,7 @@ use Rattle.numbers.specs.Order.{orderKey}
 use Rattle.curve.specs.Curve.{code, controls, finiteControls, interpolated, eased, clamped, curveOf}
 use Rattle.points.specs.Points.{every, risingBy, validPoints}
 use Rattle.points.specs.Search.{placeBy}
-use Rattle.lookup.specs.Limits.{constrained}
+use Rattle.limits.specs.Limits.{constrained}
 use Rattle.lookup.specs.Lookup.{surrounded, fraction, foundAt}
 use Rattle.lookup.specs.Runs.{run}
 use Rattle.fields.specs.Form.{text, startsWith, nextIs, readDigits, numberForm, optionalForm, decimals, nextDigit, targetForm}

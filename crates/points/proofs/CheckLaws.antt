@@ -1,5 +1,5 @@
--- Laws of checks in a row, by the first of them each time. Assumes nothing.
-use Prim.Native.Nat.{_<_}
+-- Laws of answers, and of checks in a row, by the first of them each time. Assumes nothing.
+use Prim.Native.Nat.{ℕ, _<_}
 use mathlib.Core.Path.{_≡_, refl, sym}
 use mathlib.Core.Bool.{Bool, true, false, cond, _&&_}
 use mathlib.Core.List.{List, [], _∷_, _++_}
@@ -7,10 +7,15 @@ use mathlib.Core.Option.{Option, none, some, Option·none-ne-some}
 use native.Mathlib.Omega.{arith}
 use Rattle.points.specs.Checks.{Check, orElse, firstFailing, unlessRefused}
 use Rattle.points.specs.Points.{every}
-use Rattle.points.specs.Refusal.{number}
+use Rattle.points.specs.Refusal.{refuses, gives, number}
 use Rattle.points.specs.declared.refusal.Refusal.{Refusal}
 use Rattle.points.specs.declared.refusal.Refusal.the-variants.{NotValid, SheetCurve, NotFinite, BoundsCross, TooManyPoints, TimesDontRise, KeysDontRise, NoRoom, SheetForm, NoStep}
 use Rattle.points.specs.declared.refusal.Refusal.the-variants.{MemoryLength, StoredState, TooManySamples}
+
+-- ---- an answer is a refusal or not
+
+pub never : {A C : Type 0} {n : ℕ} {a : A} → refuses n ≡ gives a → C
+never e = let z : _≡_ {A = ℕ} 0 1 = cc in absurd (omega arith)
 
 -- ---- the first check
 

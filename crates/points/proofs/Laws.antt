@@ -1,41 +1,17 @@
 -- Laws of lists and of the tests over them, for any element. Assumes nothing.
 use Prim.Native.Nat.{ℕ, zero, suc, _+_, _-_, _≤_, _<_, min, max}
 use mathlib.Core.Path.{_≡_, refl, sym, ap, _∙_}
-use mathlib.Core.Bool.{Bool, true, false, _&&_, false≢true}
-use mathlib.Core.List.{List, [], _∷_, _++_}
+use mathlib.Core.Bool.{Bool, true, false, _&&_, and-assoc, and-true, and-false}
+use mathlib.Core.List.{List, [], _∷_, _++_, map, foldl, reverse, reverseAux}
 use native.Mathlib.Numerals.{add-one}
 use native.Mathlib.Nat.{le-of-suc-le-suc, not-suc-le-zero}
 use native.Mathlib.Omega.{arith}
 use lib.Dec.{ltb, leb}
 use borrow.Author.Tests.{leb-true, leb-false}
-use lib.ListN.{length, take, drop, getD, length-drop}
-use lib.Seq.{take-suc, take-all, getD-drop}
+use lib.ListN.{length, take, drop, getD, length-drop, replicate, length-take}
+use lib.Seq.{take-suc, take-all, getD-drop, getD-take}
+use Rattle.numbers.proofs.Tests.{and-left, and-right, and-both}
 use Rattle.points.specs.Points.{every, everyPair, risingBy}
-
--- ---- tests
-
-pub and-assoc : (a b c : Bool) → (a && b) && c ≡ a && (b && c)
-and-assoc true b c = refl
-and-assoc false b c = refl
-
-pub and-true : (a : Bool) → a && true ≡ a
-and-true true = refl
-and-true false = refl
-
-pub and-false : (a : Bool) → a && false ≡ false
-and-false true = refl
-and-false false = refl
-
-pub and-left : (a b : Bool) → (a && b) ≡ true → a ≡ true
-and-left true b h = refl
-and-left false b h = h
-
-pub and-right : (a b : Bool) → (a && b) ≡ true → b ≡ true
-and-right true b h = h
-and-right false b h = absurd (false≢true h)
-
-pub and-both : {a a′ b b′ : Bool} → a ≡ a′ → b ≡ b′ → (a && b) ≡ (a′ && b′)
-and-both p q = λ i. p i && q i
 
 module _ {A : Type 0} where
   -- ---- a test of each element
@@ -60,7 +36,67 @@ module _ {A : Type 0} where
       let w : i + (j - i) ≡ j = omega arith in
       rw e (every-more q (drop i l) (j - i) d (simp length-drop (omega arith)) ∙ rw (getD-drop, w))
 
+  -- what each passes, one passes
+  pub every-at : (q : A → Bool) (l : List A) (j : ℕ) (d : A) → every q l ≡ true → j < length l → q (getD l j d) ≡ true
+  unfolding every
+  every-at q [] j d e h = absurd (not-suc-le-zero h)
+  every-at q (x ∷ l) zero d e h = and-left (q x) _ e
+  every-at q (x ∷ l) (suc j) d e h = every-at q l j d (and-right (q x) _ e) (le-of-suc-le-suc h)
+
+  -- the same of the first n places
+  pub every-within : (q : A → Bool) (l : List A) (n j : ℕ) (d : A) → every q (take n l) ≡ true → j < n → j < length l → q (getD l j d) ≡ true
+  every-within q l n j d e h k = ap q (sym (getD-take n l j d h)) ∙ every-at q (take n l) j d e (omega (arith, length-take n l))
+
+  -- one, or what stands for a place past the end
+  pub every-getD : (q : A → Bool) (l : List A) (i : ℕ) (d : A) → q d ≡ true → every q l ≡ true → q (getD l i d) ≡ true
+  unfolding every
+  every-getD q [] i d h t = h
+  every-getD q (x ∷ l) zero d h t = and-left (q x) (every q l) t
+  every-getD q (x ∷ l) (suc i) d h t = every-getD q l i d h (and-right (q x) (every q l) t)
+
+  pub every-take : (q : A → Bool) (n : ℕ) (l : List A) → every q l ≡ true → every q (take n l) ≡ true
+  unfolding every
+  every-take q zero l t = refl
+  every-take q (suc n) [] t = t
+  every-take q (suc n) (x ∷ l) t = and-both (and-left (q x) (every q l) t) (every-take q n l (and-right (q x) (every q l) t))
+
+  pub every-drop : (q : A → Bool) (n : ℕ) (l : List A) → every q l ≡ true → every q (drop n l) ≡ true
+  unfolding every
+  every-drop q zero l t = t
+  every-drop q (suc n) [] t = t
+  every-drop q (suc n) (x ∷ l) t = every-drop q n l (and-right (q x) (every q l) t)
+
+  every-onto : (q : A → Bool) (l r : List A) → every q l ≡ true → every q r ≡ true → every q (reverseAux l r) ≡ true
+  unfolding every
+  every-onto q [] r h k = k
+  every-onto q (x ∷ l) r h k = every-onto q l (x ∷ r) (and-right (q x) (every q l) h) (and-both (and-left (q x) (every q l) h) k)
+
+  pub every-reverse : (q : A → Bool) (l : List A) → every q l ≡ true → every q (reverse l) ≡ true
+  unfolding every
+  every-reverse q l h = every-onto q l [] h refl
+
+  pub every-replicate : (q : A → Bool) (n : ℕ) (x : A) → q x ≡ true → every q (replicate n x) ≡ true
+  unfolding every
+  every-replicate q zero x h = refl
+  every-replicate q (suc n) x h = and-both h (every-replicate q n x h)
+
+  -- a list that grows by the elements of another
+  pub every-fold : (q : A → Bool) (f : List A → A → List A) → ((l : List A) (x : A) → every q l ≡ true → q x ≡ true → every q (f l x) ≡ true)
+      → (l new : List A) → every q l ≡ true → every q new ≡ true → every q (foldl f l new) ≡ true
+  unfolding every
+  every-fold q f k l [] h g = h
+  every-fold q f k l (x ∷ new) h g = every-fold q f k (f l x) new (k l x h (and-left (q x) (every q new) g)) (and-right (q x) (every q new) g)
+
   -- ---- keys that rise
+
+  -- those of the first of two lists
+  pub rising-front : (key : A → ℕ) (xs ys : List A) → risingBy key (xs ++ ys) ≡ true → risingBy key xs ≡ true
+  unfolding risingBy
+  rising-front key [] ys r = refl
+  rising-front key (x ∷ []) ys r = refl
+  rising-front key (x ∷ (y ∷ xs)) ys r =
+      let first = ltb (key x) (key y) in
+      and-both (and-left first (risingBy key (y ∷ (xs ++ ys))) r) (rising-front key (y ∷ xs) ys (and-right first (risingBy key (y ∷ (xs ++ ys))) r))
 
   rising-more : (key : A → ℕ) (l : List A) (i : ℕ) (d : A) → suc i < length l
       → risingBy key (take (suc (suc i)) l) ≡ (risingBy key (take (suc i) l) && ltb (key (getD l i d)) (key (getD l (suc i) d)))
@@ -125,3 +161,9 @@ module _ {A : Type 0} where
   pair-length q [] (y ∷ m) h = refl
   pair-length q (x ∷ l) [] h = refl
   pair-length q (x ∷ l) (y ∷ m) h = rw (pair-length q l m (λ e. h (ap suc e))) (and-false (q x y))
+
+pub every-map : {A B : Type 0} (q : A → Bool) (r : B → Bool) (f : A → B) → ((x : A) → q x ≡ true → r (f x) ≡ true) → (l : List A) → every q l ≡ true
+    → every r (map f l) ≡ true
+unfolding every
+every-map q r f k [] h = refl
+every-map q r f k (x ∷ l) h = and-both (k x (and-left (q x) (every q l) h)) (every-map q r f k l (and-right (q x) (every q l) h))

@@ -1,4 +1,4 @@
--- Laws of specs/Middles.
+-- The middle ones of three: what one more element does, whether it passes or doesn't, and that two have none. Assumes nothing.
 use Prim.Native.Nat.{ℕ, zero, suc, _+_, _-_, _≤_, _<_}
 use mathlib.Core.Path.{_≡_, refl, ap, _∙_}
 use mathlib.Core.Bool.{Bool, true, false, cond}

@@ -1,4 +1,4 @@
--- Laws of specs/Search.
+-- The place of a key: what stands before and at it, that it is the only such place where the keys rise, and that halving finds it. Assumes nothing.
 use Prim.Native.Nat.{ℕ, zero, suc, _+_, _-_, _≤_, _<_, suc-le-suc}
 use mathlib.Core.Path.{_≡_, refl, ap}
 use mathlib.Core.Bool.{Bool, true, false, cond}
@@ -11,16 +11,16 @@ use lib.Dec.{ltb}
 use lib.ListN.{length, getD, take}
 use lib.Seq.{getD-take, length-take-le}
 use borrow.Author.Tests.{ltb-true, ltb-false, lt-ltb, le-ltb}
+use Rattle.numbers.proofs.Tests.{and-left, and-right}
 use Rattle.points.specs.Points.{risingBy}
-use Rattle.points.proofs.Laws.{and-left, and-right}
 use Rattle.points.specs.Search.{placeBy}
 
--- what the search's loop has found so far: low and high enclose the place
-pub record Searching {A : Type 0} (key : A → ℕ) (d : A) (k : ℕ) (l : List A) (n low high : ℕ) : Type 0 where
+-- a binary search of the first n places, as its loop has it: the key before low is below k, and the one at high isn't; no order of the keys is asked
+pub record Halving {A : Type 0} (key : A → ℕ) (d : A) (k : ℕ) (l : List A) (n low high : ℕ) : Type 0 where
   pub ordered : low ≤ high
   pub bounded : high ≤ n
-  pub lower : (j : ℕ) → j < low → key (getD l j d) < k
-  pub upper : high < n → k ≤ key (getD l high d)
+  pub before : 0 < low → key (getD l (low - 1) d) < k
+  pub from : high < n → k ≤ key (getD l high d)
 
 -- d stands for what a place past the end would hold
 module _ {A : Type 0} (key : A → ℕ) (d : A) where
@@ -113,27 +113,26 @@ module _ {A : Type 0} (key : A → ℕ) (d : A) where
   place-between k l n i r f p h b a =
       place-at k l n i f (omega arith) (λ j s. lower-up-to l n (i - 1) k r f (omega arith) b j (omega arith)) (λ s. a)
 
-  -- ---- a binary search of the first n places, as its loop has it: the keys before low are lower, and the one at high isn't
+  -- ---- a binary search
 
-  pub search-start : (k : ℕ) (l : List A) (n : ℕ) → Searching key d k l n 0 n
-  search-start k l n = record { ordered = omega arith; bounded = omega arith; lower = λ j s. absurd (not-suc-le-zero s); upper = λ s. absurd (omega arith) }
+  module _ (k : ℕ) (l : List A) (n : ℕ) where
+    pub halving-start : Halving key d k l n 0 n
+    halving-start = record { ordered = omega arith; bounded = omega arith; before = λ s. absurd (not-suc-le-zero s); from = λ s. absurd (omega arith) }
 
-  -- a lower key in the middle: the search goes on after it
-  pub search-up : (k : ℕ) (l : List A) (n low high mid : ℕ) → Searching key d k l n low high → risingBy key (take n l) ≡ true → n ≤ length l → mid < high
-      → key (getD l mid d) < k → Searching key d k l n (mid + 1) high
-  search-up k l n low high mid s r f h b =
-      record {
-        ordered = omega arith;
-        bounded = s .bounded;
-        lower = lower-up-to l n mid k r f (omega (arith, s .bounded)) b;
-        upper = s .upper;
-      }
+    -- a lower key in the middle: the search goes on after it
+    pub halving-up : (low high mid : ℕ) → Halving key d k l n low high → mid < high → key (getD l mid d) < k → Halving key d k l n (mid + 1) high
+    halving-up low high mid s h b =
+        let e : mid + 1 - 1 ≡ mid = omega arith in
+        record { ordered = omega arith; bounded = s .bounded; before = λ w. rw e b; from = s .from }
 
-  -- no lower key there: it goes on before it
-  pub search-down : (k : ℕ) (l : List A) (n low high mid : ℕ) → Searching key d k l n low high → low ≤ mid → mid < high → k ≤ key (getD l mid d) → Searching key d k l n low mid
-  search-down k l n low high mid s h t a = record { ordered = h; bounded = omega (arith, s .bounded); lower = s .lower; upper = λ w. a }
+    -- no lower key there: it goes on before it
+    pub halving-down : (low high mid : ℕ) → Halving key d k l n low high → low ≤ mid → mid < high → k ≤ key (getD l mid d) → Halving key d k l n low mid
+    halving-down low high mid s h t a = record { ordered = h; bounded = omega (arith, s .bounded); before = s .before; from = λ w. a }
 
-  pub search-end : (k : ℕ) (l : List A) (n low high : ℕ) → Searching key d k l n low high → n ≤ length l → high ≤ low → placeBy key k (take n l) ≡ low
-  search-end k l n low high s f h =
-      let e : high ≡ low = omega (arith, s .ordered) in
-      place-at k l n low f (omega (arith, s .bounded)) (s .lower) (rw e at (s .upper))
+    -- where it ends in keys that rise is the place
+    pub halving-place : (low high : ℕ) → Halving key d k l n low high → risingBy key (take n l) ≡ true → n ≤ length l → high ≤ low → placeBy key k (take n l) ≡ low
+    halving-place low high s r f h =
+        let e : high ≡ low = omega (arith, s .ordered) in
+        place-at k l n low f (omega (arith, s .bounded))
+        (λ j t. lower-up-to l n (low - 1) k r f (omega (arith, s .bounded)) (s .before (omega arith)) j (omega arith))
+        (rw e at (s .from))

@@ -1,20 +1,23 @@
 -- What validity tells of points, and which lists give valid ones. Assumes nothing.
 use Prim.Native.Nat.{ℕ, zero, suc, _-_, _≤_}
 use mathlib.Core.Path.{_≡_, refl, sym, ap, _∙_}
-use mathlib.Core.Bool.{Bool, true, false, _&&_, false≢true}
+use mathlib.Core.Bool.{Bool, true, false, _&&_, false≢true, and-true}
 use mathlib.Core.List.{List, [], _∷_, _++_}
 use native.Mathlib.Omega.{arith}
 use borrow.Author.Tests.{leb-true}
 use lib.Dec.{leb, eqb·suc-zero}
 use lib.IntN.{pos, negsuc}
-use lib.Ieee.{Float, nan, inf, fin}
+use lib.Ieee.{Float, nan, inf, fin, ofBits}
 use lib.ListN.{length, replicate, length-drop, take-append-drop}
 use lib.Seq.{take-append-seam, drop-append-seam, length-take-le}
-use Rattle.curve.specs.Curve.{isLinear, code}
+use Rattle.numbers.proofs.Tests.{and-left, and-right}
+use Rattle.numbers.specs.Bounds.{zero64, finite}
+use Rattle.curve.specs.F32.{f0}
+use Rattle.curve.specs.Curve.{isLinear, code, controls, finiteControls}
 use Rattle.curve.proofs.Laws.{linear-is}
-use Rattle.points.specs.Point.{zeroFloat, unused, isPlusZero, isNone, isUnused, finitePoint}
+use Rattle.points.proofs.Laws.{every-replicate}
+use Rattle.points.specs.Point.{unused, isPlusZero, isNone, isUnused, finitePoint}
 use Rattle.points.specs.Points.{listOf, restOf, holding, every, rising, validPoints}
-use Rattle.points.proofs.Laws.{and-left, and-right, and-true}
 use Rattle.points.specs.declared.SamplePosition.{SamplePosition}
 use Rattle.points.specs.declared.SamplePosition.the-variants as position
 use Rattle.points.specs.declared.AutomationPoint.{AutomationPoint}
@@ -22,7 +25,7 @@ use Rattle.points.specs.declared.Points.{Points}
 
 -- ---- a place that passes the test for an unused one is the unused one
 
-zero-is : (x : Float) → isPlusZero x ≡ true → x ≡ zeroFloat
+zero-is : (x : Float) → isPlusZero x ≡ true → x ≡ fin false 0 (pos 0)
 zero-is nan h = absurd (false≢true h)
 zero-is (inf s) h = absurd (false≢true h)
 zero-is (fin true m e) h = absurd (false≢true h)
@@ -30,6 +33,11 @@ zero-is (fin false zero (pos zero)) h = refl
 zero-is (fin false zero (pos (suc k))) h = absurd (false≢true (sym (eqb·suc-zero k) ∙ h))
 zero-is (fin false zero (negsuc k)) h = absurd (false≢true h)
 zero-is (fin false (suc m) e) h = absurd (false≢true (sym (eqb·suc-zero m) ∙ and-left _ _ h))
+
+-- the pattern 0 is 0.0's, of either width
+zeros : (zero64 ≡ fin false 0 (pos 0)) × (f0 ≡ fin false 0 (pos 0))
+unfolding ofBits
+zeros = (refl, refl)
 
 none-is : (x : SamplePosition) → isNone x ≡ true → x ≡ position.None
 none-is position.None h = refl
@@ -40,9 +48,9 @@ unused-is p h =
     let h₃ = and-left (isPlusZero (p .time) && isNone (p .«sample_position») && isPlusZero (p .value)) (isLinear (p .curve)) h in
     let h₂ = and-left (isPlusZero (p .time) && isNone (p .«sample_position»)) (isPlusZero (p .value)) h₃ in
     λ i. record {
-      time = zero-is (p .time) (and-left (isPlusZero (p .time)) (isNone (p .«sample_position»)) h₂) i;
+      time = (zero-is (p .time) (and-left (isPlusZero (p .time)) (isNone (p .«sample_position»)) h₂) ∙ sym (zeros .0)) i;
       «sample_position» = none-is (p .«sample_position») (and-right (isPlusZero (p .time)) (isNone (p .«sample_position»)) h₂) i;
-      value = zero-is (p .value) (and-right (isPlusZero (p .time) && isNone (p .«sample_position»)) (isPlusZero (p .value)) h₃) i;
+      value = (zero-is (p .value) (and-right (isPlusZero (p .time) && isNone (p .«sample_position»)) (isPlusZero (p .value)) h₃) ∙ sym (zeros .1)) i;
       curve = linear-is (p .curve) (and-right (isPlusZero (p .time) && isNone (p .«sample_position») && isPlusZero (p .value)) (isLinear (p .curve)) h) i;
     }
 
@@ -52,9 +60,31 @@ every-unused [] h = refl
 every-unused (p ∷ l) h = λ i. unused-is p (and-left (isUnused p) (every isUnused l) h) i ∷ every-unused l (and-right (isUnused p) (every isUnused l) h) i
 
 unused-every : (n : ℕ) → every isUnused (replicate n unused) ≡ true
-unfolding every code
-unused-every zero = refl
-unused-every (suc n) = unused-every n
+unfolding code ofBits
+unused-every n = every-replicate isUnused n unused refl
+
+-- ---- the numbers of a point that is finite
+
+module _ (p : AutomationPoint) (h : finitePoint p ≡ true) where
+  numbers : (finite (p .time) && finite (p .value)) ≡ true
+  numbers = and-left (finite (p .time) && finite (p .value)) (finiteControls (p .curve)) h
+
+  both : finiteControls (p .curve) ≡ true
+  both = and-right (finite (p .time) && finite (p .value)) (finiteControls (p .curve)) h
+
+  pub finite-time : finite (p .time) ≡ true
+  finite-time = and-left (finite (p .time)) (finite (p .value)) numbers
+
+  pub finite-value : finite (p .value) ≡ true
+  finite-value = and-right (finite (p .time)) (finite (p .value)) numbers
+
+  pub finite-cp1 : finite (controls (p .curve) .cp1) ≡ true
+  unfolding finiteControls
+  finite-cp1 = and-left (finite (controls (p .curve) .cp1)) (finite (controls (p .curve) .cp2)) both
+
+  pub finite-cp2 : finite (controls (p .curve) .cp2) ≡ true
+  unfolding finiteControls
+  finite-cp2 = and-right (finite (controls (p .curve) .cp1)) (finite (controls (p .curve) .cp2)) both
 
 -- ---- what validity tells
 

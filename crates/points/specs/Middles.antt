@@ -1,4 +1,4 @@
--- The elements that stand between two others and pass a test of the three; what one more element does. Assumes nothing.
+-- The elements that stand between two others and pass a test of the three.
 use mathlib.Core.Bool.{Bool, cond}
 use mathlib.Core.List.{List, [], _∷_}
 

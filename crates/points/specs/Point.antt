@@ -3,7 +3,8 @@ use mathlib.Core.Bool.{Bool, true, false, cond, not, _&&_}
 use lib.Dec.{eqb}
 use lib.IntN.{ℤ, pos, negsuc}
 use lib.Ieee.{Float, nan, inf, fin, binary32, binary64, sub, lt, ofBits}
-use Rattle.numbers.specs.Bounds.{finite}
+use Rattle.numbers.specs.Bounds.{zero64, finite}
+use Rattle.curve.specs.F32.{f0}
 use Rattle.curve.specs.Curve.{isLinear, finiteControls, sameCurve}
 use Rattle.curve.specs.declared.CurveType.{CurveType}
 use Rattle.curve.specs.declared.CurveType.the-variants.{Linear}
@@ -16,13 +17,9 @@ use Rattle.points.specs.declared.AutomationPoint.{AutomationPoint}
 abbrev pub finitePoint : AutomationPoint → Bool
 finitePoint p = finite (p .time) && finite (p .value) && finiteControls (p .curve)
 
--- 0.0, and not -0.0
-abbrev pub zeroFloat : Float
-zeroFloat = fin false 0 (pos 0)
-
 -- "places past the count hold time 0, no position, value 0, Linear"
 abbrev pub unused : AutomationPoint
-unused = record { time = zeroFloat; «sample_position» = position.None; value = zeroFloat; curve = Linear }
+unused = record { time = zero64; «sample_position» = position.None; value = f0; curve = Linear }
 
 -- 000's `AutomationPoint::with_curve`
 abbrev pub pointWith : Float → Float → CurveType → AutomationPoint
@@ -31,6 +28,10 @@ pointWith time value c = record { time = time; «sample_position» = position.No
 -- what a place that does not exist would hold: no answer turns on it
 abbrev pub anyPoint : AutomationPoint
 anyPoint = record { time = nan; «sample_position» = position.None; value = nan; curve = Linear }
+
+-- a point's time
+abbrev pub timeOf : AutomationPoint → Float
+timeOf p = p .time
 
 -- the exponent that a zero has
 abbrev pub isZeroExponent : ℤ → Bool

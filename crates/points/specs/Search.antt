@@ -1,4 +1,4 @@
--- The place that a search by a key ends at, for any element and any key; its laws, where the keys rise. Assumes nothing.
+-- The place that a search by a key ends at, for any element and any key.
 use Prim.Native.Nat.{ℕ, suc}
 use mathlib.Core.Bool.{cond}
 use mathlib.Core.List.{List, [], _∷_}

@@ -3,13 +3,14 @@ use mathlib.Core.Path.{_≡_, refl, ap, _∙_}
 use mathlib.Core.Bool.{Bool, true, false, cond}
 use mathlib.Core.List.{List, map}
 use lib.Ieee.{Float, binary64, sub, le}
+use Rattle.numbers.specs.Bounds.{zero64}
 use Rattle.curve.specs.declared.CurveType.{CurveType}
 use Rattle.points.specs.Points.{listOf, holding}
 use Rattle.points.proofs.ValidLaws.{listOf-holding}
 use Rattle.points.specs.declared.AutomationPoint.{AutomationPoint}
 use Rattle.points.specs.declared.Points.{Points}
 use Rattle.pointwise.specs.Places.{mappedIn, fadedInPlaces}
-use Rattle.pointwise.specs.Each.{zero64, changed, firstTime, lastTime, fadedInAll, fadedOutAll}
+use Rattle.pointwise.specs.Each.{changed, firstTime, lastTime, fadedInAll, fadedOutAll}
 use Rattle.pointwise.specs.declared.Change.{Change}
 use Rattle.pointwise.specs.declared.Change.the-variants.{FadeIn, FadeOut}
 use Rattle.pointwise.proofs.Mapped.{mapped-holding}

@@ -5,12 +5,13 @@ use mathlib.Core.List.{List, [], _∷_}
 use native.Mathlib.Nat.{le-of-suc-le-suc, not-suc-le-zero}
 use native.Mathlib.Omega.{arith}
 use lib.ListN.{length, take, getD}
+use Rattle.numbers.specs.Bounds.{zero64}
 use Rattle.points.specs.Point.{anyPoint}
 use Rattle.points.specs.Points.{listOf}
 use Rattle.points.proofs.Laws.{take-min}
 use Rattle.points.specs.declared.AutomationPoint.{AutomationPoint}
 use Rattle.points.specs.declared.Points.{Points}
-use Rattle.pointwise.specs.Each.{zero64, firstTime, lastTime}
+use Rattle.pointwise.specs.Each.{firstTime, lastTime}
 
 first-at : (l : List AutomationPoint) (n : ℕ) (d : AutomationPoint) → 0 < n → 0 < length l → getD l 0 d .time ≡ firstTime (take n l)
 first-at l zero d h k = absurd (not-suc-le-zero h)

@@ -3,22 +3,18 @@ use mathlib.Core.Bool.{true, false, cond, not, _&&_}
 use mathlib.Core.List.{List, [], _∷_, map, foldl}
 use lib.Ieee.{Float, inf, binary32, binary64, add, sub, mul, div, lt, le, ofBits}
 use Rattle.numbers.specs.Narrow.{narrow}
-use Rattle.numbers.specs.Bounds.{maxNum, minNum, finite}
+use Rattle.numbers.specs.Whole.{nearestMultiple}
+use Rattle.numbers.specs.Bounds.{maxNum, minNum, clampedTo, zero64, finite}
 use Rattle.curve.specs.Curve.{interpolated}
 use Rattle.curve.specs.F32.{f0, f1}
 use Rattle.curve.specs.declared.CurveType.{CurveType}
 use Rattle.points.specs.Points.{listOf, validPoints}
 use Rattle.points.specs.declared.AutomationPoint.{AutomationPoint}
 use Rattle.points.specs.declared.Points.{Points}
-use Rattle.grid.specs.Grid.{quantizedTime}
 use Rattle.settle.specs.Settle.{Proposal, judged}
 use Rattle.settle.specs.declared.EditedPoints.{EditedPoints}
 use Rattle.pointwise.specs.declared.Change.{Change}
 use Rattle.pointwise.specs.declared.Change.the-variants.{Shift, ScaleTime, Reflect, Quantize, Invert, Normalize, Scale, Offset, Clamp, FadeIn, FadeOut, Gate, Compress}
-
--- 0.0, an f64
-abbrev pub zero64 : Float
-zero64 = ofBits binary64 0
 
 -- 1.0, an f64
 abbrev pub one64 : Float
@@ -32,13 +28,8 @@ withTime p t = record { time = t; «sample_position» = p .«sample_position»; 
 abbrev pub withValue : AutomationPoint → Float → AutomationPoint
 withValue p v = record { time = p .time; «sample_position» = p .«sample_position»; value = v; curve = p .curve }
 
--- Rust's `clamp`: a NaN stays, and so does -0.0
-unfoldable pub clampedTo : Float → Float → Float → Float
-clampedTo low high x = cond (lt x low) low (cond (lt high x) high x)
-
 -- the fraction of a fade at a time: clamped in f64, then narrowed
 unfoldable pub fadeFraction : Float → Float → Float → Float
-unfolding clampedTo
 fadeFraction start duration time = narrow (clampedTo zero64 one64 (div binary64 (sub binary64 time start) duration))
 
 -- apply_fade_in: points up to start + duration are multiplied by the curve from 0 to 1
@@ -68,7 +59,7 @@ abbrev pub changed : Change → AutomationPoint → AutomationPoint
 changed (Shift offset) p = withTime p (add binary64 (p .time) offset)
 changed (ScaleTime factor) p = withTime p (mul binary64 (p .time) factor)
 changed (Reflect maxTime) p = withTime p (sub binary64 maxTime (p .time))
-changed (Quantize grid) p = withTime p (quantizedTime grid (p .time))
+changed (Quantize grid) p = withTime p (nearestMultiple binary64 grid (p .time))
 changed (Invert min max) p = withValue p (sub binary32 max (sub binary32 (p .value) min))
 changed (Normalize low range newMin newRange) p = withValue p (add binary32 newMin (mul binary32 (div binary32 (sub binary32 (p .value) low) range) newRange))
 changed (Scale factor) p = withValue p (mul binary32 (p .value) factor)

@@ -3,11 +3,12 @@ use mathlib.Core.Bool.{cond}
 use mathlib.Core.List.{map, _++_}
 use lib.ListN.{take, drop}
 use lib.Ieee.{Float, le}
+use Rattle.numbers.specs.Bounds.{zero64}
 use Rattle.curve.specs.declared.CurveType.{CurveType}
 use Rattle.points.specs.Points.{listOf}
 use Rattle.points.specs.declared.AutomationPoint.{AutomationPoint}
 use Rattle.points.specs.declared.Points.{Points}
-use Rattle.pointwise.specs.Each.{zero64, changed, firstTime}
+use Rattle.pointwise.specs.Each.{changed, firstTime}
 use Rattle.pointwise.specs.declared.Change.the-variants.{FadeIn}
 
 -- the points changed in their places

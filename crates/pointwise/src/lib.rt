@@ -2,14 +2,14 @@
 ghost use mathlib.Core.Path.{_≡_};
 ghost use mathlib.Core.Bool.{_&&_};
 ghost use mathlib.Core.List.{map};
-ghost use Rattle.numbers.specs.Bounds.{finite};
+ghost use Rattle.numbers.specs.Bounds.{finite, clampedTo};
 ghost use Rattle.curve.specs.Curve.{finiteControls};
 ghost use Rattle.points.specs.Point.{finitePoint};
 ghost use Rattle.points.specs.Points.{every, rising, listOf};
 ghost use Rattle.settle.specs.Settle.{editPoints};
 ghost use Rattle.settle.specs.Finish.{finished};
 ghost use Rattle.pointwise.specs.Places.{mappedIn, fadedInPlaces};
-ghost use Rattle.pointwise.specs.Each.{withTime, withValue, clampedTo, fadeFraction, fadedIn, fadedOut, gated, compressed, changed, scaledTime, lowestValue, highestValue, normalized, firstTime, lastTime, fadedInAll, fadedOutAll, clampedEdit};
+ghost use Rattle.pointwise.specs.Each.{withTime, withValue, fadeFraction, fadedIn, fadedOut, gated, compressed, changed, scaledTime, lowestValue, highestValue, normalized, firstTime, lastTime, fadedInAll, fadedOutAll, clampedEdit};
 ghost use Rattle.pointwise.specs.declared.Change.the-variants.{Shift, Invert, Scale, Offset, Gate, Compress};
 use curve::CurveType;
 use points::AutomationPoint;

@@ -14,12 +14,12 @@ use borrow.Author.Tests.{le-leb, lt-leb, lt-ltb, le-ltb, leb-true, leb-false}
 use Rattle.numbers.specs.Bounds.{finite}
 use Rattle.points.specs.Refusal.{Said, refuses, gives}
 use Rattle.points.specs.declared.Points.{Points}
-use Rattle.lookup.specs.Limits.{valid}
+use Rattle.lookup.specs.Valid.{valid}
 use Rattle.lookup.specs.Lookup.{valueAt, getValueAt}
 use Rattle.render.specs.Render.{valueOfSample, sampleAt, written, Rendered, declined, mostSamples, runInto, render, sampleCount, toBuffer, iterSamples, nextSample}
 use Rattle.lookup.specs.Runs.{run}
 use Rattle.lookup.proofs.RunLaws.{run-long, run-cut}
-use Rattle.lookup.specs.declared.Limits.{Limits}
+use Rattle.limits.specs.declared.Limits.{Limits}
 use Rattle.render.specs.declared.SampleIterator.{SampleIterator}
 
 -- what a function says and leaves, where that is one rendering's and the rendering is another

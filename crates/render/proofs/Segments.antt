@@ -2,46 +2,41 @@
 use Prim.Native.Nat.{ℕ, zero, suc, _+_, _-_, _≤_, _<_}
 use mathlib.Core.Path.{_≡_, refl, sym, ap, ap₂, _∙_}
 use mathlib.Core.Bool.{Bool, true, false, not, cond, _&&_, false≢true}
-use mathlib.Core.List.{List, [], _∷_, _++_}
+use mathlib.Core.List.{List, _++_}
 use mathlib.Core.Option.{Option, none, some, Option·getD}
 use mathlib.Core.Logic.{_⊎_, ⊎-elim}
-use native.Mathlib.Nat.{not-suc-le-zero, le-of-suc-le-suc, eq-or-lt-of-le}
+use native.Mathlib.Nat.{eq-or-lt-of-le}
 use native.Mathlib.Omega.{arith}
 use lib.Dec.{T, eqb}
-use lib.ListN.{length, take, drop, getD, set, length-set}
+use lib.ListN.{length, take, drop, set, length-set}
 use lib.IntN.{pos}
-use lib.Seq.{getD-take, length-take-le, drop-set-lt}
+use lib.Seq.{length-take-le, drop-set-lt}
 use lib.Ieee.{Float, nan, binary64, lt, le, fits, isNan, ofInt}
 use lib.Ieee.Fits.{div-fits}
 use borrow.Author.Tests.{eqb-true, eqb-false, not-false}
+use Rattle.numbers.proofs.Tests.{and-left, and-right}
 use Rattle.numbers.specs.Order.{orderKey}
 use Rattle.numbers.specs.Bounds.{finite}
 use Rattle.curve.specs.Curve.{interpolated, finiteControls}
-use Rattle.points.proofs.Laws.{and-left, and-right}
 use Rattle.points.specs.Point.{anyPoint, finitePoint}
 use Rattle.points.specs.Points.{every, rising, timeKey}
 use Rattle.points.specs.declared.AutomationPoint.{AutomationPoint}
-use Rattle.lookup.specs.Limits.{constrained}
+use Rattle.limits.specs.Limits.{constrained}
 use Rattle.lookup.specs.Lookup.{pointAt, fraction, between, rawAt, heard}
 use Rattle.points.specs.Search.{placeBy}
 use Rattle.lookup.proofs.LookupLaws.{raw-first, raw-last, raw-at-point, raw-between, raw-past}
 use Rattle.lookup.specs.Runs.{run}
 use Rattle.lookup.proofs.RunLaws.{run-same}
+use Rattle.points.proofs.Laws.{every-within}
 use Rattle.points.proofs.SearchLaws.{place-at, place-before, place-from, place-bound, place-between, rising-at, key-take}
-use Rattle.render.specs.Render.{timeOf}
+use Rattle.render.specs.Render.{sampleTime}
 use Rattle.render.specs.Writer.{segmentOf, segmentAround, segmentAt, inside, outsideAt, Stretch}
-use Rattle.lookup.specs.declared.Limits.{Limits}
+use Rattle.limits.specs.declared.Limits.{Limits}
 use Rattle.render.specs.declared.Segment.{Segment}
 use Rattle.render.specs.declared.Ends.{Ends}
 use Rattle.numbers.proofs.OrderLaws.{number-key}
 use Rattle.numbers.proofs.BitLaws.{nan-is}
 use Rattle.numbers.proofs.Compare.{lt-left, lt-right, finite-number, le-not, lt-key, lt-around}
-
-every-at : {A : Type 0} (q : A → Bool) (l : List A) (j : ℕ) (d : A) → every q l ≡ true → j < length l → q (getD l j d) ≡ true
-unfolding every
-every-at q [] j d e h = absurd (not-suc-le-zero h)
-every-at q (x ∷ l) zero d e h = and-left (q x) _ e
-every-at q (x ∷ l) (suc j) d e h = every-at q l j d (and-right (q x) _ e) (le-of-suc-le-suc h)
 
 -- the value before the constraints
 abbrev rawOf : Segment → Float → Float
@@ -66,7 +61,7 @@ module _ (ps : List AutomationPoint) (n : ℕ) (f : n ≤ length ps) (w : 2 ≤ 
       let p = pointAt ps j in
       finite-number (p .time)
       (and-left (finite (p .time)) (finite (p .value))
-      (and-left _ (finiteControls (p .curve)) (ap finitePoint (sym (getD-take n ps j anyPoint h)) ∙ every-at finitePoint (take n ps) j anyPoint v (omega arith))))
+      (and-left _ (finiteControls (p .curve)) (every-within finitePoint ps n j anyPoint v h (omega arith))))
 
   -- an earlier time has a lower key, or is the same
   key-le : (i j : ℕ) → i ≤ j → j < n → orderKey (pointAt ps i .time) ≤ orderKey (pointAt ps j .time)
@@ -108,9 +103,9 @@ module _ (ps : List AutomationPoint) (n : ℕ) (f : n ≤ length ps) (w : 2 ≤ 
     not-last b = le-not time (pointAt ps (n - 1) .time) (lt-left time (pointAt ps (n - 1) .time) b) (number-at (n - 1) (omega arith)) ∙ not-up b
 
     -- and the value is that of the segment around it
-    pub raw-around : (i : ℕ) → lt (pointAt ps 0 .time) time ≡ true → lt time (pointAt ps (n - 1) .time) ≡ true → placeBy timeKey (orderKey time) (take n ps) ≡ i
+    pub raw-inside : (i : ℕ) → lt (pointAt ps 0 .time) time ≡ true → lt time (pointAt ps (n - 1) .time) ≡ true → placeBy timeKey (orderKey time) (take n ps) ≡ i
         → rawAt (take n ps) time ≡ some (rawOf (segmentAround (orderKey time) (pointAt ps (i - 1)) (pointAt ps i)) time)
-    raw-around i a b e =
+    raw-inside i a b e =
         let p = place-inside i a b e in
         go (eqb (timeKey (pointAt ps i)) (orderKey time)) refl (p .0) (p .1)
       where
@@ -175,34 +170,34 @@ module _ (ps : List AutomationPoint) (n : ℕ) (f : n ≤ length ps) (w : 2 ≤ 
 
   -- the samples of a stretch are the envelope's
   pub stretch-samples : (silent : Float) (limits : Limits) (rate : Float) (k i m : ℕ) (old new : List Float)
-      → lt (pointAt ps 0 .time) (timeOf rate k) ≡ true → lt (timeOf rate k) (pointAt ps (n - 1) .time) ≡ true
-      → placeBy timeKey (orderKey (timeOf rate k)) (take n ps) ≡ i → Stretch (segmentAround (orderKey (timeOf rate k)) (pointAt ps (i - 1)) (pointAt ps i)) limits rate k old new m
-      → new ≡ run (λ j. sampleOf silent limits (rawAt (take n ps) (timeOf rate j))) k m ++ drop m old
+      → lt (pointAt ps 0 .time) (sampleTime rate k) ≡ true → lt (sampleTime rate k) (pointAt ps (n - 1) .time) ≡ true
+      → placeBy timeKey (orderKey (sampleTime rate k)) (take n ps) ≡ i → Stretch (segmentAround (orderKey (sampleTime rate k)) (pointAt ps (i - 1)) (pointAt ps i)) limits rate k old new m
+      → new ≡ run (λ j. sampleOf silent limits (rawAt (take n ps) (sampleTime rate j))) k m ++ drop m old
   unfolding segmentAt
   stretch-samples silent limits rate k i m old new a b e s =
-      let p = place-inside (timeOf rate k) (at k) i a b e in
+      let p = place-inside (sampleTime rate k) (at k) i a b e in
       s .buffer ∙ ap (λ (l : List Float). l ++ drop m old) (run-same _ _ k k m (λ j h. ap (sampleOf silent limits) (sym (one p j h))))
     where
       seg : Segment
-      seg = segmentAround (orderKey (timeOf rate k)) (pointAt ps (i - 1)) (pointAt ps i)
+      seg = segmentAround (orderKey (sampleTime rate k)) (pointAt ps (i - 1)) (pointAt ps i)
 
-      at : (j : ℕ) → T (fits binary64 (timeOf rate j))
+      at : (j : ℕ) → T (fits binary64 (sampleTime rate j))
       at j = div-fits binary64 (ofInt binary64 (pos j)) rate
 
-      one : (0 < i) × (i < n) → (j : ℕ) → j < m → rawAt (take n ps) (timeOf rate (k + j)) ≡ some (rawOf seg (timeOf rate (k + j)))
+      one : (0 < i) × (i < n) → (j : ℕ) → j < m → rawAt (take n ps) (sampleTime rate (k + j)) ≡ some (rawOf seg (sampleTime rate (k + j)))
       one p zero h =
           let z : k + 0 ≡ k = omega arith in
-          ap (λ (x : ℕ). rawAt (take n ps) (timeOf rate x)) z ∙ raw-around (timeOf rate k) (at k) i a b e ∙ ap (λ (x : ℕ). some (rawOf seg (timeOf rate x))) (sym z)
-      one p (suc j) h = raw-held (timeOf rate (k + suc j)) (at (k + suc j)) i (orderKey (timeOf rate k)) (p .0) (p .1) (s .within (suc j) h (omega arith))
+          ap (λ (x : ℕ). rawAt (take n ps) (sampleTime rate x)) z ∙ raw-inside (sampleTime rate k) (at k) i a b e ∙ ap (λ (x : ℕ). some (rawOf seg (sampleTime rate x))) (sym z)
+      one p (suc j) h = raw-held (sampleTime rate (k + suc j)) (at (k + suc j)) i (orderKey (sampleTime rate k)) (p .0) (p .1) (s .within (suc j) h (omega arith))
 
 -- where a stretch ends: the writer's loop, which began with the first sample written, has i of them
 pub stretch-end : (seg : Segment) (limits : Limits) (rate : Float) (first i : ℕ) (o out : List Float) (x : Float) → 1 ≤ i → i ≤ length (set o 0 x)
-    → ((j : ℕ) → j < i → 0 < j → inside seg (timeOf rate (first + j)) ≡ true) → out ≡ run (λ n. segmentAt limits seg (timeOf rate n)) first i ++ drop i (set o 0 x)
+    → ((j : ℕ) → j < i → 0 < j → inside seg (sampleTime rate (first + j)) ≡ true) → out ≡ run (λ n. segmentAt limits seg (sampleTime rate n)) first i ++ drop i (set o 0 x)
     → Stretch seg limits rate first o out i
 stretch-end seg limits rate first i o out x p q h e =
     record {
       least = p;
       most = omega (arith, length-set o 0 x);
       within = h;
-      buffer = e ∙ ap (λ (l : List Float). run (λ n. segmentAt limits seg (timeOf rate n)) first i ++ l) (drop-set-lt i o 0 x p);
+      buffer = e ∙ ap (λ (l : List Float). run (λ n. segmentAt limits seg (sampleTime rate n)) first i ++ l) (drop-set-lt i o 0 x p);
     }

@@ -14,7 +14,7 @@ use Rattle.points.specs.Points.{holding, every, risingBy, validPoints}
 use Rattle.points.specs.Refusal.{gives}
 use Rattle.points.specs.declared.Points.{Points}
 use Rattle.lookup.specs.Examples.{free, rise, t1}
-use Rattle.lookup.specs.Limits.{constrained}
+use Rattle.limits.specs.Limits.{constrained}
 use Rattle.lookup.specs.Lookup.{surrounded, fraction, foundAt}
 use Rattle.points.specs.Search.{placeBy}
 use Rattle.render.specs.Render.{declined, runInto, render, toBuffer, nextSample}

@@ -2,4 +2,6 @@
 pub mod Render
 pub mod Pieces
 pub mod Writer
+-- What is promised beyond the contracts.
+pub mod Promised
 pub mod Examples

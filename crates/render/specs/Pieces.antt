@@ -1,4 +1,4 @@
--- 01, "Rendering": the pieces of a run, and that they leave the buffer that it leaves.
+-- 01, "Rendering": the pieces of a run.
 use Prim.Native.Nat.{ℕ, _+_}
 use mathlib.Core.Bool.{Bool}
 use mathlib.Core.List.{List, [], _∷_}
@@ -6,7 +6,7 @@ use lib.Ieee.{Float}
 use Rattle.points.specs.Refusal.{Said}
 use Rattle.points.specs.declared.Points.{Points}
 use Rattle.render.specs.Render.{render}
-use Rattle.lookup.specs.declared.Limits.{Limits}
+use Rattle.limits.specs.declared.Limits.{Limits}
 
 -- "counts that add up to its own"
 unfoldable pub total : List ℕ → ℕ

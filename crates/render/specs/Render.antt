@@ -10,22 +10,22 @@ use lib.Ieee.{Float, binary32, binary64, mul, div, ofInt, toUnsigned, ofBits}
 use Rattle.numbers.specs.Bounds.{finite}
 use Rattle.points.specs.Refusal.{Said, refuses, gives, number}
 use Rattle.points.specs.declared.Points.{Points}
-use Rattle.lookup.specs.Limits.{valid}
+use Rattle.lookup.specs.Valid.{valid}
 use Rattle.lookup.specs.Lookup.{valueAt, told}
 use Rattle.lookup.specs.Runs.{run}
-use Rattle.lookup.specs.declared.Limits.{Limits}
+use Rattle.limits.specs.declared.Limits.{Limits}
 use Rattle.render.specs.declared.SampleIterator.{SampleIterator}
 use Rattle.render.specs.declared.SampleStep.{SampleStep}
 use Rattle.render.specs.declared.Walk.{Walk}
 use Rattle.render.specs.declared.Walk.the-variants.{Over, Refused}
 
 -- "i / rate"
-abbrev pub timeOf : Float → ℕ → Float
-timeOf rate i = div binary64 (ofInt binary64 (pos i)) rate
+abbrev pub sampleTime : Float → ℕ → Float
+sampleTime rate i = div binary64 (ofInt binary64 (pos i)) rate
 
 -- "Sample i is the lookup at i / rate"
 abbrev pub valueOfSample : Points → Bool → Limits → Float → ℕ → Option Float
-valueOfSample points enabled limits rate i = valueAt points enabled limits (timeOf rate i)
+valueOfSample points enabled limits rate i = valueAt points enabled limits (sampleTime rate i)
 
 -- the sample's value, or another number where it is silent
 abbrev pub sampleOr : Float → Points → Bool → Limits → Float → ℕ → Float
@@ -102,16 +102,16 @@ walkTold (Over w) = gives w
 walkTold (Refused r) = refuses (number r)
 
 -- what a call says, and the walk it leaves
-pub record Stepped : Type 0 where
+pub record WalkStep : Type 0 where
   pub said : Said (Option Float)
   pub walk : SampleIterator
 
 -- a `SampleStep` in these terms
-abbrev pub stepTold : SampleStep → Stepped
+abbrev pub stepTold : SampleStep → WalkStep
 stepTold s = record { said = told (s .answer); walk = s .walk }
 
 -- "ends at a silent sample; that call still advances the place"; past the count there is none, and nothing advances
-unfoldable pub nextSample : Points → Bool → Limits → SampleIterator → Stepped
+unfoldable pub nextSample : Points → Bool → Limits → SampleIterator → WalkStep
 nextSample points enabled limits w =
     cond (valid points limits)
     (cond (finite (w .«sample_rate»))

@@ -9,11 +9,11 @@ use lib.Ieee.{Float, lt, le}
 use Rattle.curve.specs.Curve.{interpolated}
 use Rattle.points.specs.Points.{timeKey}
 use Rattle.points.specs.declared.AutomationPoint.{AutomationPoint}
-use Rattle.lookup.specs.Limits.{constrained}
+use Rattle.limits.specs.Limits.{constrained}
 use Rattle.lookup.specs.Lookup.{fraction}
 use Rattle.lookup.specs.Runs.{run}
-use Rattle.lookup.specs.declared.Limits.{Limits}
-use Rattle.render.specs.Render.{timeOf}
+use Rattle.limits.specs.declared.Limits.{Limits}
+use Rattle.render.specs.Render.{sampleTime}
 use Rattle.render.specs.declared.Segment.{Segment}
 use Rattle.render.specs.declared.Ends.{Ends}
 
@@ -41,5 +41,5 @@ outsideAt e time = cond (le time (e .first)) (e .early) (cond (le (e .last) time
 pub record Stretch (s : Segment) (limits : Limits) (rate : Float) (first : ℕ) (old new : List Float) (r : ℕ) : Type 0 where
   pub least : 0 < r
   pub most : r ≤ length old
-  pub within : (i : ℕ) → i < r → 0 < i → inside s (timeOf rate (first + i)) ≡ true
-  pub buffer : new ≡ run (λ i. segmentAt limits s (timeOf rate i)) first r ++ drop r old
+  pub within : (i : ℕ) → i < r → 0 < i → inside s (sampleTime rate (first + i)) ≡ true
+  pub buffer : new ≡ run (λ i. segmentAt limits s (sampleTime rate i)) first r ++ drop r old

@@ -10,7 +10,7 @@ ghost use Rattle.render.specs.Render.{sampleOr, sampleAt, mostSamples, r
 ghost use Rattle.lookup.specs.Runs.{run};
 ghost use Rattle.render.specs.Writer.{segmentOf, segmentAround, segmentAt, outsideAt, Stretch};
 use curve::CurveType;
-use lookup::Limits;
+use limits::Limits;
 use lookup::Lookup;
 use points::AutomationPoint;
 use points::Points;

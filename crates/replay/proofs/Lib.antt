@@ -1,2 +1,2 @@
--- Laws of the definitions in specs/.
+-- The turns of the replay, and what holds after it.
 pub mod ReplayLaws

@@ -1,4 +1,4 @@
--- Laws of specs/Replay.
+-- The calls of numbers are in range of their types, and each turn of the replay is one more call that ran; so the history theorem speaks of it. Assumes nothing.
 use Prim.Native.Nat.{ℕ, zero, suc, _+_, _<_, _≤_, min}
 use mathlib.Core.Path.{_≡_, refl, ap, sym, _∙_}
 use mathlib.Core.Bool.{true, false}
@@ -17,12 +17,11 @@ use Rattle.points.specs.Refusal.{Said, refuses, said, number}
 use Rattle.points.specs.declared.refusal.Refusal.{Refusal}
 use Rattle.points.specs.declared.refusal.Answer.{Answer}
 use Rattle.points.specs.declared.refusal.Answer.the-variants.{Refused}
-use Rattle.numbers.proofs.Tests.{yes}
+use Rattle.numbers.proofs.Tests.{yes, and-both as both, either}
 use Rattle.points.specs.Points.{every}
 use Rattle.points.proofs.Laws.{every-append, every-one}
 use Rattle.points.specs.Point.{pointWith}
 use Rattle.envelope.specs.Envelope.{new}
-use Rattle.envelope.proofs.EditLaws.{either, both}
 use Rattle.envelope.specs.Typed.{typedEdit, typedPointsEdit}
 use Rattle.envelope.proofs.TypedLists.{linear-typed, pointWith-typed}
 use Rattle.envelope.proofs.TypedLaws.{new-typed, edit-typed}

@@ -1,6 +1,5 @@
--- Laws of these definitions.
+-- Slots of the step memory; each way out of a call; that a refused call changes nothing; lookups and runs on a session.
 pub mod Slots
-pub mod One
 pub mod Ways
 pub mod Refusals
 pub mod PlayLaws

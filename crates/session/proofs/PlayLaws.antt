@@ -1,4 +1,4 @@
--- Laws of specs/Play.
+-- A lookup or a run on a session in order is its envelope's own, whose 1 is the session's too; else it is 1. Assumes nothing.
 use Prim.Native.Nat.{ℕ}
 use mathlib.Core.Path.{_≡_, refl, sym}
 use mathlib.Core.Bool.{Bool, true, false, cond, _&&_, false≢true}

@@ -1,18 +1,17 @@
--- "A refusal returns its number .. and changes nothing." One law over every call of a session. Assumes nothing.
+-- "A refusal returns its number .. and changes nothing": `RefusedCallChangesNothing` of specs/Promised, over every call of a session. Assumes nothing.
 use Prim.Native.Nat.{ℕ}
 use mathlib.Core.Path.{_≡_, ap, sym, _∙_}
 use mathlib.Core.List.{List}
 use mathlib.Core.Option.{Option, none, some}
 use Rattle.points.specs.Checks.{firstFailing}
-use Rattle.points.proofs.CheckLaws.{gate-either}
+use Rattle.points.proofs.CheckLaws.{gate-either, never}
 use Rattle.points.specs.Refusal.{Said, refuses, gives, said, number}
 use Rattle.envelope.specs.declared.AutomationEnvelope.{AutomationEnvelope}
 use Rattle.state.specs.State.{unpacked}
 use Rattle.session.specs.Session.{depth, stateAt, slotBefore, Called, declined, accepted, settled, exchanged}
-use Rattle.session.specs.Calls.{madeBy, Call, edit, back, forward, inTurn, testsOf, ownOf, callOf, Obeys}
-use Rattle.session.proofs.Ways.{not-both}
+use Rattle.session.specs.Promised.{RefusedCallChangesNothing}
+use Rattle.session.specs.Calls.{madeBy, Call, edit, back, forward, inTurn, testsOf, ownOf, callOf}
 use Rattle.session.specs.declared.Session.{Session}
-use Rattle.session.specs.declared.SessionAnswer.{SessionAnswer}
 
 -- what is refused leaves the session and the memory
 abbrev Stays : Session → List ℕ → Called → Type 0
@@ -23,7 +22,7 @@ module _ (s : Session) (m : List ℕ) where
   declined-stays k n h = ap (λ (x : Said (Unit {0})). record { said = x; session = s; memory = m }) h
 
   accepted-stays : (s′ : Session) (m′ : List ℕ) → Stays s m (accepted s′ m′)
-  accepted-stays s′ m′ n h = absurd (not-both h)
+  accepted-stays s′ m′ n h = never (sym h)
 
   settled-stays : (x : Said (Unit {0})) (e : AutomationEnvelope) → Stays s m (settled s m x e)
   settled-stays (refuses n) e = declined-stays n
@@ -44,9 +43,7 @@ module _ (s : Session) (m : List ℕ) where
       gate-either (Stays s m) (firstFailing (inTurn (testsOf c s m))) (λ r. declined (number r) s m) (ownOf c s m) (λ r. declined-stays (number r))
       (λ h. own-stays c)
 
--- "a refused call returns the session it got", and the memory
-pub refused-call : (s : Session) (m : List ℕ) (c : Call) (a : SessionAnswer) (m′ : List ℕ) (n : ℕ) → Obeys s m c a m′ → said (a .answer) ≡ refuses n
-    → (a .session ≡ s) × (m′ ≡ m)
+pub refused-call : RefusedCallChangesNothing
 refused-call s m c a m′ n ob h =
     let all = ob ∙ call-stays s m c n (ap (λ (x : Called). x .said) (sym ob) ∙ h) in
     (ap (λ (x : Called). x .session) all, ap (λ (x : Called). x .memory) all)

@@ -1,7 +1,7 @@
 -- The ways out of the session's functions, each as a law over plain variables: the functions' proofs cite these. Assumes nothing.
 use Prim.Native.Nat.{ℕ, _+_, _-_, _/_, _≤_, _<_, min}
 use mathlib.Core.Path.{_≡_, refl, ap, sym, _∙_}
-use mathlib.Core.Bool.{Bool, true, false, cond, _&&_}
+use mathlib.Core.Bool.{Bool, true, false, cond, _&&_, and-true, and-false}
 use mathlib.Core.List.{List, [], _++_, append-nil}
 use mathlib.Core.Option.{Option, none, some}
 use native.Mathlib.Omega.{arith}
@@ -9,11 +9,11 @@ use lib.ListN.{length, take, drop, length-drop, drop-of-length-le}
 use lib.Seq.{length-take-le}
 use lib.Dec.{ltb, leb, eqb}
 use borrow.Author.Tests.{lt-ltb, le-ltb, le-leb, lt-leb, eq-eqb, ne-eqb, leb-true, leb-false, ltb-true, eqb-true}
+use Rattle.numbers.proofs.Tests.{and-left, and-right}
 use Rattle.points.specs.Checks.{firstFailing, unlessRefused}
-use Rattle.points.proofs.CheckLaws.{first-holds, first-fails, all-hold, passed-over, stopped-at}
-use Rattle.points.specs.Refusal.{Said, refuses, gives, said, number}
+use Rattle.points.proofs.CheckLaws.{first-holds, first-fails, all-hold, passed-over, stopped-at, never}
+use Rattle.points.specs.Refusal.{Said, refuses, said, number}
 use Rattle.points.specs.Points.{every}
-use Rattle.points.proofs.Laws.{and-left, and-right, and-true, and-false}
 use Rattle.points.specs.declared.refusal.Refusal.{Refusal}
 use Rattle.points.specs.declared.refusal.Refusal.the-variants.{NotValid, MemoryLength, StoredState}
 use Rattle.points.specs.declared.refusal.Answer.the-variants.{Accepted, Refused}
@@ -181,9 +181,6 @@ module _ (x : Entry) (s : Session) (m : List ℕ) where
       go false p = ap settles (one p) ∙ call-one (edit x) s m (in-order-both h ∙ p)
 
 -- no answer both gives and refuses
-pub not-both : {n : ℕ} → _≡_ {A = Said (Unit {0})} (gives tt) (refuses n) → ⊥
-not-both h = let z : _≡_ {A = ℕ} 0 1 = cc in omega arith
-
 -- what an edit's result makes of the session
 module _ (s : Session) (m : List ℕ) (r : Edited) (a : SessionAnswer) where
   pub settle-refused : (x : Refusal) → a ≡ refusedBy s x → r .answer ≡ Refused x → called a m ≡ settled s m (said (r .answer)) (r .envelope)
@@ -206,13 +203,13 @@ module _ (s : Session) (m : List ℕ) (e : AutomationEnvelope) (a : SessionAnswe
 module _ (s : Session) (m : List ℕ) (k at kept ahead : ℕ) (r : Edited) where
   step-done-of : (u : Option AutomationEnvelope) → toldEdit r ≡ readAs u → r .answer ≡ Accepted
       → called (movedBy s (r .envelope) at kept ahead) (stored k (pack (s .envelope)) m) ≡ exchanged s m k (λ e. movedTo s e at kept ahead) u
-  step-done-of none p h = absurd (not-both (sym (ap said h) ∙ ap (λ (t : EditTold). t .said) p))
+  step-done-of none p h = never (sym (sym (ap said h) ∙ ap (λ (t : EditTold). t .said) p))
   step-done-of (some e) p h = ap (λ (t : EditTold). called (movedBy s (t .envelope) at kept ahead) (stored k (pack (s .envelope)) m)) p
 
   step-bad-of : (u : Option AutomationEnvelope) (x : Refusal) → toldEdit r ≡ readAs u → r .answer ≡ Refused x
       → called (refusedBy s StoredState) m ≡ exchanged s m k (λ e. movedTo s e at kept ahead) u
   step-bad-of none x p h = refl
-  step-bad-of (some e) x p h = absurd (not-both (sym (sym (ap said h) ∙ ap (λ (t : EditTold). t .said) p)))
+  step-bad-of (some e) x p h = never (sym (ap said h) ∙ ap (λ (t : EditTold). t .said) p)
 
   pub step-done : (a : SessionAnswer) (m′ : List ℕ) → a ≡ movedBy s (r .envelope) at kept ahead → toldEdit r ≡ readState (stateAt m k) → r .answer ≡ Accepted
       → m′ ≡ stored k (pack (s .envelope)) m → called a m′ ≡ steppedOver s m k at kept ahead

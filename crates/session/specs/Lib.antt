@@ -2,3 +2,5 @@
 pub mod Session
 pub mod Calls
 pub mod Play
+-- What is promised beyond the contracts.
+pub mod Promised

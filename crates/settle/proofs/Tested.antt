@@ -1,16 +1,17 @@
 -- Laws of the loops that test the new points as they go, and of what an edit makes of the tests. Assumes nothing.
 use Prim.Native.Nat.{ℕ, zero, suc, _+_, _-_, _<_}
 use mathlib.Core.Path.{_≡_, refl, sym, ap, _∙_}
-use mathlib.Core.Bool.{Bool, true, false, _&&_, _||_, false≢true}
+use mathlib.Core.Bool.{Bool, true, false, _&&_, _||_, false≢true, and-true}
 use mathlib.Core.List.{List}
 use native.Mathlib.Omega.{arith}
 use borrow.Author.Tests.{eqb-true, le-leb}
 use lib.Dec.{eqb, ltb}
 use lib.ListN.{length, take, getD, set}
 use lib.Seq.{lt-length-set, take-set-le, getD-set-same, getD-set-other}
+use Rattle.numbers.proofs.Tests.{and-both}
 use Rattle.points.specs.Point.{finitePoint, anyPoint}
 use Rattle.points.specs.Points.{every, risingBy, timeKey, rising, listOf, validPoints}
-use Rattle.points.proofs.Laws.{and-both, and-true, every-more, rising-next, rising-one}
+use Rattle.points.proofs.Laws.{every-more, rising-next, rising-one}
 use Rattle.points.specs.declared.AutomationPoint.{AutomationPoint}
 use Rattle.points.specs.declared.Points.{Points}
 use Rattle.points.specs.declared.refusal.Refusal.the-variants.{NotValid, NotFinite, TimesDontRise}

@@ -11,9 +11,9 @@ use lib.Ieee.{Float}
 use lib.ListN.{length, take, drop, getD, set, length-take}
 use lib.Seq.{take-suc, getD-take}
 use borrow.Author.Tests.{eqb-true, eq-eqb, ne-eqb, not-true}
+use Rattle.numbers.proofs.Tests.{and-left, and-right}
 use Rattle.points.specs.Point.{anyPoint}
 use Rattle.points.specs.Points.{every, timeKey, listOf, holding}
-use Rattle.points.proofs.Laws.{and-left, and-right}
 use Rattle.points.specs.Middles.{middles}
 use Rattle.points.proofs.MiddleLaws.{keep-cons, middles-yes, middles-no}
 use Rattle.points.specs.declared.AutomationPoint.{AutomationPoint}

@@ -8,11 +8,10 @@ use native.Mathlib.Omega.{arith}
 use borrow.Author.Tests.{ltb-true, eqb-true, eqb-false, ne-eqb, lt-ltb}
 use lib.Dec.{T, ltb, eqb}
 use lib.Ieee.{Float, le}
-use Rattle.numbers.specs.Bounds.{finite}
-use Rattle.numbers.proofs.Tests.{yes}
+use Rattle.numbers.specs.Bounds.{finite, zero64}
+use Rattle.numbers.proofs.Tests.{yes, and-left, and-right, and-both}
 use Rattle.points.specs.Point.{finitePoint}
 use Rattle.points.specs.Points.{every, risingBy, rising, timeKey, listOf, holding, validPoints}
-use Rattle.points.proofs.Laws.{and-left, and-right, and-both}
 use Rattle.points.proofs.ValidLaws.{valid-finite, valid-rising}
 use Rattle.points.specs.declared.AutomationPoint.{AutomationPoint}
 use Rattle.points.specs.declared.Points.{Points}
@@ -20,13 +19,13 @@ use Rattle.settle.specs.Settle.{editPoints}
 use Rattle.settle.specs.Finish.{finished}
 use Rattle.settle.specs.declared.EditedPoints.{EditedPoints}
 use Rattle.settle.proofs.Ends.{ends-valid}
-use Rattle.pointwise.specs.Each.{zero64, changed}
+use Rattle.pointwise.specs.Each.{changed}
 use Rattle.pointwise.specs.declared.Change.the-variants.{Quantize}
-use Rattle.grid.proofs.Quantized.{quantized-keeps-order}
+use Rattle.numbers.proofs.Quantized.{quantized-keeps-order}
 use Rattle.shape.specs.Neighbours.{differingAfter, withoutRepeats}
 use Rattle.shape.specs.Shape.{keepIf, firsts, quantized}
 use Rattle.shape.proofs.Kept.{after-same}
-use Rattle.shape.proofs.Fits.{timeFits}
+use Rattle.points.proofs.Fits.{timeFits}
 
 -- ---- times that do not fall, from the key k on
 

@@ -4,6 +4,7 @@ use mathlib.Core.List.{List, [], _∷_, _++_, map, reverse}
 use lib.Dec.{eqb}
 use lib.Ieee.{Float, binary32, binary64, sub, div, lt, le, ofBits}
 use lib.ListN.{length, drop}
+use Rattle.numbers.specs.Bounds.{zero64}
 use Rattle.numbers.specs.Narrow.{narrow}
 use Rattle.curve.specs.Curve.{interpolated}
 use Rattle.points.specs.Middles.{middles}
@@ -11,7 +12,7 @@ use Rattle.points.specs.Point.{abs}
 use Rattle.points.specs.Points.{timeKey}
 use Rattle.points.specs.declared.AutomationPoint.{AutomationPoint}
 use Rattle.pointwise.specs.declared.Change.the-variants.{Reflect, Quantize}
-use Rattle.pointwise.specs.Each.{zero64, changed, lastTime}
+use Rattle.pointwise.specs.Each.{changed, lastTime}
 
 -- the elements that pass a test
 unfoldable pub keepIf : {A : Type 0} → (A → Bool) → List A → List A

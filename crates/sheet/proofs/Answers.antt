@@ -12,11 +12,11 @@ use Rattle.envelope.specs.declared.AutomationEnvelope.{AutomationEnvelope}
 use Rattle.lines.specs.PointLines.{Lines, stop, lines}
 use Rattle.lines.specs.Told.{linesBy}
 use Rattle.lines.specs.declared.settings.Settings.{Settings}
-use Rattle.sheet.specs.Sheet.{envelopeOf, withSettings}
+use Rattle.sheet.specs.Sheet.{envelopeFrom, withSettings}
 use Rattle.sheet.specs.Told.{toldSheetLines}
 use Rattle.sheet.specs.declared.read.SheetLines.{SheetLines}
 
-pub with-settings : (a : Answer) (k : ℕ) (s : Settings) (ps : Points) (rest : List ℕ) → linesBy a k (envelopeOf s ps) rest ≡ withSettings s (linesBy a k ps rest)
+pub with-settings : (a : Answer) (k : ℕ) (s : Settings) (ps : Points) (rest : List ℕ) → linesBy a k (envelopeFrom s ps) rest ≡ withSettings s (linesBy a k ps rest)
 with-settings Accepted k s ps rest = refl
 with-settings (Refused r) k s ps rest = refl
 

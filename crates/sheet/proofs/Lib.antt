@@ -1,6 +1,5 @@
 pub mod Answers
 pub mod Texts
-pub mod Valid
 pub mod LineForms
 pub mod Meanings
 pub mod Sheets

@@ -1,34 +1,32 @@
 -- A record's numbers mean the record, and the numbers that mean a record are its own. Assumes nothing.
-use Prim.Native.Nat.{ℕ, _*_, _^_, _<_}
-use mathlib.Core.Path.{_≡_, refl, sym, ap, subst, _∙_}
-use mathlib.Core.Bool.{Bool, true, false, cond, not, _&&_}
+use Prim.Native.Nat.{ℕ, _^_, _<_}
+use mathlib.Core.Path.{_≡_, refl, sym, ap, _∙_}
+use mathlib.Core.Bool.{Bool, true, false, cond, _&&_}
 use native.Mathlib.Omega.{arith}
-use lib.Dec.{T, eqb}
-use lib.Ieee.{Float, Format, binary32, binary64, ofBits, toBits, fits, top}
-use lib.Ieee.Bits.{ofBits-toBits, toBits-ofBits, nanBits-is, toBits-lt}
+use lib.Dec.{eqb}
+use lib.Ieee.{Float, binary32, binary64, ofBits, toBits}
 use borrow.Author.Tests.{ltb-true, eqb-true, eqb-false}
 use Rattle.numbers.specs.Bounds.{finite}
-use Rattle.numbers.proofs.Tests.{yes}
-use Rattle.numbers.proofs.BitLaws.{finite-no-nan}
+use Rattle.numbers.proofs.BitLaws.{bits-lt, bits-back, pattern-back}
 use Rattle.curve.specs.Curve.{code, controls, curveOf, known, finiteControls}
 use Rattle.curve.proofs.Laws.{code-lt, code-known, curveOf-code, code-curveOf, plain-controls}
 use Rattle.curve.specs.declared.Controls.{Controls}
 use Rattle.curve.specs.declared.CurveType.{CurveType}
-use Rattle.points.proofs.Laws.{and-left, and-right}
+use Rattle.points.proofs.CheckLaws.{never}
 use Rattle.points.specs.Point.{finitePoint}
-use Rattle.points.specs.Refusal.{Said, refuses, gives}
+use Rattle.points.specs.Refusal.{Said, gives}
 use Rattle.points.specs.declared.AutomationPoint.{AutomationPoint}
 use Rattle.points.specs.declared.Points.{Points}
 use Rattle.points.specs.declared.SamplePosition.{SamplePosition}
 use Rattle.points.specs.declared.SamplePosition.the-variants as position
-use Rattle.lookup.specs.Limits.{finiteLimit, finiteLimits}
-use Rattle.lookup.specs.declared.Limit.{Limit}
-use Rattle.lookup.specs.declared.Limit.the-variants as limit
+use Rattle.limits.specs.Limits.{finiteLimit, finiteLimits}
+use Rattle.limits.specs.declared.Limit.{Limit}
+use Rattle.limits.specs.declared.Limit.the-variants as limit
 use Rattle.envelope.specs.Envelope.{limitsOf}
-use Rattle.envelope.specs.Typed.{typedCurve, typedPosition, typedPoint, typedLimit}
+use Rattle.envelope.specs.Typed.{typedPosition, typedPoint, typedLimit}
 use Rattle.envelope.specs.declared.AutomationEnvelope.{AutomationEnvelope}
 use Rattle.lines.specs.Lines.{check, limitOf, finiteBits, settingsMeaning, positionOf, pointMeaning}
-use Rattle.sheet.specs.Sheet.{envelopeOf}
+use Rattle.sheet.specs.Sheet.{envelopeFrom}
 use Rattle.sheet.specs.Text.{limitBits, rawSettings, positionBits, rawPoint}
 use Rattle.fields.specs.Told.{Below}
 use Rattle.fields.specs.declared.Optional.{Optional}
@@ -37,49 +35,36 @@ use Rattle.lines.specs.declared.settings.RawSettings.{RawSettings}
 use Rattle.lines.specs.declared.settings.Settings.{Settings}
 use Rattle.lines.specs.declared.point.RawPoint.{RawPoint}
 use Rattle.sheet.proofs.LineForms.{FineSettings, FinePoint}
-use Rattle.sheet.proofs.Valid.{finite-time, finite-value, finite-cp1, finite-cp2, finite-min, finite-max, finite-step}
+use Rattle.points.proofs.ValidLaws.{finite-time, finite-value, finite-cp1, finite-cp2}
+use Rattle.envelope.proofs.TypedParts.{point-parts, cp1-fits, cp2-fits, Parts}
+use Rattle.limits.proofs.LimitLaws.{finite-min, finite-max, finite-step}
 
 -- ---- tests passed
 
-no-refusal : {A C : Type 0} {n : ℕ} {a : A} → refuses n ≡ gives a → C
-no-refusal e = let z : _≡_ {A = ℕ} 0 1 = cc in absurd (omega arith)
-
 unchecked : {A C : Type 0} (t : Bool) (n : ℕ) (x : Said A) {a : A} → check t n x ≡ gives a → (t ≡ true → x ≡ gives a → C) → C
 unchecked true n x e f = f refl e
-unchecked false n x e f = no-refusal e
-
--- ---- bits
-
-bits-back : (f : Format) (n : ℕ) → n < 2 * top f → finite (ofBits f n) ≡ true → toBits f (ofBits f n) ≡ n
-bits-back f n h k = toBits-ofBits f n h (subst (λ (t : Bool). T (not t)) (nanBits-is f n) (finite-no-nan f n k))
+unchecked false n x e f = never e
 
 -- ---- limits
-
-module _ (x : Float) (t : fits binary32 x ≡ true) where
-  pub single-read : ofBits binary32 (toBits binary32 x) ≡ x
-  single-read = ofBits-toBits binary32 x (yes t)
-
-  pub single-lt : toBits binary32 x < 16 ^ 8
-  single-lt = omega (arith, toBits-lt binary32 x (yes t))
 
 limit-read : (p : Limit) → typedLimit p ≡ true → limitOf (limitBits p) ≡ p
 unfolding limitOf
 limit-read limit.None t = refl
-limit-read (limit.Number x) t = ap limit.Number (single-read x t)
+limit-read (limit.Number x) t = ap limit.Number (bits-back binary32 x t)
 
 limit-finite : (p : Limit) → typedLimit p ≡ true → finiteLimit p ≡ true → finiteBits (limitBits p) ≡ true
 unfolding finiteBits
 limit-finite limit.None t f = refl
-limit-finite (limit.Number x) t f = rw (single-read x t) f
+limit-finite (limit.Number x) t f = rw (bits-back binary32 x t) f
 
 limit-lt : (p : Limit) → typedLimit p ≡ true → Below (16 ^ 8) (limitBits p)
 limit-lt limit.None t = tt
-limit-lt (limit.Number x) t = single-lt x t
+limit-lt (limit.Number x) t = omega (arith, bits-lt binary32 x t)
 
 limit-back : (o : Optional) → Below (16 ^ 8) o → finiteBits o ≡ true → limitBits (limitOf o) ≡ o
 unfolding limitOf finiteBits
 limit-back optional.None h f = refl
-limit-back (optional.Bits n) h f = ap optional.Bits (bits-back binary32 n (omega arith) f)
+limit-back (optional.Bits n) h f = ap optional.Bits (pattern-back binary32 n (omega arith) f)
 
 back-finite : (o : Optional) → finiteBits o ≡ finiteLimit (limitOf o)
 unfolding limitOf finiteBits
@@ -103,23 +88,18 @@ enabled-back n h = on (eqb n 1) refl
 abbrev pub settingsOf : AutomationEnvelope → Settings
 settingsOf e = record { target = e .target; enabled = e .enabled; min = e .«min_value»; max = e .«max_value»; step = e .«step_size» }
 
--- the limits are numbers of their type
-pub record TypedLimits (e : AutomationEnvelope) : Type 0 where
-  pub min : typedLimit (e .«min_value») ≡ true
-  pub max : typedLimit (e .«max_value») ≡ true
-  pub step : typedLimit (e .«step_size») ≡ true
-
-module _ (e : AutomationEnvelope) (t : TypedLimits e) where
+-- where its numbers are in range of their types
+module _ (e : AutomationEnvelope) (t : Parts e) where
   pub settings-read : finiteLimits (limitsOf e) ≡ true → settingsMeaning (rawSettings e) ≡ gives (settingsOf e)
   unfolding settingsMeaning rawSettings
   settings-read f =
       rw (
-        limit-finite (e .«min_value») (t .min) (finite-min e f),
-        limit-finite (e .«max_value») (t .max) (finite-max e f),
-        limit-finite (e .«step_size») (t .step) (finite-step e f),
+        limit-finite (e .«min_value») (t .least) (finite-min (limitsOf e) f),
+        limit-finite (e .«max_value») (t .greatest) (finite-max (limitsOf e) f),
+        limit-finite (e .«step_size») (t .step) (finite-step (limitsOf e) f),
         enabled-read (e .enabled),
-        limit-read (e .«min_value») (t .min),
-        limit-read (e .«max_value») (t .max),
+        limit-read (e .«min_value») (t .least),
+        limit-read (e .«max_value») (t .greatest),
         limit-read (e .«step_size») (t .step),
       )
 
@@ -128,8 +108,8 @@ module _ (e : AutomationEnvelope) (t : TypedLimits e) where
   settings-fine h = record {
     target = h;
     enabled = small (e .enabled);
-    min = limit-lt (e .«min_value») (t .min);
-    max = limit-lt (e .«max_value») (t .max);
+    min = limit-lt (e .«min_value») (t .least);
+    max = limit-lt (e .«max_value») (t .greatest);
     step = limit-lt (e .«step_size») (t .step);
   }
     where
@@ -156,17 +136,17 @@ settings-meant r s m =
     record { is = cc; min = a; max = b; step = c })))
 
 module _ (r : RawSettings) (s : Settings) (ps : Points) (m : settingsMeaning r ≡ gives s) where
-  pub back-limits : finiteLimits (limitsOf (envelopeOf s ps)) ≡ true
+  pub back-limits : finiteLimits (limitsOf (envelopeFrom s ps)) ≡ true
   back-limits =
       let k = settings-meant r s m in
-      ap (λ (x : Settings). finiteLimits (limitsOf (envelopeOf x ps))) (sym (k .is))
+      ap (λ (x : Settings). finiteLimits (limitsOf (envelopeFrom x ps))) (sym (k .is))
       ∙ rw (← back-finite (r .min), ← back-finite (r .max), ← back-finite (r .step), k .min, k .max, k .step)
 
-  pub settings-back : FineSettings r → rawSettings (envelopeOf s ps) ≡ r
+  pub settings-back : FineSettings r → rawSettings (envelopeFrom s ps) ≡ r
   unfolding rawSettings raw
   settings-back fine =
       let k = settings-meant r s m in
-      ap (λ (x : Settings). rawSettings (envelopeOf x ps)) (sym (k .is))
+      ap (λ (x : Settings). rawSettings (envelopeFrom x ps)) (sym (k .is))
       ∙ ap (λ (n : ℕ). raw (r .target) n (limitBits (limitOf (r .min))) (limitBits (limitOf (r .max))) (limitBits (limitOf (r .step)))) (enabled-back (r .enabled) (fine .enabled))
       ∙ ap (λ (o : Optional). raw (r .target) (r .enabled) o (limitBits (limitOf (r .max))) (limitBits (limitOf (r .step)))) (limit-back (r .min) (fine .min) (k .min))
       ∙ ap (λ (o : Optional). raw (r .target) (r .enabled) (r .min) o (limitBits (limitOf (r .step)))) (limit-back (r .max) (fine .max) (k .max))
@@ -192,41 +172,14 @@ position-back (optional.Bits n) = refl
 
 -- the numbers are numbers of their types
 module _ (p : AutomationPoint) (t : typedPoint p ≡ true) where
-  three : (fits binary64 (p .time) && typedPosition (p .«sample_position») && fits binary32 (p .value)) ≡ true
-  three = and-left (fits binary64 (p .time) && typedPosition (p .«sample_position») && fits binary32 (p .value)) (typedCurve (p .curve)) t
-
-  two : (fits binary64 (p .time) && typedPosition (p .«sample_position»)) ≡ true
-  two = and-left (fits binary64 (p .time) && typedPosition (p .«sample_position»)) (fits binary32 (p .value)) three
-
-  time-fits : fits binary64 (p .time) ≡ true
-  time-fits = and-left (fits binary64 (p .time)) (typedPosition (p .«sample_position»)) two
-
-  position-fits : typedPosition (p .«sample_position») ≡ true
-  position-fits = and-right (fits binary64 (p .time)) (typedPosition (p .«sample_position»)) two
-
-  value-fits : fits binary32 (p .value) ≡ true
-  value-fits = and-right (fits binary64 (p .time) && typedPosition (p .«sample_position»)) (fits binary32 (p .value)) three
-
-  curve-fits : typedCurve (p .curve) ≡ true
-  curve-fits = and-right (fits binary64 (p .time) && typedPosition (p .«sample_position») && fits binary32 (p .value)) (typedCurve (p .curve)) t
-
-  cp1-fits : fits binary32 (controls (p .curve) .cp1) ≡ true
-  cp1-fits = and-left (fits binary32 (controls (p .curve) .cp1)) (fits binary32 (controls (p .curve) .cp2)) curve-fits
-
-  cp2-fits : fits binary32 (controls (p .curve) .cp2) ≡ true
-  cp2-fits = and-right (fits binary32 (controls (p .curve) .cp1)) (fits binary32 (controls (p .curve) .cp2)) curve-fits
-
-  time-read : ofBits binary64 (toBits binary64 (p .time)) ≡ p .time
-  time-read = ofBits-toBits binary64 (p .time) (yes time-fits)
-
   pub point-read : finitePoint p ≡ true → pointMeaning (rawPoint p) ≡ gives p
   unfolding pointMeaning rawPoint
   point-read f =
       rw (
-        time-read,
-        single-read (p .value) value-fits,
-        single-read (controls (p .curve) .cp1) cp1-fits,
-        single-read (controls (p .curve) .cp2) cp2-fits,
+        bits-back binary64 (p .time) (point-parts p t .0),
+        bits-back binary32 (p .value) (point-parts p t .2),
+        bits-back binary32 (controls (p .curve) .cp1) (cp1-fits p t),
+        bits-back binary32 (controls (p .curve) .cp2) (cp2-fits p t),
         finite-time p f,
         finite-value p f,
         code-known (p .curve),
@@ -243,12 +196,12 @@ module _ (p : AutomationPoint) (t : typedPoint p ≡ true) where
   pub point-fine : FinePoint (rawPoint p)
   unfolding rawPoint
   point-fine = record {
-    time = omega (arith, toBits-lt binary64 (p .time) (yes time-fits));
-    position = position-lt (p .«sample_position») position-fits;
-    value = single-lt (p .value) value-fits;
+    time = omega (arith, bits-lt binary64 (p .time) (point-parts p t .0));
+    position = position-lt (p .«sample_position») (point-parts p t .1);
+    value = omega (arith, bits-lt binary32 (p .value) (point-parts p t .2));
     curve = omega (arith, code-lt (p .curve));
-    cp1 = single-lt (controls (p .curve) .cp1) cp1-fits;
-    cp2 = single-lt (controls (p .curve) .cp2) cp2-fits;
+    cp1 = omega (arith, bits-lt binary32 (controls (p .curve) .cp1) (cp1-fits p t));
+    cp2 = omega (arith, bits-lt binary32 (controls (p .curve) .cp2) (cp2-fits p t));
     plain = no-bits (p .curve);
   }
 
@@ -319,9 +272,9 @@ module _ (r : RawPoint) (p : AutomationPoint) (m : pointMeaning r ≡ gives p) w
       let a = ofBits binary32 (r .cp1) in
       let b = ofBits binary32 (r .cp2) in
       let c = curveOf (r .curve) a b in
-      let t = bits-back binary64 (r .time) (omega (arith, fine .time)) (k .time) in
-      let v = bits-back binary32 (r .value) (omega (arith, fine .value)) (k .value) in
-      let cs = controls-back r fine (k .curve) a b (bits-back binary32 (r .cp1) (omega (arith, fine .cp1)) (k .cp1)) (bits-back binary32 (r .cp2) (omega (arith, fine .cp2)) (k .cp2)) in
+      let t = pattern-back binary64 (r .time) (omega (arith, fine .time)) (k .time) in
+      let v = pattern-back binary32 (r .value) (omega (arith, fine .value)) (k .value) in
+      let cs = controls-back r fine (k .curve) a b (pattern-back binary32 (r .cp1) (omega (arith, fine .cp1)) (k .cp1)) (pattern-back binary32 (r .cp2) (omega (arith, fine .cp2)) (k .cp2)) in
       ap rawPoint (sym (k .is))
       ∙ ap
       (λ (n : ℕ). rawOf n (positionBits (positionOf (r .position))) (toBits binary32 (ofBits binary32 (r .value))) (code c) (toBits binary32 (controls c .cp1))

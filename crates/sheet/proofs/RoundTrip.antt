@@ -1,4 +1,4 @@
--- The sheet's two theorems, and that what the reader accepts is valid. Assumes nothing.
+-- The sheet's two theorems, and that what the reader accepts is valid: specs/Promised. Assumes nothing.
 use Prim.Native.Nat.{ℕ, _≤_}
 use mathlib.Core.Path.{_≡_, refl, sym, ap, _∙_}
 use mathlib.Core.Bool.{Bool, true, false, cond}
@@ -15,10 +15,11 @@ use Rattle.envelope.specs.declared.AutomationEnvelope.{AutomationEnvelope}
 use Rattle.lines.specs.PointLines.{Lines, stop, lines, isEmpty, pointsEnd}
 use Rattle.sheet.specs.Sheet.{sheetLines, sheet, readFrom, readSheet}
 use Rattle.sheet.specs.Text.{sheetText, WriteTold, writeSheet}
+use Rattle.sheet.specs.Promised.{WrittenIsRead, ReadIsWritten, ReadIsValid}
 use Rattle.sheet.proofs.Sheets.{SheetRead, sheet-read, sheet-written}
 
 -- what the writer writes, the reader reads back as the same envelope
-pub written-is-read : (e : AutomationEnvelope) → validEnvelope e ≡ true → typed e ≡ true → readSheet (sheetText e) ≡ sheet e
+pub written-is-read : WrittenIsRead
 unfolding readSheet
 written-is-read e v t = rw (sheet-written e t v)
 
@@ -35,11 +36,11 @@ accepted l e q = on (sheetLines false l) refl q
     on (lines f rest) p q = whole f rest q (sheet-read false l f rest p)
 
 -- what the reader accepts, the writer writes as the same bytes
-pub read-is-written : (l : List ℕ) (e : AutomationEnvelope) → readSheet l ≡ sheet e → sheetText e ≡ l
+pub read-is-written : ReadIsWritten
 read-is-written l e q = sym (accepted l e q .text ∙ append-nil (sheetText e))
 
 -- what the reader accepts is a valid envelope
-pub read-is-valid : (l : List ℕ) (e : AutomationEnvelope) → readSheet l ≡ sheet e → validEnvelope e ≡ true
+pub read-is-valid : ReadIsValid
 read-is-valid l e q = accepted l e q .valid
 
 -- ---- the same of the writer's call on a lent list

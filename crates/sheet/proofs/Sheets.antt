@@ -1,47 +1,43 @@
 -- The lines of a sheet: what is written is read back, and what is read is valid and was written so. Assumes nothing.
-use Prim.Native.Nat.{ℕ, zero, suc, _-_, _^_, _≤_, _<_}
+use Prim.Native.Nat.{ℕ, zero, suc, _-_, _≤_, _<_}
 use mathlib.Core.Path.{_≡_, refl, sym, ap, subst, _∙_}
-use mathlib.Core.Bool.{Bool, true, false, cond, _&&_, _||_}
+use mathlib.Core.Bool.{Bool, true, false, cond, _||_}
 use mathlib.Core.List.{List, [], _∷_, _++_, append-nil, append-assoc}
 use native.Mathlib.Omega.{arith}
-use borrow.Author.Tests.{le-leb, ltb-true, eqb-true}
-use lib.Dec.{ltb, eqb}
-use lib.ListN.{length, take, drop, replicate, length-append, length-drop, take-append-drop}
-use lib.Seq.{take-append-seam, drop-append-seam, length-take-le}
-use Rattle.curve.specs.Curve.{code}
-use Rattle.curve.proofs.Laws.{linear-is}
-use Rattle.curve.specs.declared.CurveType.{CurveType}
-use Rattle.points.proofs.Laws.{and-left, and-right, and-false, every-append}
-use Rattle.points.specs.Point.{finitePoint, unused, zeroFloat, isUnused, isPlusZero, isNone}
-use Rattle.points.specs.Points.{listOf, restOf, holding, every, timeKey, rising, risingBy, validPoints}
+use borrow.Author.Tests.{le-leb}
+use lib.ListN.{length, drop, replicate, length-append}
+use lib.Seq.{take-append-seam}
+use Rattle.numbers.proofs.Tests.{and-left, and-right, and-both}
+use Rattle.points.proofs.Laws.{rising-front}
+use Rattle.points.specs.Point.{finitePoint, unused}
+use Rattle.points.specs.Points.{listOf, holding, every, timeKey, rising, risingBy}
 use Rattle.points.specs.Refusal.{Said, refuses, gives}
 use Rattle.points.specs.declared.AutomationPoint.{AutomationPoint}
 use Rattle.points.specs.declared.Points.{Points}
-use Rattle.points.specs.declared.SamplePosition.{SamplePosition}
-use Rattle.points.specs.declared.SamplePosition.the-variants as position
-use Rattle.lookup.specs.Limits.{finiteLimits}
+use Rattle.limits.specs.Limits.{finiteLimits}
 use Rattle.envelope.specs.Envelope.{limitsOf, validEnvelope}
-use Rattle.envelope.specs.Typed.{typedPoint, typedPoints, typedLimit, typed}
+use Rattle.envelope.specs.Typed.{typedPoint, typed}
 use Rattle.envelope.specs.declared.AutomationEnvelope.{AutomationEnvelope}
-use lib.IntN.{pos, negsuc}
-use lib.Ieee.{Float, nan, inf, fin}
 use Rattle.fields.specs.Form.{Got, bad, got, startsWith}
 use Rattle.lines.specs.Lines.{Line, refused, line, meant, lineOf, settingsForm, settingsMeaning, settingsLine, pointForm, pointMeaning, pointLine}
 use Rattle.lines.specs.PointLines.{Lines, stop, lines, onward, isEmpty, pointsEnd, cutShort, lineAfter, pointLines}
-use Rattle.sheet.specs.Sheet.{named, settingNames, pointNames, envelopeOf, withSettings, sheetLines}
+use Rattle.sheet.specs.Sheet.{named, settingNames, pointNames, envelopeFrom, withSettings, sheetLines}
 use Rattle.sheet.specs.Text.{settingsText, pointText, rawSettings, rawPoint, pointTexts, sheetText}
 use Rattle.lines.specs.declared.settings.RawSettings.{RawSettings}
 use Rattle.lines.specs.declared.settings.Settings.{Settings}
 use Rattle.lines.specs.declared.point.RawPoint.{RawPoint}
 use Rattle.fields.proofs.Starts.{starts-back}
 use Rattle.sheet.proofs.LineForms.{read-settings, settings-found, read-point, point-found}
-use Rattle.sheet.proofs.Meanings.{settingsOf, TypedLimits, settings-read, settings-fine, settings-back, back-limits, point-read, point-fine, point-back, back-finite-point}
+use Rattle.sheet.proofs.Meanings.{settingsOf, settings-read, settings-fine, settings-back, back-limits, point-read, point-fine, point-back, back-finite-point}
 use Rattle.sheet.proofs.Texts.{point-length}
-use Rattle.sheet.proofs.Valid.{limits-finite, few, points-finite, points-rise, rest-unused}
+use Rattle.points.proofs.ValidLaws.{valid-count, valid-finite, valid-rising, listOf-length, holding-listOf, holding-valid}
+use Rattle.envelope.proofs.ValidParts.{limits-finite, points-valid}
+use Rattle.envelope.proofs.TypedLists.{listOf-typed}
+use Rattle.envelope.proofs.TypedParts.{parted, target-lt, places-length}
 
 -- ---- a line that was read
 
-no-line : {A C : Type 0} {n : ℕ} {a : A} {rest : List ℕ} → refused n ≡ line a rest → C
+pub no-line : {A C : Type 0} {n : ℕ} {a : A} {rest : List ℕ} → refused n ≡ line a rest → C
 no-line e = let z : _≡_ {A = ℕ} 0 1 = cc in absurd (omega arith)
 
 unmeant : {B C : Type 0} (m : List ℕ) (x : Said B) {b : B} {rest : List ℕ} → meant m x ≡ line b rest → (x ≡ gives b → m ≡ rest → C) → C
@@ -144,20 +140,6 @@ module _ (program : Bool) (all : Points) (rest : List ℕ) where
       on false e (refused n) k q f = no-lines q
       on false e (line p m) k q f = rose p m (rising (before ++ (p ∷ []))) refl k q (f p m)
 
--- ---- the places hold a list
-
-unused-is : (n : ℕ) → every isUnused (replicate n unused) ≡ true
-unfolding every code
-unused-is zero = refl
-unused-is (suc n) = unused-is n
-
-pub holding-valid : (ps : List AutomationPoint) → length ps ≤ 256 → every finitePoint ps ≡ true → rising ps ≡ true → validPoints (holding ps) ≡ true
-unfolding validPoints
-holding-valid ps h f r =
-    let a : listOf (holding ps) ≡ ps = take-append-seam ps (replicate (256 - length ps) unused) in
-    let b : restOf (holding ps) ≡ replicate (256 - length ps) unused = drop-append-seam ps (replicate (256 - length ps) unused) in
-    rw (le-leb (length ps) 256 h, a, b, f, r) (unused-is (256 - length ps))
-
 -- ---- a sheet that was read
 
 pub record SheetRead (program : Bool) (l : List ℕ) (e : AutomationEnvelope) (rest : List ℕ) : Type 0 where
@@ -179,10 +161,10 @@ unonward k (refused n) next e f = no-lines e
 unonward k (line a m) next e f = f a m refl e
 
 unsettled : {C : Type 0} (s : Settings) (x : Lines Points) {e : AutomationEnvelope} {rest : List ℕ} → withSettings s x ≡ lines e rest
-    → ((ps : Points) → x ≡ lines ps rest → envelopeOf s ps ≡ e → C) → C
+    → ((ps : Points) → x ≡ lines ps rest → envelopeFrom s ps ≡ e → C) → C
 unsettled s (stop n k) q f = no-lines q
 unsettled s (lines ps m) {e} {rest} q f =
-    let a : envelopeOf s ps ≡ e = cc in
+    let a : envelopeFrom s ps ≡ e = cc in
     let b : m ≡ rest = cc in
     f ps (ap (λ (l : List ℕ). lines ps l) b) a
 
@@ -201,9 +183,9 @@ sheet-read program l e rest q =
     let w = points-read program ps rest 256 [] (drop (length pointNames) l2) refl n4 in
     let found = settings-found (drop (length settingNames) l) r l2 f in
     let h = holding (w .ps) in
-    subst (λ (x : AutomationEnvelope). SheetRead program l x rest) (ap (λ (x : Points). envelopeOf s x) (sym (w .is)) ∙ same)
+    subst (λ (x : AutomationEnvelope). SheetRead program l x rest) (ap (λ (x : Points). envelopeFrom s x) (sym (w .is)) ∙ same)
     (record {
-      valid = rw (back-limits r s h m) (holding-valid (w .ps) (w .fit) (w .fine) (w .rise));
+      valid = rw (back-limits r s h m) (holding-valid (w .ps) ∙ and-both (le-leb (length (w .ps)) 256 (w .fit)) (and-both (w .fine) (w .rise)));
       end = w .end;
       text = n1
           ∙ ap (λ (x : List ℕ). settingNames ++ x) (found .text
@@ -211,19 +193,11 @@ sheet-read program l e rest q =
           ∙ ap (λ (x : List ℕ). pointNames ++ x) (w .text)))
           ∙ texts settingNames (settingsText r) pointNames (pointTexts (w .ps)) rest
           ∙ ap (λ (x : RawSettings). (settingNames ++ (settingsText x ++ (pointNames ++ pointTexts (w .ps)))) ++ rest) (sym (settings-back r s h m (found .fine)))
-          ∙ ap (λ (x : List AutomationPoint). (settingNames ++ (settingsText (rawSettings (envelopeOf s h)) ++ (pointNames ++ pointTexts x))) ++ rest)
+          ∙ ap (λ (x : List AutomationPoint). (settingNames ++ (settingsText (rawSettings (envelopeFrom s h)) ++ (pointNames ++ pointTexts x))) ++ rest)
           (sym (take-append-seam (w .ps) (replicate (256 - length (w .ps)) unused)));
     }))))))
 
 -- ---- the lines that were written
-
--- the first points of those that rise do
-rising-front : (ps qs : List AutomationPoint) → rising (ps ++ qs) ≡ true → rising ps ≡ true
-unfolding risingBy
-rising-front [] qs h = refl
-rising-front (p ∷ []) qs h = refl
-rising-front (p ∷ (q ∷ ps)) qs h =
-    rw (and-left (ltb (timeKey p) (timeKey q)) (rising (q ∷ (ps ++ qs))) h) (rising-front (q ∷ ps) qs (and-right (ltb (timeKey p) (timeKey q)) (rising (q ∷ (ps ++ qs))) h))
 
 not-empty : (l : List ℕ) → 0 < length l → pointsEnd false l ≡ false
 unfolding pointsEnd isEmpty
@@ -241,111 +215,25 @@ points-written (suc room) before (p ∷ ps) h t f r =
     let some : pointsEnd false l ≡ false = not-empty l (omega (arith, length-append (pointText (rawPoint p)) (pointTexts ps), point-length (rawPoint p))) in
     let rs : rising ((before ++ (p ∷ [])) ++ ps) ≡ true = ap rising (append-assoc before (p ∷ []) ps) ∙ r in
     let read : pointLine l ≡ line p (pointTexts ps) = point-line p (pointTexts ps) (and-left (typedPoint p) (every typedPoint ps) t) (and-left (finitePoint p) (every finitePoint ps) f) in
-    rw (some, read, rising-front (before ++ (p ∷ [])) ps rs)
+    rw (some, read, rising-front timeKey (before ++ (p ∷ [])) ps rs)
     (points-written room (before ++ (p ∷ [])) ps (omega arith) (and-right (typedPoint p) (every typedPoint ps) t) (and-right (finitePoint p) (every finitePoint ps) f) rs
     ∙ ap (λ (m : List AutomationPoint). lines (holding m) []) (append-assoc before (p ∷ []) ps))
 
--- ---- the places past the count
-
-plus-zero : (x : Float) → isPlusZero x ≡ true → x ≡ zeroFloat
-plus-zero nan h = let z : _≡_ {A = ℕ} 0 1 = cc in absurd (omega arith)
-plus-zero (inf s) h = let z : _≡_ {A = ℕ} 0 1 = cc in absurd (omega arith)
-plus-zero (fin true m e) h = let z : _≡_ {A = ℕ} 0 1 = cc in absurd (omega arith)
-plus-zero (fin false m (negsuc k)) h = let z : false ≡ true = sym (and-false (eqb m 0)) ∙ h in let k : _≡_ {A = ℕ} 0 1 = cc in absurd (omega arith)
-plus-zero (fin false m (pos k)) h =
-    let a : m ≡ 0 = eqb-true m 0 (and-left (eqb m 0) (eqb k 0) h) in
-    let b : k ≡ 0 = eqb-true k 0 (and-right (eqb m 0) (eqb k 0) h) in
-    rw (a, b)
-
-none-is : (p : SamplePosition) → isNone p ≡ true → p ≡ position.None
-none-is position.None h = refl
-none-is (position.At n) h = let z : _≡_ {A = ℕ} 0 1 = cc in absurd (omega arith)
-
-point : Float → SamplePosition → Float → CurveType → AutomationPoint
-point t s v c = record { time = t; «sample_position» = s; value = v; curve = c }
-
-is-unused : (p : AutomationPoint) → isUnused p ≡ true → p ≡ unused
-unfolding point
-is-unused p h =
-    let a = isPlusZero (p .time) in
-    let b = isNone (p .«sample_position») in
-    let c = isPlusZero (p .value) in
-    let abc : (a && b && c) ≡ true = and-left (a && b && c) _ h in
-    let ab : (a && b) ≡ true = and-left (a && b) c abc in
-    ap (λ (x : Float). point x (p .«sample_position») (p .value) (p .curve)) (plus-zero (p .time) (and-left a b ab))
-    ∙ ap (λ (x : SamplePosition). point zeroFloat x (p .value) (p .curve)) (none-is (p .«sample_position») (and-right a b ab))
-    ∙ ap (λ (x : Float). point zeroFloat position.None x (p .curve)) (plus-zero (p .value) (and-right (a && b) c abc))
-    ∙ ap (λ (x : CurveType). point zeroFloat position.None zeroFloat x) (linear-is (p .curve) (and-right (a && b && c) _ h))
-
-all-unused : (l : List AutomationPoint) → every isUnused l ≡ true → l ≡ replicate (length l) unused
-unfolding every
-all-unused [] h = refl
-all-unused (p ∷ l) h =
-    let a : p ≡ unused = is-unused p (and-left (isUnused p) (every isUnused l) h) in
-    let b : l ≡ replicate (length l) unused = all-unused l (and-right (isUnused p) (every isUnused l) h) in
-    cc
-
-places-held : ℕ → List AutomationPoint → Points
-places-held n l = record { count = n; places = l }
-
-pub held : (ps : Points) → length (ps .places) ≡ 256 → ps .count ≤ 256 → every isUnused (restOf ps) ≡ true → holding (listOf ps) ≡ ps
-unfolding places-held
-held ps l h u =
-    let n : length (listOf ps) ≡ ps .count = length-take-le (ps .count) (ps .places) (omega arith) in
-    let m : 256 - length (listOf ps) ≡ length (restOf ps) = omega (arith, length-drop (ps .count) (ps .places)) in
-    ap (λ (k : ℕ). places-held k (listOf ps ++ replicate (256 - length (listOf ps)) unused)) n
-    ∙ ap (λ (k : ℕ). places-held (ps .count) (listOf ps ++ replicate k unused)) m
-    ∙ ap (λ (x : List AutomationPoint). places-held (ps .count) (listOf ps ++ x)) (sym (all-unused (restOf ps) u))
-    ∙ ap (λ (x : List AutomationPoint). places-held (ps .count) x) (take-append-drop (ps .count) (ps .places))
-
 -- ---- a sheet that was written
 
-every-front : (q : AutomationPoint → Bool) (n : ℕ) (l : List AutomationPoint) → every q l ≡ true → every q (take n l) ≡ true
-every-front q n l h = and-left (every q (take n l)) (every q (drop n l)) (sym (every-append q (take n l) (drop n l)) ∙ ap (every q) (take-append-drop n l) ∙ h)
-
--- the parts of `typed`
 module _ (e : AutomationEnvelope) (t : typed e ≡ true) where
-  four : (ltb (e .target) 0x1_0000_0000 && typedLimit (e .«min_value») && typedLimit (e .«max_value») && typedLimit (e .«step_size»)) ≡ true
-  unfolding typed
-  four = and-left (ltb (e .target) 0x1_0000_0000 && typedLimit (e .«min_value») && typedLimit (e .«max_value») && typedLimit (e .«step_size»)) (typedPoints (e .points)) t
-
-  places-typed : typedPoints (e .points) ≡ true
-  unfolding typed
-  places-typed = and-right (ltb (e .target) 0x1_0000_0000 && typedLimit (e .«min_value») && typedLimit (e .«max_value») && typedLimit (e .«step_size»)) (typedPoints (e .points)) t
-
-  three : (ltb (e .target) 0x1_0000_0000 && typedLimit (e .«min_value») && typedLimit (e .«max_value»)) ≡ true
-  three = and-left (ltb (e .target) 0x1_0000_0000 && typedLimit (e .«min_value») && typedLimit (e .«max_value»)) (typedLimit (e .«step_size»)) four
-
-  two : (ltb (e .target) 0x1_0000_0000 && typedLimit (e .«min_value»)) ≡ true
-  two = and-left (ltb (e .target) 0x1_0000_0000 && typedLimit (e .«min_value»)) (typedLimit (e .«max_value»)) three
-
-  limits-typed : TypedLimits e
-  limits-typed = record {
-    min = and-right (ltb (e .target) 0x1_0000_0000) (typedLimit (e .«min_value»)) two;
-    max = and-right (ltb (e .target) 0x1_0000_0000 && typedLimit (e .«min_value»)) (typedLimit (e .«max_value»)) three;
-    step = and-right (ltb (e .target) 0x1_0000_0000 && typedLimit (e .«min_value») && typedLimit (e .«max_value»)) (typedLimit (e .«step_size»)) four;
-  }
-
-  target-typed : e .target < 2 ^ 32
-  target-typed = ltb-true (e .target) 0x1_0000_0000 (and-left (ltb (e .target) 0x1_0000_0000) (typedLimit (e .«min_value»)) two)
-
-  length-typed : length (e .points .places) ≡ 256
-  length-typed = eqb-true (length (e .points .places)) 256 (and-left (eqb (length (e .points .places)) 256) (every typedPoint (e .points .places)) places-typed)
-
-  list-typed : every typedPoint (listOf (e .points)) ≡ true
-  list-typed = every-front typedPoint (e .points .count) (e .points .places) (and-right (eqb (length (e .points .places)) 256) (every typedPoint (e .points .places)) places-typed)
-
   settings-line : finiteLimits (limitsOf e) ≡ true → (rest : List ℕ) → settingsLine (settingsText (rawSettings e) ++ rest) ≡ line (settingsOf e) rest
   unfolding settingsLine
-  settings-line f rest = rw (read-settings (rawSettings e) rest (settings-fine e limits-typed target-typed), settings-read e limits-typed f)
+  settings-line f rest = rw (read-settings (rawSettings e) rest (settings-fine e (parted e t) (target-lt e t)), settings-read e (parted e t) f)
 
   pub sheet-written : validEnvelope e ≡ true → sheetLines false (sheetText e) ≡ lines e []
   unfolding sheetLines sheetText startsWith
   sheet-written v =
       let ps = listOf (e .points) in
-      let ended : length ps ≤ 256 = omega (arith, length-take-le (e .points .count) (e .points .places) (omega (arith, length-typed, few e v)), few e v) in
+      let valid = points-valid e v in
+      let ended : length ps ≤ 256 = omega (arith, listOf-length (e .points) valid (places-length e t), valid-count (e .points) valid) in
       rw (
         settings-line (limits-finite e v) (pointNames ++ pointTexts ps),
-        points-written 256 [] ps ended list-typed (points-finite e v) (points-rise e v),
-        held (e .points) length-typed (few e v) (rest-unused e v),
+        points-written 256 [] ps ended (listOf-typed (e .points) (parted e t .points)) (valid-finite (e .points) valid) (valid-rising (e .points) valid),
+        holding-listOf (e .points) valid (places-length e t),
       )

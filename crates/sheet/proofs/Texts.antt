@@ -9,8 +9,7 @@ use borrow.Author.Tests.{eq-eqb, ne-eqb, eqb-true, eqb-false}
 use lib.Dec.{eqb}
 use lib.ListN.{length, take, getD, length-append, length-take}
 use lib.Seq.{take-suc}
-use Rattle.points.proofs.Laws.{and-right, and-left}
-use Rattle.points.specs.Points.{listOf, every}
+use Rattle.points.specs.Points.{listOf}
 use Rattle.points.specs.declared.AutomationPoint.{AutomationPoint}
 use Rattle.envelope.specs.declared.AutomationEnvelope.{AutomationEnvelope}
 use Rattle.fields.specs.Text.{numberText, optionalText, placesOf, decimalText}
@@ -133,14 +132,6 @@ module _ (l : List AutomationPoint) (i : ℕ) (d : AutomationPoint) (inside : i 
 
   pub text-put : {out′ : List ℕ} {at′ : ℕ} → Put out at (pointText (rawPoint (getD l i d))) out′ at′ → Put out₀ start (pointTexts (take (i + 1) l)) out′ at′
   text-put q = rw (texts-more l i d inside) (put-then p q)
-
--- each of the points passes
-pub every-at : (q : AutomationPoint → Bool) (l : List AutomationPoint) (n i : ℕ) (d : AutomationPoint) → every q (take n l) ≡ true → i < n → i < length l → q (getD l i d) ≡ true
-unfolding every
-every-at q l zero i d e h k = absurd (omega arith)
-every-at q [] (suc n) i d e h k = absurd (omega arith)
-every-at q (x ∷ l) (suc n) zero d e h k = and-left (q x) _ e
-every-at q (x ∷ l) (suc n) (suc i) d e h k = every-at q l n i d (and-right (q x) _ e) (omega arith) (omega arith)
 
 -- ---- the whole sheet
 

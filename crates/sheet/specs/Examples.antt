@@ -12,7 +12,7 @@ use Rattle.curve.specs.declared.CurveType.the-variants.{Linear}
 use Rattle.points.specs.Points.{holding, risingBy}
 use Rattle.points.specs.declared.AutomationPoint.{AutomationPoint}
 use Rattle.points.specs.declared.SamplePosition.the-variants as position
-use Rattle.lookup.specs.declared.Limit.the-variants as limit
+use Rattle.limits.specs.declared.Limit.the-variants as limit
 use Rattle.envelope.specs.declared.AutomationEnvelope.{AutomationEnvelope}
 use Rattle.fields.specs.Form.{text, startsWith, nextIs, readDigits, numberForm, optionalForm, decimals, nextDigit, targetForm}
 use Rattle.lines.specs.Lines.{settingsForm, limitOf, finiteBits, settingsMeaning, settingsLine, controlsForm, pointForm, positionOf, pointMeaning, pointLine, blockForm, blockMeaning, blockLine}

@@ -26,13 +26,13 @@ pointNames = text "time position value curve cp1 cp2\n"
 -- ---- a sheet's lines, up to where the points end
 
 -- the envelope with these settings and points
-abbrev pub envelopeOf : Settings → Points → AutomationEnvelope
-envelopeOf s ps = record { target = s .target; points = ps; enabled = s .enabled; «min_value» = s .min; «max_value» = s .max; «step_size» = s .step }
+abbrev pub envelopeFrom : Settings → Points → AutomationEnvelope
+envelopeFrom s ps = record { target = s .target; points = ps; enabled = s .enabled; «min_value» = s .min; «max_value» = s .max; «step_size» = s .step }
 
 -- the points with the settings of line 2
 abbrev pub withSettings : Settings → Lines Points → Lines AutomationEnvelope
 withSettings s (stop n k) = stop n k
-withSettings s (lines ps rest) = lines (envelopeOf s ps) rest
+withSettings s (lines ps rest) = lines (envelopeFrom s ps) rest
 
 -- names, settings, names, points
 unfoldable pub sheetLines : Bool → List ℕ → Lines AutomationEnvelope

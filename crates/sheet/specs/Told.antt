@@ -3,7 +3,7 @@ use Prim.Native.Nat.{ℕ}
 use mathlib.Core.List.{List}
 use lib.ListN.{drop}
 use Rattle.points.specs.Refusal.{number, Said, refuses, gives}
-use Rattle.points.specs.Point.{zeroFloat}
+use Rattle.numbers.specs.Bounds.{zero64}
 use Rattle.envelope.specs.Envelope.{new}
 use Rattle.envelope.specs.declared.AutomationEnvelope.{AutomationEnvelope}
 use Rattle.lines.specs.PointLines.{Lines}
@@ -49,7 +49,7 @@ toldInput r = inputBy (r .answer) (r .envelope) (record { rate = r .rate; durati
 
 -- the result with this answer: what is to be played, or an empty envelope and zeros beside a refusal
 abbrev pub inputHeld : SheetAnswer → Input → PlayInput
-inputHeld a (declined n k) = record { answer = a; envelope = new 0; rate = zeroFloat; duration = zeroFloat }
+inputHeld a (declined n k) = record { answer = a; envelope = new 0; rate = zero64; duration = zero64 }
 inputHeld a (input e b) = record { answer = a; envelope = e; rate = b .rate; duration = b .duration }
 
 -- ---- the writer

@@ -1,15 +1,16 @@
 -- The ways out of the calls. Assumes nothing.
 use Prim.Native.Nat.{ℕ, _≤_, _<_}
 use mathlib.Core.Path.{_≡_, sym, ap, _∙_}
-use mathlib.Core.Bool.{Bool, true, false, _&&_}
+use mathlib.Core.Bool.{Bool, true, false, _&&_, and-false}
 use mathlib.Core.List.{List, _++_}
 use mathlib.Core.Option.{some}
 use borrow.Author.Tests.{lt-ltb, le-ltb}
 use lib.Dec.{eqb}
 use lib.ListN.{length, take, drop}
+use Rattle.numbers.proofs.Tests.{and-both}
 use Rattle.points.specs.Refusal.{refuses, gives}
 use Rattle.points.specs.Points.{everyPair}
-use Rattle.points.proofs.Laws.{and-false, and-both, pair-length}
+use Rattle.points.proofs.Laws.{pair-length}
 use Rattle.points.specs.declared.refusal.Refusal.the-variants.{StoredState}
 use Rattle.points.specs.declared.refusal.Answer.the-variants.{Accepted}
 use Rattle.envelope.specs.Envelope.{new, validEnvelope}

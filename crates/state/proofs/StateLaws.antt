@@ -6,28 +6,31 @@ use mathlib.Core.List.{List, [], _∷_, _++_}
 use mathlib.Core.Option.{some, Option·some-injective, Option·none-ne-some}
 use native.Mathlib.Nat.{mod-eq-of-lt}
 use native.Mathlib.Omega.{arith}
-use borrow.Author.Tests.{ltb-true, lt-ltb, eqb-true, eq-eqb}
+use borrow.Author.Tests.{lt-ltb, eqb-true, eq-eqb}
 use lib.Arith.{digits-lt, digits-div, digits-mod}
 use lib.Dec.{ltb, eqb}
 use lib.ListN.{length, getD, drop, length-append}
-use lib.Ieee.{Float, Format, binary32, binary64, ofBits, toBits, fits, top}
-use lib.Ieee.Bits.{is-true, ofBits-toBits, toBits-lt, ofBits-fits}
-use Rattle.numbers.proofs.Tests.{yes}
+use lib.Ieee.{Float, Format, binary32, binary64, ofBits, toBits, fits}
+use lib.Ieee.Bits.{is-true, ofBits-fits}
+use Rattle.numbers.proofs.Tests.{and-left, and-right, and-both}
+use Rattle.numbers.proofs.BitLaws.{bits-lt, bits-back}
 use Rattle.curve.specs.Curve.{code, controls, curves, curveOf}
 use Rattle.curve.proofs.Laws.{code-lt, curveOf-code}
 use Rattle.curve.specs.declared.CurveType.the-variants.{Linear}
 use Rattle.points.specs.Points.{every, everyPair}
-use Rattle.points.proofs.Laws.{and-left, and-right, and-both, every-append}
+use Rattle.points.proofs.Laws.{every-append, every-getD, every-drop}
 use Rattle.points.specs.declared.AutomationPoint.{AutomationPoint}
 use Rattle.points.specs.declared.SamplePosition.{SamplePosition}
 use Rattle.points.specs.declared.SamplePosition.the-variants as position
-use Rattle.lookup.specs.declared.Limit.{Limit}
-use Rattle.lookup.specs.declared.Limit.the-variants as limit
+use Rattle.limits.specs.declared.Limit.{Limit}
+use Rattle.limits.specs.declared.Limit.the-variants as limit
 use Rattle.envelope.specs.Envelope.{limitsOf, validEnvelope}
-use Rattle.envelope.specs.Typed.{typedCurve, typedPosition, typedPoint, typedPoints, typedLimit, typed}
+use Rattle.envelope.specs.Typed.{typedCurve, typedPosition, typedPoint, typedLimit, typed}
+use Rattle.envelope.proofs.TypedParts.{point-parts, cp1-fits, cp2-fits, parted, target-lt, places-length, places-typed}
 use Rattle.envelope.specs.declared.AutomationEnvelope.{AutomationEnvelope}
 use Rattle.state.specs.State.{halves, high, low, flag, bit, hasLimit, limitBits, limitOf, hasPosition, positionWord, positionOf, flags, packSettings, packPoint, pointOf, packPoints, pointsOf}
 use Rattle.state.specs.State.{pack, stateOf, ifTest, unpacked}
+use Rattle.state.specs.Promised.{ReadsBack, OneToOne}
 
 -- ---- the parts of a word
 
@@ -44,55 +47,6 @@ flag-lt false = omega arith
 flag-back : (b : Bool) {n : ℕ} → n ≡ flag b → eqb n 1 ≡ b
 flag-back true e = eq-eqb _ 1 e
 flag-back false e = rw e
-
-pub bits-lt : (f : Format) (x : Float) → fits f x ≡ true → toBits f x < 2 * top f
-bits-lt f x t = toBits-lt f x (yes t)
-
-bits-back : (f : Format) (x : Float) → fits f x ≡ true → ofBits f (toBits f x) ≡ x
-bits-back f x t = ofBits-toBits f x (yes t)
-
--- ---- what the tests of `typed` tell
-
-four-true : (a b c d : Bool) → (a && b && c && d) ≡ true → (a ≡ true) × (b ≡ true) × (c ≡ true) × (d ≡ true)
-four-true a b c d t =
-    let abc = and-left (a && b && c) d t in
-    let ab = and-left (a && b) c abc in
-    (and-left a b ab, and-right a b ab, and-right (a && b) c abc, and-right (a && b && c) d t)
-
-module _ (p : AutomationPoint) (t : typedPoint p ≡ true) where
-  -- the time, the position, the value, the curve
-  point-typings : (fits binary64 (p .time) ≡ true) × (typedPosition (p .«sample_position») ≡ true) × (fits binary32 (p .value) ≡ true) × (typedCurve (p .curve) ≡ true)
-  point-typings = four-true (fits binary64 (p .time)) (typedPosition (p .«sample_position»)) (fits binary32 (p .value)) (typedCurve (p .curve)) t
-
-  cp1-fits : fits binary32 (controls (p .curve) .cp1) ≡ true
-  cp1-fits = and-left (fits binary32 (controls (p .curve) .cp1)) (fits binary32 (controls (p .curve) .cp2)) (point-typings .3)
-
-  cp2-fits : fits binary32 (controls (p .curve) .cp2) ≡ true
-  cp2-fits = and-right (fits binary32 (controls (p .curve) .cp1)) (fits binary32 (controls (p .curve) .cp2)) (point-typings .3)
-
-module _ (e : AutomationEnvelope) (t : typed e ≡ true) where
-  settings-test : Bool
-  settings-test = ltb (e .target) 0x1_0000_0000 && typedLimit (e .«min_value») && typedLimit (e .«max_value») && typedLimit (e .«step_size»)
-
-  -- the target, the minimum, the maximum, the step
-  settings-typings : (ltb (e .target) 0x1_0000_0000 ≡ true) × (typedLimit (e .«min_value») ≡ true) × (typedLimit (e .«max_value») ≡ true) × (typedLimit (e .«step_size») ≡ true)
-  unfolding typed settings-test
-  settings-typings =
-      four-true (ltb (e .target) 0x1_0000_0000) (typedLimit (e .«min_value»)) (typedLimit (e .«max_value»)) (typedLimit (e .«step_size»))
-      (and-left settings-test (typedPoints (e .points)) t)
-
-  points-typing : typedPoints (e .points) ≡ true
-  unfolding typed settings-test
-  points-typing = and-right settings-test (typedPoints (e .points)) t
-
-  pub places-length : length (e .points .places) ≡ 256
-  places-length = eqb-true (length (e .points .places)) 256 (and-left (eqb (length (e .points .places)) 256) (every typedPoint (e .points .places)) points-typing)
-
-  places-typing : every typedPoint (e .points .places) ≡ true
-  places-typing = and-right (eqb (length (e .points .places)) 256) (every typedPoint (e .points .places)) points-typing
-
-  target-lt : e .target < 0x1_0000_0000
-  target-lt = ltb-true (e .target) 0x1_0000_0000 (settings-typings .0)
 
 -- ---- a number or none
 
@@ -113,7 +67,7 @@ position-back (position.At n) e = rw e
 point-back : (p : AutomationPoint) (l : List ℕ) → typedPoint p ≡ true → pointOf (packPoint p ++ l) ≡ p
 unfolding packPoint pointOf
 point-back p l t =
-    let typings = point-typings p t in
+    let typings = point-parts p t in
     let cp1 = cp1-fits p t in
     let cp2 = cp2-fits p t in
     let value-lt : toBits binary32 (p .value) < 0x1_0000_0000 = bits-lt binary32 (p .value) (typings .2) in
@@ -166,11 +120,11 @@ module _ (a b c d : Bool) where
       let hd = flag-lt d in
       (omega arith, omega arith, omega arith, omega arith)
 
-pub stateOf-pack : (e : AutomationEnvelope) → typed e ≡ true → stateOf (pack e) ≡ e
+pub stateOf-pack : ReadsBack
 unfolding stateOf pack packSettings four
 stateOf-pack e t =
-    let s = settings-typings e t in
-    let min-lt : limitBits (e .«min_value») < 0x1_0000_0000 = limit-lt (e .«min_value») (s .1) in
+    let s = parted e t in
+    let min-lt : limitBits (e .«min_value») < 0x1_0000_0000 = limit-lt (e .«min_value») (s .least) in
     let flags-are : high (halves (flags (e .enabled) (limitsOf e)) (e .target)) ≡ flags (e .enabled) (limitsOf e) = high-halves (flags (e .enabled) (limitsOf e)) (target-lt e t) in
     let bits = bits-of-four (e .enabled) (hasLimit (e .«min_value»)) (hasLimit (e .«max_value»)) (hasLimit (e .«step_size»)) in
     λ i. record {
@@ -180,16 +134,16 @@ stateOf-pack e t =
         places = (
             ap (pointsOf 256) (after-settings e (packPoints (e .points .places)))
             ∙ ap (λ (n : ℕ). pointsOf n (packPoints (e .points .places))) (sym (places-length e t))
-            ∙ points-back (e .points .places) (places-typing e t)) i;
+            ∙ points-back (e .points .places) (places-typed e t)) i;
       };
       enabled = flag-back (e .enabled) (ap (λ (n : ℕ). n / 1 % 2) flags-are ∙ bits .0) i;
-      «min_value» = limit-back (e .«min_value») (s .1) (flag-back _ (ap (λ (n : ℕ). n / 2 % 2) flags-are ∙ bits .1)) (low-halves (limitBits (e .«max_value»)) min-lt) i;
-      «max_value» = limit-back (e .«max_value») (s .2) (flag-back _ (ap (λ (n : ℕ). n / 4 % 2) flags-are ∙ bits .2)) (high-halves (limitBits (e .«max_value»)) min-lt) i;
-      «step_size» = limit-back (e .«step_size») (s .3) (flag-back _ (ap (λ (n : ℕ). n / 8 % 2) flags-are ∙ bits .3)) (mod-eq-of-lt (limit-lt (e .«step_size») (s .3))) i;
+      «min_value» = limit-back (e .«min_value») (s .least) (flag-back _ (ap (λ (n : ℕ). n / 2 % 2) flags-are ∙ bits .1)) (low-halves (limitBits (e .«max_value»)) min-lt) i;
+      «max_value» = limit-back (e .«max_value») (s .greatest) (flag-back _ (ap (λ (n : ℕ). n / 4 % 2) flags-are ∙ bits .2)) (high-halves (limitBits (e .«max_value»)) min-lt) i;
+      «step_size» = limit-back (e .«step_size») (s .step) (flag-back _ (ap (λ (n : ℕ). n / 8 % 2) flags-are ∙ bits .3)) (mod-eq-of-lt (limit-lt (e .«step_size») (s .step))) i;
     }
 
 -- "packed one-to-one": the same words, the same envelope
-pub pack-one : (e f : AutomationEnvelope) → typed e ≡ true → typed f ≡ true → pack e ≡ pack f → e ≡ f
+pub pack-one : OneToOne
 pack-one e f t u h = sym (stateOf-pack e t) ∙ ap stateOf h ∙ stateOf-pack f u
 
 -- ---- "1,028 words"
@@ -229,7 +183,7 @@ position-word (position.At n) t = t
 point-words : (p : AutomationPoint) → typedPoint p ≡ true → every word (packPoint p) ≡ true
 unfolding packPoint every
 point-words p t =
-    let typings = point-typings p t in
+    let typings = point-parts p t in
     let has = flag (hasPosition (p .«sample_position»)) in
     let tag-lt : code (p .curve) * 2 + has < 0x1_0000_0000 = omega (arith, code-lt (p .curve), flag-lt (hasPosition (p .«sample_position»))) in
     and-both (lt-ltb (toBits binary64 (p .time)) 0x1_0000_0000_0000_0000 (bits-lt binary64 (p .time) (typings .0)))
@@ -247,13 +201,13 @@ points-words (p ∷ l) t =
 settings-words : (e : AutomationEnvelope) → typed e ≡ true → word (e .points .count) ≡ true → every word (packSettings e) ≡ true
 unfolding packSettings every
 settings-words e t n =
-    let s = settings-typings e t in
+    let s = parted e t in
     let flags-lt : flags (e .enabled) (limitsOf e) < 0x1_0000_0000 = omega
     (arith, flag-lt (e .enabled), flag-lt (hasLimit (e .«min_value»)), flag-lt (hasLimit (e .«max_value»)), flag-lt (hasLimit (e .«step_size»))) in
-    let step-lt : limitBits (e .«step_size») < 0x1_0000_0000 = limit-lt (e .«step_size») (s .3) in
+    let step-lt : limitBits (e .«step_size») < 0x1_0000_0000 = limit-lt (e .«step_size») (s .step) in
     and-both (halves-word _ _ flags-lt (target-lt e t))
     (and-both n
-    (and-both (halves-word _ _ (limit-lt (e .«max_value») (s .2)) (limit-lt (e .«min_value») (s .1)))
+    (and-both (halves-word _ _ (limit-lt (e .«max_value») (s .greatest)) (limit-lt (e .«min_value») (s .least)))
     (and-both (lt-ltb (limitBits (e .«step_size»)) 0x1_0000_0000_0000_0000 (omega arith)) refl)))
 
 -- `typed` does not speak of the count, which is a word of its own
@@ -261,7 +215,7 @@ pub pack-words : (e : AutomationEnvelope) → typed e ≡ true → word (e .poin
 unfolding pack
 pack-words e t n =
     every-append word (packSettings e) (packPoints (e .points .places))
-    ∙ and-both (settings-words e t n) (points-words (e .points .places) (places-typing e t))
+    ∙ and-both (settings-words e t n) (points-words (e .points .places) (places-typed e t))
 
 -- ---- unpacking
 
@@ -305,18 +259,6 @@ module _ (w : List ℕ) (e : AutomationEnvelope) (h : unpacked w ≡ some e) whe
 
 read-fits : (f : Format) (n : ℕ) → fits f (ofBits f n) ≡ true
 read-fits f n = is-true (fits f (ofBits f n)) (ofBits-fits f n)
-
-every-getD : {A : Type 0} (q : A → Bool) (l : List A) (i : ℕ) (d : A) → q d ≡ true → every q l ≡ true → q (getD l i d) ≡ true
-unfolding every
-every-getD q [] i d h t = h
-every-getD q (x ∷ l) zero d h t = and-left (q x) (every q l) t
-every-getD q (x ∷ l) (suc i) d h t = every-getD q l i d h (and-right (q x) (every q l) t)
-
-every-drop : {A : Type 0} (q : A → Bool) (n : ℕ) (l : List A) → every q l ≡ true → every q (drop n l) ≡ true
-unfolding every
-every-drop q zero l t = t
-every-drop q (suc n) [] t = t
-every-drop q (suc n) (x ∷ l) t = every-drop q n l (and-right (q x) (every q l) t)
 
 curve-typed : (n : ℕ) (cp1 cp2 : Float) → fits binary32 cp1 ≡ true → fits binary32 cp2 ≡ true → typedCurve (curveOf n cp1 cp2) ≡ true
 unfolding curveOf fits controls ofBits every

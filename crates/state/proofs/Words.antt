@@ -1,7 +1,7 @@
 -- The words of a state, as the loops write and read them. Assumes nothing.
 use Prim.Native.Nat.{ℕ, zero, suc, _+_, _*_, _≤_, _<_}
 use mathlib.Core.Path.{_≡_, refl, sym, ap, _∙_}
-use mathlib.Core.Bool.{Bool, true, _&&_}
+use mathlib.Core.Bool.{Bool, true, _&&_, and-true, and-assoc}
 use mathlib.Core.List.{List, [], _∷_, _++_, append-assoc, append-nil}
 use native.Mathlib.Nat.{add-zero, not-suc-le-zero, le-of-suc-le-suc}
 use native.Mathlib.Numerals.{add-one}
@@ -9,11 +9,12 @@ use native.Mathlib.Omega.{arith}
 use lib.Dec.{eqb}
 use lib.Ieee.{ofBits, toBits}
 use borrow.Author.Tests.{eqb-true}
+use Rattle.numbers.proofs.Tests.{and-both, and-left, and-right}
+use Rattle.fields.proofs.Stores.{sets-append}
 use Rattle.curve.specs.Curve.{code, controls, curveOf}
 use lib.ListN.{length, getD, take, drop, set, length-drop, take-append-drop}
 use lib.Seq.{sets, sets-eq, length-sets, take-suc, take-suc-set, take-all, take-add, drop-cons, drop-drop, getD-drop, length-take-le}
 use Rattle.points.specs.Points.{everyPair}
-use Rattle.points.proofs.Laws.{and-true, and-assoc, and-both, and-left, and-right}
 use Rattle.points.specs.Point.{unused}
 use Rattle.points.specs.declared.AutomationPoint.{AutomationPoint}
 use Rattle.envelope.specs.declared.AutomationEnvelope.{AutomationEnvelope}
@@ -21,13 +22,6 @@ use Rattle.state.specs.State.{packSettings, packPoint, pointOf, packPoin
 use Rattle.state.proofs.StateLaws.{length-settings, length-points, length-places, length-pointsOf}
 
 -- ---- runs of stores
-
--- one run after another
-sets-append : (l : List ℕ) (i : ℕ) (us vs : List ℕ) → sets l i (us ++ vs) ≡ sets (sets l i us) (i + length us) vs
-sets-append l i [] vs = ap (λ (k : ℕ). sets l k vs) (sym (add-zero i))
-sets-append l i (a ∷ us) vs =
-    let k : suc i + length us ≡ i + suc (length us) = omega arith in
-    sets-append (set l i a) (suc i) us vs ∙ ap (λ (n : ℕ). sets (sets (set l i a) (suc i) us) n vs) k
 
 -- four stores from a place on
 pub four-stores : (l : List ℕ) (at a b c d : ℕ) → set (set (set (set l at a) (at + 1) b) (at + 2) c) (at + 3) d ≡ sets l at (a ∷ b ∷ c ∷ d ∷ [])

@@ -9,7 +9,7 @@ use Rattle.curve.specs.declared.CurveType.the-variants.{QuadIn}
 use Rattle.points.specs.Points.{holding}
 use Rattle.points.specs.declared.AutomationPoint.{AutomationPoint}
 use Rattle.points.specs.declared.SamplePosition.the-variants as position
-use Rattle.lookup.specs.declared.Limit.the-variants as limit
+use Rattle.limits.specs.declared.Limit.the-variants as limit
 use Rattle.envelope.specs.declared.AutomationEnvelope.{AutomationEnvelope}
 use Rattle.state.specs.State.{packSettings, packPoint, packPoints, pack}
 

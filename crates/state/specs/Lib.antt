@@ -1,3 +1,5 @@
--- The stored state of an envelope: its words, the laws of reading and writing them, and an example.
+-- The stored state of an envelope: its words, what is read of them, and what a call writes.
 pub mod State
+-- What is promised beyond the contracts.
+pub mod Promised
 pub mod Examples

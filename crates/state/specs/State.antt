@@ -13,9 +13,9 @@ use Rattle.points.specs.Points.{everyPair}
 use Rattle.points.specs.declared.AutomationPoint.{AutomationPoint}
 use Rattle.points.specs.declared.SamplePosition.{SamplePosition}
 use Rattle.points.specs.declared.SamplePosition.the-variants as position
-use Rattle.lookup.specs.declared.Limit.{Limit}
-use Rattle.lookup.specs.declared.Limit.the-variants as limit
-use Rattle.lookup.specs.declared.Limits.{Limits}
+use Rattle.limits.specs.declared.Limit.{Limit}
+use Rattle.limits.specs.declared.Limit.the-variants as limit
+use Rattle.limits.specs.declared.Limits.{Limits}
 use Rattle.envelope.specs.Envelope.{new, limitsOf, validEnvelope}
 use Rattle.envelope.specs.Edit.{EditTold, declined}
 use Rattle.envelope.specs.declared.AutomationEnvelope.{AutomationEnvelope}

@@ -11,7 +11,7 @@ ghost use Rattle.state.specs.State.{high, low, bit, limitOf, positionOf,
 use curve::CurveType;
 use envelope::AutomationEnvelope;
 use envelope::Edited;
-use lookup::Limit;
+use limits::Limit;
 use points::AutomationPoint;
 use points::Points;
 use points::SamplePosition;

@@ -4,7 +4,7 @@ use native.Mathlib.Omega.{arith}
 use lib.Dec.{leb}
 use lib.ListN.{length}
 use borrow.Author.Tests.{leb-true}
-use Rattle.points.proofs.Laws.{and-left, and-right}
+use Rattle.numbers.proofs.Tests.{and-left, and-right}
 use Rattle.analysis.specs.Analysis.{Filled}
 use Rattle.analysis.specs.Ranges.{middleTest}
 use Rattle.analysis.proofs.Middles.{find-invalid, find-short, find-filled}

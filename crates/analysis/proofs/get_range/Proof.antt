@@ -1,10 +1,10 @@
 -- `analysis::get_range` meets its contract. Assumes nothing.
 use mathlib.Core.Path.{sym, ap, _∙_}
 use mathlib.Core.List.{_++_, foldl, foldl-append}
-use Rattle.points.proofs.Laws.{and-right, and-both}
+use Rattle.numbers.proofs.Tests.{and-right, and-both}
 use Rattle.points.specs.Points.{listOf, validPoints}
 use Rattle.points.specs.Refusal.{gives}
-use Rattle.lookup.specs.Limits.{finiteLimits}
+use Rattle.limits.specs.Limits.{finiteLimits}
 use Rattle.analysis.specs.Analysis.{rawInside, getRange}
 use Rattle.analysis.specs.Ranges.{noValues, widen, asRange, valuesAtTimes}
 use Rattle.analysis.specs.declared.Bounds.{Bounds}

@@ -6,10 +6,10 @@ use mathlib.Core.List.{foldl}
 use native.Mathlib.Omega.{arith}
 use lib.Dec.{ltb}
 use borrow.Author.Tests.{le-leb, lt-leb, ltb-true}
-use Rattle.points.proofs.Laws.{and-right}
+use Rattle.numbers.proofs.Tests.{and-right}
 use Rattle.points.specs.Points.{validPoints}
 use Rattle.points.specs.Refusal.{gives}
-use Rattle.lookup.specs.Limits.{finiteLimits}
+use Rattle.limits.specs.Limits.{finiteLimits}
 use Rattle.analysis.specs.Analysis.{getRangeSamples, sampleStep, sampleStops}
 use Rattle.analysis.specs.Ranges.{noValues, widen, asRange, valuesAtSamples}
 use Rattle.analysis.proofs.Ranges.{range-is, stops-few}

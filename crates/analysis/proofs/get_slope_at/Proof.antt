@@ -6,7 +6,7 @@ use borrow.Author.Tests.{lt-ltb, le-ltb}
 use lib.ListN.{length, length-take}
 use Rattle.points.specs.Points.{listOf}
 use Rattle.points.proofs.Good.{places}
-use Rattle.lookup.specs.Limits.{valid}
+use Rattle.lookup.specs.Valid.{valid}
 use Rattle.lookup.specs.Lookup.{getValueAt}
 use Rattle.analysis.specs.Analysis.{getSlopeAt}
 use Rattle.analysis.specs.Ranges.{slopeSaid}

@@ -5,7 +5,7 @@ use mathlib.Core.Bool.{Bool}
 use mathlib.Core.List.{foldl}
 use lib.Dec.{ltb}
 use borrow.Author.Tests.{ltb-true}
-use Rattle.points.proofs.Laws.{and-left, and-right}
+use Rattle.numbers.proofs.Tests.{and-left, and-right}
 use Rattle.points.specs.Points.{listOf}
 use Rattle.lookup.specs.Lookup.{rawAtSample, valueAtSample}
 use Rattle.lookup.proofs.LookupLaws.{sample-none, keys-rise-is}

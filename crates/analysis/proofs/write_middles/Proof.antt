@@ -4,12 +4,12 @@ use mathlib.Core.Path.{_≡_, refl, sym, ap, _∙_}
 use mathlib.Core.List.{List, _++_, map}
 use native.Mathlib.Omega.{arith}
 use lib.ListN.{length, take, drop, length-set}
-use Rattle.points.specs.Point.{anyPoint}
+use Rattle.points.specs.Point.{anyPoint, timeOf}
 use Rattle.points.specs.declared.AutomationPoint.{AutomationPoint}
 use Rattle.lookup.specs.Lookup.{pointAt}
 use Rattle.points.specs.Middles.{middles}
 use Rattle.points.proofs.MiddleLaws.{middles-two, middles-yes, middles-no}
-use Rattle.analysis.specs.Ranges.{middleTest, timeOf, valueOf}
+use Rattle.analysis.specs.Ranges.{middleTest, valueOf}
 use Rattle.points.proofs.Good.{places}
 use Rattle.analysis.proofs.Middles.{middles-next, middles-all, room-left, write-turn}
 use Rattle.analysis.proofs.write_middles.Statement.{statement}

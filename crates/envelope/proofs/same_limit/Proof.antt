@@ -1,3 +1,4 @@
+-- `envelope::same_limit` meets its contract: its four cases are those of `sameLimit`: two numbers are compared as there, and the other three answers are constants.
 use borrow.Author.Needs.{needs}
 use Rattle.envelope.proofs.same_limit.Statement.{statement}
 use Rattle.envelope.proofs.same_limit.Tie as tie

@@ -1,10 +1,9 @@
 use mathlib.Core.Path.{ap, _∙_}
-use mathlib.Core.Bool.{Bool, true, _&&_}
+use mathlib.Core.Bool.{Bool, true, _&&_, and-true}
 use lib.Ieee.{ofBits}
 use Rattle.numbers.specs.Bounds.{finite}
 use Rattle.curve.specs.Curve.{finiteControls}
 use Rattle.curve.specs.F32.{f0, f1}
-use Rattle.points.proofs.Laws.{and-true}
 use Rattle.settle.specs.Settle.{editPoints}
 use Rattle.insert.specs.Insert.{rampList}
 use borrow.Author.Needs.{needs}

@@ -4,14 +4,14 @@ use mathlib.Core.Logic.{⊎-elim}
 use native.Mathlib.Omega.{arith}
 use Rattle.points.specs.Point.{anyPoint}
 use Rattle.points.specs.Points.{timeKey}
-use Rattle.points.proofs.SearchLaws.{Searching, search-start, search-up, search-down}
+use Rattle.points.proofs.SearchLaws.{Halving, halving-start, halving-up, halving-down}
 use Rattle.points.proofs.Good.{places}
 use Rattle.insert.proofs.Inserting.{shifted, shift-start, shift-turn, sorted-places, stand-here, stand-past, Filling, fill-start, fill-end, turn-same, turn-new, turn-full}
 use Rattle.insert.proofs.insert_all.Statement.{statement}
 use Rattle.insert.proofs.insert_all.Tie as tie
 
 abbrev Inv-loop2 : tie.InvT-loop2
-Inv-loop2 points new m i p key n lo₀ hi₀ lo hi = Searching timeKey anyPoint key (points .places) n lo hi
+Inv-loop2 points new m i p key n lo₀ hi₀ lo hi = Halving timeKey anyPoint key (points .places) n lo hi
 
 abbrev μ-loop2 : tie.MeasureT-loop2
 μ-loop2 points new m i p key n lo₀ hi₀ lo hi = hi - lo
@@ -51,7 +51,7 @@ order-key-requires c κs = tt
 loop2-holds : tie.Need-loop2-holds Inv-loop2 μ-loop2 Inv-loop3 μ-loop3 Inv-loop μ-loop
 loop2-holds c =
     let loop = c .before .before .before .loop in
-    search-start timeKey anyPoint (c .order-key .result) (loop .points .places) (loop .points .count)
+    halving-start timeKey anyPoint (c .order-key .result) (loop .points .places) (loop .points .count)
 
 sub-mid : tie.Need-sub-mid Inv-loop2 μ-loop2 Inv-loop3 μ-loop3 Inv-loop μ-loop
 sub-mid c = omega arith
@@ -90,11 +90,9 @@ loop2-again c =
     let loop = c .before .before .before .before .before .before .before .before .loop in
     let order-key = c .before .before .before .before .before .order-key in
     let ps = loop .points in
-    let s = loop .inv .sorted in
     let h = c .before .before .before .before .loop2 in
     let mid = h .lo + (h .hi - h .lo) / 2 in
-    search-up timeKey anyPoint (order-key .result) (ps .places) (ps .count) (h .lo) (h .hi) mid (h .inv) (s .rises) (omega (arith, sorted-places ps s, s .few)) (omega arith)
-    (omega (arith, c .before .order-key2 .ensures, c .if1 .taken))
+    halving-up timeKey anyPoint (order-key .result) (ps .places) (ps .count) (h .lo) (h .hi) mid (h .inv) (omega arith) (omega (arith, c .before .order-key2 .ensures, c .if1 .taken))
 
 loop2-less-2 : tie.Need-loop2-less-2 Inv-loop2 μ-loop2 Inv-loop3 μ-loop3 Inv-loop μ-loop
 loop2-less-2 c = omega arith
@@ -106,7 +104,7 @@ loop2-again-2 c =
     let ps = loop .points in
     let h = c .before .before .before .before .loop2 in
     let mid = h .lo + (h .hi - h .lo) / 2 in
-    search-down timeKey anyPoint (order-key .result) (ps .places) (ps .count) (h .lo) (h .hi) mid (h .inv) (omega arith) (omega arith) (omega (arith, c .before .order-key2 .ensures, c .if1 .left))
+    halving-down timeKey anyPoint (order-key .result) (ps .places) (ps .count) (h .lo) (h .hi) mid (h .inv) (omega arith) (omega arith) (omega (arith, c .before .order-key2 .ensures, c .if1 .left))
 
 mul-q-2 : tie.Need-mul-q-2 Inv-loop2 μ-loop2 Inv-loop3 μ-loop3 Inv-loop μ-loop
 mul-q-2 c = omega (arith, c .if2 .taken, c .before .before .before .before .before .before .loop .inv .sorted .few)

@@ -4,16 +4,15 @@ use mathlib.Core.List.{List, [], _∷_}
 use native.Mathlib.Omega.{arith}
 use borrow.Author.Tests.{not-true, not-false}
 use lib.Ieee.{add, binary64}
-use Rattle.numbers.specs.Bounds.{finite}
+use Rattle.numbers.proofs.Tests.{and-both}
+use Rattle.numbers.specs.Bounds.{finite, zero64}
 use Rattle.curve.specs.Curve.{finiteControls}
 use Rattle.curve.specs.F32.{f0, f1}
 use Rattle.points.specs.declared.AutomationPoint.{AutomationPoint}
 use Rattle.curve.specs.declared.CurveType.the-variants.{Linear}
 use Rattle.points.specs.Point.{finitePoint, pointWith}
 use Rattle.points.specs.Points.{listOf, holding, risingBy}
-use Rattle.points.proofs.Laws.{and-both}
 use Rattle.points.proofs.ValidLaws.{listOf-holding}
-use Rattle.pointwise.specs.Each.{zero64}
 use Rattle.insert.specs.Insert.{insertAll, pulseList}
 use Rattle.insert.proofs.Inserting.{holding-own, all-few, rising-all}
 use Rattle.insert.proofs.Merging.{not-valid, made-new, any-three, pulse-fine}

@@ -3,13 +3,12 @@ use mathlib.Core.Bool.{_&&_}
 use mathlib.Core.List.{[], _∷_}
 use native.Mathlib.Omega.{arith}
 use borrow.Author.Tests.{not-true, not-false}
-use Rattle.numbers.specs.Bounds.{finite}
+use Rattle.numbers.proofs.Tests.{and-both}
+use Rattle.numbers.specs.Bounds.{finite, zero64}
 use Rattle.curve.specs.Curve.{finiteControls}
 use Rattle.curve.specs.declared.CurveType.the-variants.{Linear}
 use Rattle.points.specs.Points.{holding, risingBy}
-use Rattle.points.proofs.Laws.{and-both}
 use Rattle.points.specs.Point.{pointWith}
-use Rattle.pointwise.specs.Each.{zero64}
 use Rattle.insert.specs.Insert.{insertAll, rampList}
 use Rattle.insert.proofs.Inserting.{all-few, rising-all}
 use Rattle.insert.proofs.Merging.{not-valid, made-new, any-three, ramp-fine}

@@ -1,4 +1,4 @@
--- `lookup::is_valid` meets its contract. Assumes nothing.
+-- `lookup::is_valid` meets its contract: by definition of `valid`, the `&` of what the two calls ensure.
 use borrow.Author.Needs.{needs}
 use Rattle.lookup.proofs.is_valid.Statement.{statement}
 use Rattle.lookup.proofs.is_valid.Tie as tie

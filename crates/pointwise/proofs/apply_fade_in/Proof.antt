@@ -1,8 +1,8 @@
 use mathlib.Core.Path.{ap, _∙_}
 use mathlib.Core.Bool.{Bool}
 use mathlib.Core.List.{map}
+use Rattle.numbers.proofs.Tests.{and-both}
 use Rattle.points.specs.Points.{listOf}
-use Rattle.points.proofs.Laws.{and-both}
 use Rattle.settle.specs.Settle.{editPoints}
 use Rattle.pointwise.specs.Each.{changed}
 use Rattle.pointwise.specs.declared.Change.the-variants.{FadeIn}

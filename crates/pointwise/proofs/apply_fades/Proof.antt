@@ -1,5 +1,5 @@
 use lib.Ieee.{binary64, sub}
-use Rattle.points.proofs.Laws.{and-both}
+use Rattle.numbers.proofs.Tests.{and-both}
 use Rattle.points.proofs.Good.{places}
 use Rattle.pointwise.specs.Places.{mappedIn, fadedInPlaces}
 use Rattle.pointwise.specs.Each.{changed, fadedInAll, fadedOutAll}

@@ -1,17 +1,13 @@
-use Rattle.pointwise.specs.Each.{clampedTo}
 use Rattle.pointwise.proofs.clamp.Statement.{statement}
 use Rattle.pointwise.proofs.clamp.Tie as tie
 
 returns : tie.Need-returns
-unfolding clampedTo
 returns c = rw (c .if1 .taken)
 
 returns-2 : tie.Need-returns-2
-unfolding clampedTo
 returns-2 c = rw (c .before .if1 .left, c .if2 .taken)
 
 returns-3 : tie.Need-returns-3
-unfolding clampedTo
 returns-3 c = rw (c .before .if1 .left, c .if2 .left)
 
 pub clamp-spec : {M : Type 1} → statement M

@@ -1,4 +1,5 @@
--- `render::fill` meets its contract. Assumes nothing.
+-- `render::fill` meets its contract: a turn writes v at one more place (`run-turn` of a constant), and the places left get fewer;
+-- the run that stands at the end (`run-end`) is `replicate` (`run-constant`).
 use Prim.Native.Nat.{_≤_, _-_}
 use mathlib.Core.Path.{_≡_, refl, _∙_}
 use mathlib.Core.List.{_++_}

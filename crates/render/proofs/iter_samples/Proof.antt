@@ -1,7 +1,8 @@
--- `render::iter_samples` meets its contract. Assumes nothing.
+-- `render::iter_samples` meets its contract: each way out is a law: refusal 1 is `open-invalid`, 3 `open-infinite`, 13 `open-too-many`,
+-- and the walk is `opened`, with the count that `f64_to_u64` ensures.
 use mathlib.Core.Path.{sym, _∙_}
 use borrow.Author.Needs.{needs}
-use Rattle.points.proofs.Laws.{and-both}
+use Rattle.numbers.proofs.Tests.{and-both}
 use Rattle.render.proofs.RenderLaws.{open-invalid, open-infinite, open-too-many, opened}
 use Rattle.render.proofs.iter_samples.Statement.{statement}
 use Rattle.render.proofs.iter_samples.Tie as tie

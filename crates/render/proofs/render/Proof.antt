@@ -1,9 +1,10 @@
--- `render::render` meets its contract. Assumes nothing.
+-- `render::render` meets its contract: refusal 1 is `render-invalid` and 3 `render-infinite`; past both tests the rendering is `runInto` (`render-runs`),
+-- which `run_into` ensures for points that are valid (`and-right`).
 use mathlib.Core.Path.{refl, sym, _∙_}
 use borrow.Author.Needs.{needs}
+use Rattle.numbers.proofs.Tests.{and-right}
 use Rattle.points.specs.Points.{validPoints}
-use Rattle.points.proofs.Laws.{and-right}
-use Rattle.lookup.specs.Limits.{finiteLimits}
+use Rattle.limits.specs.Limits.{finiteLimits}
 use Rattle.render.proofs.RenderLaws.{answers, render-invalid, render-infinite, render-runs}
 use Rattle.render.proofs.render.Statement.{statement}
 use Rattle.render.proofs.render.Tie as tie

@@ -1,4 +1,5 @@
--- `render::run_into` meets its contract. Assumes nothing.
+-- `render::run_into` meets its contract: refusal 13 is `too-many`, by two tests that can't overflow, and 8 `no-room`; no samples leave the buffer
+-- (`none-written`), and else the lent part, back from `write_samples`, is the run written from the place on (`part-back`, `accepted`).
 use mathlib.Core.Path.{refl, sym}
 use native.Mathlib.Omega.{arith}
 use borrow.Author.Needs.{needs}

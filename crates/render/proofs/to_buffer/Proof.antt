@@ -1,10 +1,11 @@
--- `render::to_buffer` meets its contract. Assumes nothing.
+-- `render::to_buffer` meets its contract: refusal 1 is `buffer-invalid` and 3 `buffer-infinite`; past both tests it is `runInto` from sample 0
+-- (`buffer-runs`), with the count that `f64_to_u64` ensures.
 use Prim.Native.Nat.{ℕ}
 use mathlib.Core.Path.{refl, sym, ap, _∙_}
 use borrow.Author.Needs.{needs}
+use Rattle.numbers.proofs.Tests.{and-right, and-both}
 use Rattle.points.specs.Points.{validPoints}
-use Rattle.points.proofs.Laws.{and-right, and-both}
-use Rattle.lookup.specs.Limits.{finiteLimits}
+use Rattle.limits.specs.Limits.{finiteLimits}
 use Rattle.render.specs.Render.{sampleAt, runInto}
 use Rattle.render.proofs.RenderLaws.{answers, buffer-invalid, buffer-infinite, buffer-runs}
 use Rattle.render.proofs.to_buffer.Statement.{statement}

@@ -1,4 +1,5 @@
--- `render::write_samples` meets its contract. Assumes nothing.
+-- `render::write_samples` meets its contract: disabled, with no point or with one, every sample is the number that `fill` writes
+-- (`off-run`, `none-run`, `one-run`); with more they are what `write_segments` ensures (`on-run`).
 use mathlib.Core.Path.{_∙_}
 use borrow.Author.Needs.{needs}
 use Rattle.lookup.proofs.Good.{inside}

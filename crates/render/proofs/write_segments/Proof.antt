@@ -1,4 +1,5 @@
--- `render::write_segments` meets its contract. Assumes nothing.
+-- `render::write_segments` meets its contract: the loop has the first i samples written, and fewer are left each turn. Between the first point and the last
+-- the search ends between two (`search-inside`) and a stretch is added (`stretch-written`, `run-part`), elsewhere one sample (`outside-sample`, `run-turn`).
 use Prim.Native.Nat.{ℕ, _+_, _≤_, _-_}
 use mathlib.Core.Path.{_≡_, refl, ap, _∙_}
 use mathlib.Core.Bool.{true}

@@ -1,4 +1,5 @@
--- `render::write_stretch` meets its contract. Assumes nothing.
+-- `render::write_stretch` meets its contract: the loop has i samples of the segment written (`run-turn`), the times of all but the first inside it
+-- (`below-more`), and i rises; out at a time that lies outside, or at the buffer's end, that is `Stretch` (`stretch-end`).
 use Prim.Native.Nat.{ℕ, _+_, _≤_, _<_, _-_}
 use mathlib.Core.Path.{_≡_, refl, sym, ap, _∙_}
 use mathlib.Core.Bool.{true}
@@ -11,7 +12,7 @@ use lib.Ieee.{Float}
 use borrow.Author.Count.{below-more}
 use Rattle.lookup.specs.Runs.{run}
 use Rattle.lookup.proofs.RunLaws.{run-turn}
-use Rattle.render.specs.Render.{timeOf}
+use Rattle.render.specs.Render.{sampleTime}
 use Rattle.render.specs.Writer.{inside, segmentAt}
 use Rattle.render.proofs.Segments.{stretch-end}
 use Rattle.render.proofs.write_stretch.Statement.{statement}
@@ -19,8 +20,8 @@ use Rattle.render.proofs.write_stretch.Tie as tie
 
 abbrev Inv-loop : tie.InvT-loop
 Inv-loop seg limits rate first out₀ i₀ k₀ out i k =
-    (1 ≤ i) × (i ≤ length out₀) × (length out ≡ length out₀) × (k ≡ first + i) × ((j : ℕ) → j < i → 0 < j → inside seg (timeOf rate (first + j)) ≡ true)
-    × (out ≡ run (λ n. segmentAt limits seg (timeOf rate n)) first i ++ drop i out₀)
+    (1 ≤ i) × (i ≤ length out₀) × (length out ≡ length out₀) × (k ≡ first + i) × ((j : ℕ) → j < i → 0 < j → inside seg (sampleTime rate (first + j)) ≡ true)
+    × (out ≡ run (λ n. segmentAt limits seg (sampleTime rate n)) first i ++ drop i out₀)
 
 abbrev μ-loop : tie.MeasureT-loop
 μ-loop seg limits rate first out₀ i₀ k₀ out i k = length out₀ - i
@@ -41,7 +42,7 @@ loop-holds : tie.Need-loop-holds Inv-loop μ-loop
 unfolding run
 loop-holds c =
     let a = c .before .before .before .args in
-    let f : ℕ → Float = λ n. segmentAt (a .limits) (a .seg) (timeOf (a .rate) n) in
+    let f : ℕ → Float = λ n. segmentAt (a .limits) (a .seg) (sampleTime (a .rate) n) in
     let o = a .out .now in
     let x = c .value-at .result in
     let w : x ≡ f (a .first + 0) = c .value-at .ensures ∙ ap f (sym (add-zero (a .first))) in (
@@ -81,13 +82,13 @@ loop-again : tie.Need-loop-again Inv-loop μ-loop
 loop-again c =
     let value-at = c .before .before .before .before .before .before .before .value-at in
     let a = c .before .before .before .before .before .before .before .before .before .before .args in
-    let f : ℕ → Float = λ n. segmentAt (a .limits) (a .seg) (timeOf (a .rate) n) in
+    let f : ℕ → Float = λ n. segmentAt (a .limits) (a .seg) (sampleTime (a .rate) n) in
     let h = c .before .before .before .before .before .before .loop in (
       omega arith,
       omega arith,
       length-set (h .out) (h .i) (c .value-at2 .result) ∙ h .inv .2,
       omega arith,
-      below-more _ _ (h .inv .4) (λ p. ap (λ (n : ℕ). inside (a .seg) (timeOf (a .rate) n)) (sym (h .inv .3)) ∙ c .before .if1 .taken),
+      below-more _ _ (h .inv .4) (λ p. ap (λ (n : ℕ). inside (a .seg) (sampleTime (a .rate) n)) (sym (h .inv .3)) ∙ c .before .if1 .taken),
       run-turn f (a .first) (h .i) (set (a .out .now) 0 (value-at .result)) (h .out) (c .value-at2 .result) (omega arith) (h .inv .5) (c .value-at2 .ensures ∙ ap f (h .inv .3)),
     )
 

@@ -1,3 +1,4 @@
+-- `session::load` meets its contract: `read_state` reads the part that it is lent, and that is `stateAt`: from the slot's first word on, `from + 1028 - from` words, which are 1,028.
 use mathlib.Core.Path.{_≡_, ap, _∙_}
 use denote.Ref.{now}
 use Prim.Native.Nat.{ℕ, _+_, _-_, _*_}

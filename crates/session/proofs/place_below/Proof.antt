@@ -1,3 +1,4 @@
+-- `session::place_below` meets its contract: `depth == 0` is the test of `placeBelow` (`eq-eqb`, `ne-eqb`), and either branch answers what that does.
 use borrow.Author.Tests.{eq-eqb, ne-eqb}
 use Rattle.session.proofs.place_below.Statement.{statement}
 use Rattle.session.proofs.place_below.Tie as tie

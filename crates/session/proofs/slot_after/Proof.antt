@@ -1,3 +1,5 @@
+-- `session::slot_after` meets its contract: `1 < depth - at` says that `at + 1` is below the depth, with no sum to wrap (`after-yes`);
+-- else, as `at ≤ depth`, no slot comes after and the first is next (`after-no`).
 use Rattle.session.proofs.Ways.{after-yes, after-no}
 use borrow.Author.Needs.{needs}
 use Rattle.session.proofs.slot_after.Statement.{statement}

@@ -1,3 +1,5 @@
+-- `session::slot_before` meets its contract: `at == 0` is the test of `slotBefore`: the last slot where it holds (`before-zero`), else the one before (`before-some`);
+-- no difference wraps, for `0 < depth` in the one case and `at` isn't 0 in the other.
 use Rattle.session.proofs.Ways.{before-zero, before-some}
 use borrow.Author.Needs.{needs}
 use Rattle.session.proofs.slot_before.Statement.{statement}

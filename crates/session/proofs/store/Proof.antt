@@ -1,3 +1,5 @@
+-- `session::store` meets its contract: `fit_state` leaves `pack envelope` and no more in a part of 1,028 words (`part-words`, `part-written`),
+-- and the words before and after that part stay (`post-is`).
 use mathlib.Core.Path.{ap, _∙_}
 use denote.Ref.{now}
 use Prim.Native.Nat.{ℕ, _+_, _-_, _*_}

@@ -12,7 +12,7 @@ use Rattle.pointwise.specs.declared.Change.the-variants.{Quantize}
 use Rattle.pointwise.proofs.Mapped.{mapped-list}
 use Rattle.shape.specs.Shape.{firsts}
 use Rattle.shape.specs.Neighbours.{withoutRepeats}
-use Rattle.shape.proofs.Fits.{times-fit}
+use Rattle.points.proofs.Fits.{times-fit}
 use Rattle.shape.proofs.Quantized.{quantized-stays, ends-quantized}
 use borrow.Author.Needs.{needs}
 use Rattle.shape.proofs.quantize_time.Statement.{statement}

@@ -1,5 +1,5 @@
+use Rattle.numbers.proofs.Tests.{and-both}
 use Rattle.points.specs.Points.{listOf}
-use Rattle.points.proofs.Laws.{and-both}
 use Rattle.settle.proofs.Ends.{ends}
 use Rattle.shape.specs.Shape.{keepIf, inside}
 use borrow.Author.Needs.{needs}

@@ -3,11 +3,12 @@ use mathlib.Core.Path.{_≡_, refl, sym, ap, _∙_}
 use mathlib.Core.List.{List}
 use native.Mathlib.Omega.{arith}
 use lib.ListN.{length, take, getD}
+use Rattle.numbers.proofs.Tests.{and-both}
 use Rattle.points.specs.declared.AutomationPoint.{AutomationPoint}
 use Rattle.points.specs.declared.Points.{Points}
 use Rattle.points.specs.Point.{anyPoint}
 use Rattle.points.specs.Points.{holding}
-use Rattle.points.proofs.Laws.{take-min, every-more, and-both}
+use Rattle.points.proofs.Laws.{take-min, every-more}
 use Rattle.points.proofs.Good.{places}
 use mathlib.Core.Bool.{not}
 use Rattle.points.specs.Points.{every}

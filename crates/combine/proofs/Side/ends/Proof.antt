@@ -20,13 +20,13 @@ mul-last : tie.Need-mul-last
 mul-last c =
     let args = c .before .before .before .before .args in
     let pre = c .before .before .before .before .pre in
-    omega (arith, c .before .previous .ensures, valid-count (args .self .points) (side-points (args .self) (pre)))
+    omega (arith, c .before .previous .ensures, valid-count (args .self .points) (side-points (args .self) pre))
 
 element-copy-out-last : tie.Need-element-copy-out-last
 element-copy-out-last c =
     let args = c .before .before .before .before .args in
     let pre = c .before .before .before .before .pre in
-    omega (arith, c .before .previous .ensures, valid-count (args .self .points) (side-points (args .self) (pre)))
+    omega (arith, c .before .previous .ensures, valid-count (args .self .points) (side-points (args .self) pre))
 
 returns : tie.Need-returns
 returns c =

@@ -1,4 +1,5 @@
--- `AutomationEnvelope::combine_with` meets its contract. Assumes nothing.
+-- `envelope::AutomationEnvelope::combine_with` meets its contract: of the two `side`s `combine` gives the points judged by both envelopes' validity,
+-- and `renew` of judged points is the outcome with the settings of `new` (`renewed-is`).
 use mathlib.Core.Path.{ap, _∙_}
 use mathlib.Core.Bool.{_&&_}
 use Rattle.combine.specs.Combine.{combinedPoints}

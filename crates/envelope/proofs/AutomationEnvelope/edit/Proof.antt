@@ -1,3 +1,4 @@
+-- `envelope::AutomationEnvelope::edit` meets its contract: each of the six variants goes to its method, whose contract is `editOf` of that variant.
 use Rattle.envelope.specs.Edit.{editOf}
 use borrow.Author.Needs.{needs}
 use Rattle.envelope.proofs.AutomationEnvelope.edit.Statement.{statement}

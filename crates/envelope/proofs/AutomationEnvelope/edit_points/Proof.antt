@@ -1,7 +1,8 @@
--- `AutomationEnvelope::edit_points` meets its contract. Assumes nothing.
+-- `envelope::AutomationEnvelope::edit_points` meets its contract: where the limits are finite, `settle` of the judged points is the edit's outcome (`edited-is`);
+-- where they aren't, the envelope isn't valid, so the outcome is 1 (`limits-lost`).
 use mathlib.Core.Path.{sym, ap, _∙_}
 use Rattle.points.specs.Points.{listOf, validPoints}
-use Rattle.lookup.specs.Limits.{finiteLimits}
+use Rattle.limits.specs.Limits.{finiteLimits}
 use Rattle.envelope.specs.Edit.{toldEdit, proposed, pointsEdited, edited, editOf}
 use Rattle.envelope.proofs.Outcomes.{edited-is, limits-lost}
 use borrow.Author.Needs.{needs}

@@ -1,6 +1,8 @@
+-- `envelope::AutomationEnvelope::equal` meets its contract: `and-both` carries its calls' contracts through each `&`,
+-- so the code branches on the test of `envelopesEqual`, and each branch answers what that does.
 use mathlib.Core.Path.{sym, ap, _∙_}
+use Rattle.numbers.proofs.Tests.{and-both}
 use Rattle.points.specs.Refusal.{gives}
-use Rattle.points.proofs.Laws.{and-both}
 use Rattle.envelope.specs.Envelope.{envelopesEqual}
 use borrow.Author.Needs.{needs}
 use Rattle.envelope.proofs.AutomationEnvelope.equal.Statement.{statement}

@@ -1,4 +1,5 @@
--- `envelope::AutomationEnvelope::find_peaks` meets its contract. Assumes nothing.
+-- `envelope::AutomationEnvelope::find_peaks` meets its contract: `limits` answers `limitsOf self`,
+-- and with those limits the three clauses of `analysis::find_peaks` are its own, by definition of `findMiddlesOf`.
 use mathlib.Core.Path.{sym}
 use borrow.Author.Needs.{needs}
 use Rattle.envelope.proofs.AutomationEnvelope.find_peaks.Statement.{statement}

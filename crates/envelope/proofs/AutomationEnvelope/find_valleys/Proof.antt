@@ -1,4 +1,5 @@
--- `envelope::AutomationEnvelope::find_valleys` meets its contract. Assumes nothing.
+-- `envelope::AutomationEnvelope::find_valleys` meets its contract: `limits` answers `limitsOf self`,
+-- and with those limits the three clauses of `analysis::find_valleys` are its own, by definition of `findMiddlesOf`.
 use mathlib.Core.Path.{sym}
 use borrow.Author.Needs.{needs}
 use Rattle.envelope.proofs.AutomationEnvelope.find_valleys.Statement.{statement}

@@ -1,3 +1,4 @@
+-- `envelope::AutomationEnvelope::fresh` meets its contract: by definition of `withPoints` and `new`: the settings are those of `new`, the target and the points those given.
 use Rattle.envelope.specs.Envelope.{new}
 use borrow.Author.Needs.{needs}
 use Rattle.envelope.proofs.AutomationEnvelope.fresh.Statement.{statement}

@@ -1,4 +1,5 @@
--- `envelope::AutomationEnvelope::get_range_samples` meets its contract. Assumes nothing.
+-- `envelope::AutomationEnvelope::get_range_samples` meets its contract: `limits` answers `limitsOf self`,
+-- and with those limits the contract of `analysis::get_range_samples` is this one, by definition of `rangeSamplesOf`.
 use mathlib.Core.Path.{sym}
 use borrow.Author.Needs.{needs}
 use Rattle.envelope.proofs.AutomationEnvelope.get_range_samples.Statement.{statement}

@@ -1,4 +1,5 @@
--- `envelope::AutomationEnvelope::get_slope_at` meets its contract. Assumes nothing.
+-- `envelope::AutomationEnvelope::get_slope_at` meets its contract: `limits` answers `limitsOf self`,
+-- and with those limits the contract of `analysis::get_slope_at` is this one, by definition of `slopeAtOf`.
 use mathlib.Core.Path.{sym}
 use borrow.Author.Needs.{needs}
 use Rattle.envelope.proofs.AutomationEnvelope.get_slope_at.Statement.{statement}

@@ -1,3 +1,5 @@
+-- `envelope::AutomationEnvelope::get_value_at` meets its contract: `limits` answers `limitsOf self`,
+-- and with those limits the contract of `lookup::time::get_value_at` is this one, by definition of `valueAtOf`.
 use mathlib.Core.Path.{sym}
 use borrow.Author.Needs.{needs}
 use Rattle.envelope.proofs.AutomationEnvelope.get_value_at.Statement.{statement}

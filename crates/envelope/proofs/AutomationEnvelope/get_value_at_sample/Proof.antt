@@ -1,3 +1,5 @@
+-- `envelope::AutomationEnvelope::get_value_at_sample` meets its contract: `limits` answers `limitsOf self`,
+-- and with those limits the contract of `lookup::sample::get_value_at_sample` is this one, by definition of `valueAtSampleOf`.
 use mathlib.Core.Path.{sym}
 use borrow.Author.Needs.{needs}
 use Rattle.envelope.proofs.AutomationEnvelope.get_value_at_sample.Statement.{statement}

@@ -1,6 +1,7 @@
+-- `envelope::AutomationEnvelope::is_valid` meets its contract: `limits` answers `limitsOf self`, and `lookup::is_valid` of the points and those is `validEnvelope` by definition.
 use mathlib.Core.Path.{ap, _∙_}
-use Rattle.lookup.specs.Limits.{valid}
-use Rattle.lookup.specs.declared.Limits.{Limits}
+use Rattle.lookup.specs.Valid.{valid}
+use Rattle.limits.specs.declared.Limits.{Limits}
 use borrow.Author.Needs.{needs}
 use Rattle.envelope.proofs.AutomationEnvelope.is_valid.Statement.{statement}
 use Rattle.envelope.proofs.AutomationEnvelope.is_valid.Tie as tie

@@ -1,4 +1,5 @@
--- `envelope::AutomationEnvelope::iter_samples` meets its contract. Assumes nothing.
+-- `envelope::AutomationEnvelope::iter_samples` meets its contract: `limits` answers `limitsOf self`,
+-- and with those limits the contract of `render::iter_samples` is this one, by definition of `iterSamplesOf`.
 use mathlib.Core.Path.{sym}
 use borrow.Author.Needs.{needs}
 use Rattle.envelope.proofs.AutomationEnvelope.iter_samples.Statement.{statement}

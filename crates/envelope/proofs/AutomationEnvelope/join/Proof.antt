@@ -1,4 +1,4 @@
--- `envelope::AutomationEnvelope::join` meets its contract. Assumes nothing.
+-- `envelope::AutomationEnvelope::join` meets its contract: each of the two variants goes to its method, whose contract is `joinOf` of that variant.
 use Rattle.envelope.specs.Edit.{joinOf}
 use borrow.Author.Needs.{needs}
 use Rattle.envelope.proofs.AutomationEnvelope.join.Statement.{statement}

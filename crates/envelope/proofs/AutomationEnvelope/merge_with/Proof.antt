@@ -1,9 +1,10 @@
--- `AutomationEnvelope::merge_with` meets its contract. Assumes nothing.
+-- `envelope::AutomationEnvelope::merge_with` meets its contract: if the other's limits are finite, `settle` of the merged points is an outcome (`edited-is`)
+-- whose test is the validity of both envelopes (`other-pass`); if not, the other isn't valid, and the outcome is 1 (`other-lost`).
 use mathlib.Core.Path.{sym, ap, _∙_}
 use mathlib.Core.Bool.{_&&_}
 use Rattle.points.specs.Points.{validPoints}
 use Rattle.insert.specs.Insert.{mergedPoints}
-use Rattle.lookup.specs.Limits.{finiteLimits}
+use Rattle.limits.specs.Limits.{finiteLimits}
 use Rattle.envelope.specs.Edit.{toldEdit, edited, joinProposal, joinOf}
 use Rattle.envelope.specs.declared.edit.Join.the-variants.{Merge}
 use Rattle.envelope.proofs.Outcomes.{edited-is, other-lost, other-pass}

@@ -1,3 +1,4 @@
+-- `envelope::AutomationEnvelope::new` meets its contract: by definition of `new`, as `points::list::none` answers `holding []`.
 use Rattle.envelope.specs.Envelope.{new}
 use borrow.Author.Needs.{needs}
 use Rattle.envelope.proofs.AutomationEnvelope.new.Statement.{statement}

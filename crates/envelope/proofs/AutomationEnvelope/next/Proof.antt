@@ -1,4 +1,5 @@
--- `envelope::AutomationEnvelope::next` meets its contract. Assumes nothing.
+-- `envelope::AutomationEnvelope::next` meets its contract: `limits` answers `limitsOf self`,
+-- and with those limits the contract of `render::SampleIterator::next` is this one, by definition of `nextSampleOf`.
 use mathlib.Core.Path.{sym}
 use borrow.Author.Needs.{needs}
 use Rattle.envelope.proofs.AutomationEnvelope.next.Statement.{statement}

@@ -1,3 +1,5 @@
+-- `envelope::AutomationEnvelope::render` meets its contract: `limits` answers `limitsOf self`,
+-- and with those limits both clauses of `render::render` are its own, by definition of `renderOf`.
 use mathlib.Core.Path.{sym}
 use borrow.Author.Needs.{needs}
 use Rattle.envelope.proofs.AutomationEnvelope.render.Statement.{statement}

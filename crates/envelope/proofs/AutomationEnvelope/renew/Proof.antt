@@ -1,4 +1,5 @@
--- `envelope::AutomationEnvelope::renew` meets its contract. Assumes nothing.
+-- `envelope::AutomationEnvelope::renew` meets its contract: by the answer, as in `renewed`:
+-- accepted, `fresh` is `new` of the target with the points; refused, `refuse` keeps the envelope and the refusal.
 use mathlib.Core.Path.{ap}
 use Rattle.points.specs.Refusal.{gives}
 use Rattle.envelope.specs.declared.AutomationEnvelope.{AutomationEnvelope}

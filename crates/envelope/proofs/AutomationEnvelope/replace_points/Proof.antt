@@ -1,7 +1,8 @@
--- `AutomationEnvelope::replace_points` meets its contract. Assumes nothing.
+-- `envelope::AutomationEnvelope::replace_points` meets its contract: where the limits are finite, `renew` of the judged points is the outcome (`renewed-is`),
+-- for the points' validity is then the envelope's (`limits-pass`); where they aren't, the outcome is 1 (`limits-lost`).
 use mathlib.Core.Path.{sym, ap, _∙_}
 use Rattle.points.specs.Points.{validPoints}
-use Rattle.lookup.specs.Limits.{finiteLimits}
+use Rattle.limits.specs.Limits.{finiteLimits}
 use Rattle.envelope.specs.Edit.{toldEdit, constructed, replacedPoints, renewed, editOf}
 use Rattle.envelope.proofs.Outcomes.{renewed-is, limits-lost, limits-pass}
 use borrow.Author.Needs.{needs}

@@ -1,4 +1,5 @@
--- `AutomationEnvelope::set` meets its contract. Assumes nothing.
+-- `envelope::AutomationEnvelope::set` meets its contract: by its two tests: valid and finite is accepted, for the points are valid as they are (`set-made`);
+-- valid and not finite is 3 (`set-lost`), and not valid is 1 (`set-invalid`).
 use mathlib.Core.Path.{sym, ap, _∙_}
 use Rattle.points.specs.Refusal.{gives}
 use Rattle.envelope.specs.declared.AutomationEnvelope.{AutomationEnvelope}

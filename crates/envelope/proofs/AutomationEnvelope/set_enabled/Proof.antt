@@ -1,7 +1,8 @@
--- `AutomationEnvelope::set_enabled` meets its contract. Assumes nothing.
+-- `envelope::AutomationEnvelope::set_enabled` meets its contract: `set` is asked with `true`, for this edit has no argument to refuse,
+-- and as `limits` answers `limitsOf self`, its `setting` is `editOf (SetEnabled enabled)` by definition.
 use mathlib.Core.Path.{ap, _∙_}
 use mathlib.Core.Bool.{true}
-use Rattle.lookup.specs.declared.Limits.{Limits}
+use Rattle.limits.specs.declared.Limits.{Limits}
 use Rattle.envelope.specs.Edit.{setting, withSettings, editOf}
 use borrow.Author.Needs.{needs}
 use Rattle.envelope.proofs.AutomationEnvelope.set_enabled.Statement.{statement}

@@ -1,4 +1,5 @@
--- `AutomationEnvelope::set_max` meets its contract. Assumes nothing.
+-- `envelope::AutomationEnvelope::set_max` meets its contract: `set` with the new maximum is `setting` by the code's test of it;
+-- `is_finite` makes that test the proposal's own (`tested`), and then it is `editOf (SetMax max)` by definition.
 use mathlib.Core.Path.{_∙_}
 use Rattle.points.specs.Points.{listOf}
 use Rattle.envelope.specs.Edit.{successor, editOf}

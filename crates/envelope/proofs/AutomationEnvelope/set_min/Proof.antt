@@ -1,4 +1,5 @@
--- `AutomationEnvelope::set_min` meets its contract. Assumes nothing.
+-- `envelope::AutomationEnvelope::set_min` meets its contract: `set` with the new minimum is `setting` by the code's test of it;
+-- `is_finite` makes that test the proposal's own (`tested`), and then it is `editOf (SetMin min)` by definition.
 use mathlib.Core.Path.{_∙_}
 use Rattle.points.specs.Points.{listOf}
 use Rattle.envelope.specs.Edit.{successor, editOf}

@@ -1,6 +1,8 @@
+-- `envelope::AutomationEnvelope::settle` meets its contract: by `limits` and `is_finite` the code tests `finiteLimits (limitsOf self)`, as `edited` does;
+-- where it holds `with_points` makes the envelope that `edited` names, else `refuse` gives its 1.
 use mathlib.Core.Path.{sym, ap, _∙_}
-use Rattle.lookup.specs.Limits.{finiteLimits}
-use Rattle.lookup.specs.declared.Limits.{Limits}
+use Rattle.limits.specs.Limits.{finiteLimits}
+use Rattle.limits.specs.declared.Limits.{Limits}
 use Rattle.points.specs.Refusal.{said}
 use Rattle.envelope.specs.declared.AutomationEnvelope.{AutomationEnvelope}
 use Rattle.envelope.specs.Edit.{EditTold, toldEdit, edited}

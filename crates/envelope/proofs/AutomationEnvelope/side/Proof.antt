@@ -1,6 +1,6 @@
--- `envelope::AutomationEnvelope::side` meets its contract. Assumes nothing.
+-- `envelope::AutomationEnvelope::side` meets its contract: by definition of `sideOf`, as `limits` answers `limitsOf self`.
 use mathlib.Core.Path.{ap}
-use Rattle.lookup.specs.declared.Limits.{Limits}
+use Rattle.limits.specs.declared.Limits.{Limits}
 use Rattle.combine.specs.declared.Side.{Side}
 use borrow.Author.Needs.{needs}
 use Rattle.envelope.proofs.AutomationEnvelope.side.Statement.{statement}

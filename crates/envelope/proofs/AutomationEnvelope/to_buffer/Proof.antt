@@ -1,3 +1,5 @@
+-- `envelope::AutomationEnvelope::to_buffer` meets its contract: `limits` answers `limitsOf self`,
+-- and with those limits both clauses of `render::to_buffer` are its own, by definition of `toBufferOf`.
 use mathlib.Core.Path.{sym}
 use borrow.Author.Needs.{needs}
 use Rattle.envelope.proofs.AutomationEnvelope.to_buffer.Statement.{statement}

@@ -1,4 +1,4 @@
--- `lookup::place::key` meets its contract. Assumes nothing.
+-- `lookup::place::key` meets its contract: the two branches are the two cases of `keyBy`, by what `sample_key` and `order_key` ensure.
 use borrow.Author.Needs.{needs}
 use Rattle.lookup.proofs.place.key.Statement.{statement}
 use Rattle.lookup.proofs.place.key.Tie as tie

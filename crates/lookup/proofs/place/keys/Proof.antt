@@ -1,4 +1,5 @@
--- `lookup::place::keys` meets its contract. Assumes nothing.
+-- `lookup::place::keys` meets its contract: `KeysFilled` says that the keys of the first i points stand there and 0 in the rest; a turn writes the next
+-- (`keys-turn`), n - i falls, and at `used` these are all the points, as there are 256 places (`take-min`).
 use Prim.Native.Nat.{ℕ, _≤_, _-_, min}
 use mathlib.Core.Path.{_≡_, refl, ap, ap₂, _∙_}
 use mathlib.Core.List.{List, _++_, map}
@@ -9,12 +10,12 @@ use Rattle.points.proofs.Laws.{take-min}
 use Rattle.points.specs.declared.AutomationPoint.{AutomationPoint}
 use Rattle.lookup.specs.Keys.{keyBy}
 use Rattle.points.proofs.Good.{places}
-use Rattle.lookup.proofs.KeyLaws.{Filled, keys-turn}
+use Rattle.lookup.proofs.KeyLaws.{KeysFilled, keys-turn}
 use Rattle.lookup.proofs.place.keys.Statement.{statement}
 use Rattle.lookup.proofs.place.keys.Tie as tie
 
 abbrev Inv-loop : tie.InvT-loop
-Inv-loop by-sample points n keys₀ i₀ keys i = (i ≤ n) × (length keys ≡ 256) × Filled (keyBy by-sample) (points .places) i keys
+Inv-loop by-sample points n keys₀ i₀ keys i = (i ≤ n) × (length keys ≡ 256) × KeysFilled (keyBy by-sample) (points .places) i keys
 
 abbrev μ-loop : tie.MeasureT-loop
 μ-loop by-sample points n keys₀ i₀ keys i = n - i

@@ -1,12 +1,14 @@
--- `lookup::place::search` meets its contract. Assumes nothing.
+-- `lookup::place::search` meets its contract: `Halving` says that the key before low is below the one sought and the key at high
+-- is not; a turn keeps it (`halving-up`, `halving-down`) and brings the two nearer, and where they meet it is `EndsAt` (`halving-end`).
 use Prim.Native.Nat.{_+_, _-_, _/_, min}
 use native.Mathlib.Omega.{arith}
-use Rattle.lookup.proofs.KeyLaws.{Halving, halving-start, halving-up, halving-down, halving-end}
+use Rattle.points.proofs.SearchLaws.{Halving, halving-start, halving-up, halving-down}
+use Rattle.lookup.proofs.KeyLaws.{itself, halving-end}
 use Rattle.lookup.proofs.place.search.Statement.{statement}
 use Rattle.lookup.proofs.place.search.Tie as tie
 
 abbrev Inv-loop : tie.InvT-loop
-Inv-loop keys n key low₀ high₀ low high = Halving keys (min n 256) key low high
+Inv-loop keys n key low₀ high₀ low high = Halving itself 0 key keys (min n 256) low high
 
 abbrev μ-loop : tie.MeasureT-loop
 μ-loop keys n key low₀ high₀ low high = high - low
@@ -15,7 +17,7 @@ places-requires : tie.Need-places-requires Inv-loop μ-loop
 places-requires c κs = tt
 
 loop-holds : tie.Need-loop-holds Inv-loop μ-loop
-loop-holds c = rw (c .places .ensures) (halving-start (c .before .args .keys .now) (min (c .before .args .n) 256) (c .before .args .key))
+loop-holds c = rw (c .places .ensures) (halving-start itself 0 (c .before .args .key) (c .before .args .keys .now) (min (c .before .args .n) 256))
 
 sub-mid : tie.Need-sub-mid Inv-loop μ-loop
 sub-mid c = omega arith
@@ -39,7 +41,7 @@ loop-again : tie.Need-loop-again Inv-loop μ-loop
 loop-again c =
     let h = c .before .before .before .loop in
     let a = c .before .before .before .before .before .args in
-    halving-up (a .keys .now) (min (a .n) 256) (a .key) (h .low) (h .high) (h .low + (h .high - h .low) / 2) (h .inv) (omega arith) (c .if1 .taken)
+    halving-up itself 0 (a .key) (a .keys .now) (min (a .n) 256) (h .low) (h .high) (h .low + (h .high - h .low) / 2) (h .inv) (omega arith) (c .if1 .taken)
 
 loop-less-2 : tie.Need-loop-less-2 Inv-loop μ-loop
 loop-less-2 c = omega arith
@@ -48,7 +50,7 @@ loop-again-2 : tie.Need-loop-again-2 Inv-loop μ-loop
 loop-again-2 c =
     let h = c .before .before .before .loop in
     let a = c .before .before .before .before .before .args in
-    halving-down (a .keys .now) (min (a .n) 256) (a .key) (h .low) (h .high) (h .low + (h .high - h .low) / 2) (h .inv) (omega arith) (omega arith) (c .if1 .left)
+    halving-down itself 0 (a .key) (a .keys .now) (min (a .n) 256) (h .low) (h .high) (h .low + (h .high - h .low) / 2) (h .inv) (omega arith) (omega arith) (c .if1 .left)
 
 returns : tie.Need-returns Inv-loop μ-loop
 returns c =

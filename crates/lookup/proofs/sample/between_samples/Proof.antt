@@ -1,4 +1,4 @@
--- `lookup::sample::between_samples` meets its contract. Assumes nothing.
+-- `lookup::sample::between_samples` meets its contract: by definition of `betweenSamples`, by what its four calls ensure.
 use borrow.Author.Needs.{needs}
 use Rattle.lookup.proofs.sample.between_samples.Statement.{statement}
 use Rattle.lookup.proofs.sample.between_samples.Tie as tie

@@ -1,8 +1,9 @@
--- `lookup::sample::get_value_at_sample` meets its contract. Assumes nothing.
+-- `lookup::sample::get_value_at_sample` meets its contract: not valid is refusal 1; disabled is silent whatever the keys (`keys-rise-off`, `heard-off`).
+-- Enabled, keys that don't rise are refusal 7 (`keys-rise-is`), else both requirements of `raw_at_sample` hold and `heard-on` constrains its answer.
 use mathlib.Core.Path.{sym, ap, _∙_}
-use Rattle.points.proofs.Laws.{and-right}
+use Rattle.numbers.proofs.Tests.{and-right}
 use Rattle.points.specs.Points.{validPoints, listOf}
-use Rattle.lookup.specs.Limits.{finiteLimits}
+use Rattle.limits.specs.Limits.{finiteLimits}
 use Rattle.lookup.specs.Lookup.{getValueAtSample, rawAtSample, told}
 use Rattle.lookup.proofs.LookupLaws.{heard-on, heard-off, keys-rise-is, keys-rise-off}
 use borrow.Author.Needs.{needs}

@@ -1,4 +1,5 @@
--- `lookup::sample::keys_rise` meets its contract. Assumes nothing.
+-- `lookup::sample::keys_rise` meets its contract: last is the key before i, and ok is whether the first i keys rise (`rising-one`, `rising-next`);
+-- n - i falls, and at the end these are all the keys (`rising-end`, where no points end at 1, and `take-min`).
 use Prim.Native.Nat.{ℕ, _+_, _≤_, _-_, max}
 use mathlib.Core.Path.{_≡_, sym, ap, _∙_}
 use native.Mathlib.Omega.{arith}

@@ -1,11 +1,12 @@
--- `lookup::sample::raw_at_sample` meets its contract. Assumes nothing.
+-- `lookup::sample::raw_at_sample` meets its contract: the ends are `sample-none`, `sample-one`, `sample-first` and `sample-last`. Between
+-- them the bisection keeps `Halving`; as the keys rise (required) it ends at the sample's place, and around it the lookup is `sample-around`.
 use Prim.Native.Nat.{_+_, _-_, _/_}
 use mathlib.Core.Path.{sym, ap, _∙_}
 use native.Mathlib.Omega.{arith}
 use Rattle.points.specs.Point.{anyPoint}
 use Rattle.points.specs.Refusal.{gives}
 use Rattle.points.proofs.ValidLaws.{valid-count}
-use Rattle.points.proofs.SearchLaws.{Searching, search-start, search-up, search-down, search-end}
+use Rattle.points.proofs.SearchLaws.{Halving, halving-start, halving-up, halving-down, halving-place}
 use Rattle.lookup.specs.Lookup.{pointAt, sampleKey}
 use Rattle.lookup.proofs.LookupLaws.{sample-none, sample-one, sample-first, sample-last, sample-around, at-place}
 use Rattle.lookup.proofs.Good.{inside}
@@ -13,7 +14,7 @@ use Rattle.lookup.proofs.sample.raw_at_sample.Statement.{statement}
 use Rattle.lookup.proofs.sample.raw_at_sample.Tie as tie
 
 abbrev Inv-loop : tie.InvT-loop
-Inv-loop sample points n low₀ high₀ low high = Searching sampleKey anyPoint sample (points .places) n low high
+Inv-loop sample points n low₀ high₀ low high = Halving sampleKey anyPoint sample (points .places) n low high
 
 abbrev μ-loop : tie.MeasureT-loop
 μ-loop sample points n low₀ high₀ low high = high - low
@@ -78,7 +79,7 @@ returns-4 c =
 loop-holds : tie.Need-loop-holds Inv-loop μ-loop
 loop-holds c =
     let args = c .before .before .before .before .before .before .before .before .args in
-    search-start sampleKey anyPoint (args .sample) (args .t1 .places) (args .t1 .count)
+    halving-start sampleKey anyPoint (args .sample) (args .t1 .places) (args .t1 .count)
 
 sub-mid : tie.Need-sub-mid Inv-loop μ-loop
 sub-mid c = omega arith
@@ -116,12 +117,10 @@ loop-less c = omega arith
 loop-again : tie.Need-loop-again Inv-loop μ-loop
 loop-again c =
     let args = c .before .before .before .before .before .before .before .before .before .before .before .before .before .args in
-    let pre = c .before .before .before .before .before .before .before .before .before .before .before .before .before .pre in
-    let good = c .before .before .before .before .before .before .before .before .before .before .before .before .before .good in
     let ps = args .t1 in
     let h = c .before .before .before .before .loop in
-    search-up sampleKey anyPoint (args .sample) (ps .places) (ps .count) (h .low) (h .high) (h .low + (h .high - h .low) / 2) (h .inv)
-    (pre .1) (inside ps _ (good .0) (pre .0)) (omega arith) (omega (arith, c .before .sample-key2 .ensures, c .if5 .taken))
+    halving-up sampleKey anyPoint (args .sample) (ps .places) (ps .count) (h .low) (h .high) (h .low + (h .high - h .low) / 2) (h .inv)
+    (omega arith) (omega (arith, c .before .sample-key2 .ensures, c .if5 .taken))
 
 loop-less-2 : tie.Need-loop-less-2 Inv-loop μ-loop
 loop-less-2 c = omega arith
@@ -131,7 +130,7 @@ loop-again-2 c =
     let args = c .before .before .before .before .before .before .before .before .before .before .before .before .before .args in
     let ps = args .t1 in
     let h = c .before .before .before .before .loop in
-    search-down sampleKey anyPoint (args .sample) (ps .places) (ps .count) (h .low) (h .high) (h .low + (h .high - h .low) / 2) (h .inv)
+    halving-down sampleKey anyPoint (args .sample) (ps .places) (ps .count) (h .low) (h .high) (h .low + (h .high - h .low) / 2) (h .inv)
     (omega arith) (omega arith) (omega (arith, c .before .sample-key2 .ensures, c .if5 .left))
 
 previous-requires : tie.Need-previous-requires Inv-loop μ-loop
@@ -175,7 +174,7 @@ returns-5 c =
     let ps = args .t1 in
     let h = c .before .before .before .before .before .before .loop in
     let f = inside ps _ (good .0) (pre .0) in
-    let e = search-end sampleKey anyPoint (args .sample) (ps .places) (ps .count) (h .low) (h .high) (h .inv) f (omega arith) in
+    let e = halving-place sampleKey anyPoint (args .sample) (ps .places) (ps .count) (h .low) (h .high) (h .inv) (pre .1) f (omega arith) in
     c .around .ensures
     ∙ ap gives
     (sample-around _ _ (ps .places) (ps .count) (args .sample) f (omega arith) (omega (arith, start-key .ensures, if3 .left)) (omega (arith, sample-key .ensures, if4 .left))

@@ -1,4 +1,4 @@
--- `lookup::sample::sample_key` meets its contract. Assumes nothing.
+-- `lookup::sample::sample_key` meets its contract: by definition of `sampleKey` (48000.0 is its bits, `ofBits`), by what `f64_to_u64` and `key_from` ensure.
 use lib.Ieee.{ofBits}
 use borrow.Author.Needs.{needs}
 use Rattle.lookup.proofs.sample.sample_key.Statement.{statement}

@@ -1,4 +1,5 @@
--- `lookup::time::around` meets its contract. Assumes nothing.
+-- `lookup::time::around` meets its contract: its tests (i below n, the key at i, 0 below i) are those of the definition `around`,
+-- so each of the four ways out is a branch of it, by what `order_key` and `between` ensure.
 use mathlib.Core.Path.{sym, ap, _∙_}
 use mathlib.Core.Option.{some}
 use borrow.Author.Tests.{lt-ltb, le-ltb, eq-eqb, ne-eqb}

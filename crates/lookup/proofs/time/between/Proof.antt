@@ -1,4 +1,4 @@
--- `lookup::time::between` meets its contract. Assumes nothing.
+-- `lookup::time::between` meets its contract: by definition of `between`, by what `fraction` and `interpolate` ensure.
 use borrow.Author.Needs.{needs}
 use Rattle.lookup.proofs.time.between.Statement.{statement}
 use Rattle.lookup.proofs.time.between.Tie as tie

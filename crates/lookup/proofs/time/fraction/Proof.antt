@@ -1,4 +1,4 @@
--- `lookup::time::fraction` meets its contract. Assumes nothing.
+-- `lookup::time::fraction` meets its contract: the test for a span above 0.0 is that of the definition (0.0 is its bits, `ofBits`), and the branch where it holds is what `quotient` ensures.
 use Rattle.lookup.specs.Lookup.{fraction}
 use lib.Ieee.{ofBits}
 use borrow.Author.Needs.{needs}

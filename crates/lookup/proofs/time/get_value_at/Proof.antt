@@ -1,8 +1,9 @@
--- `lookup::time::get_value_at` meets its contract. Assumes nothing.
+-- `lookup::time::get_value_at` meets its contract: the test is that of `getValueAt`: where it fails, refusal 1;
+-- where it holds the points are valid (`and-right`), as `value_at` asks, and its answer is given.
 use mathlib.Core.Path.{sym, _∙_}
-use Rattle.points.proofs.Laws.{and-right}
+use Rattle.numbers.proofs.Tests.{and-right}
 use Rattle.points.specs.Points.{validPoints}
-use Rattle.lookup.specs.Limits.{finiteLimits}
+use Rattle.limits.specs.Limits.{finiteLimits}
 use Rattle.lookup.specs.Lookup.{getValueAt}
 use borrow.Author.Needs.{needs}
 use Rattle.lookup.proofs.time.get_value_at.Statement.{statement}

@@ -1,4 +1,5 @@
--- `lookup::time::raw_at` meets its contract. Assumes nothing.
+-- `lookup::time::raw_at` meets its contract: the ends are `raw-none`, `raw-one`, `raw-first` and `raw-last`. Between them the bisection
+-- keeps `Halving`; as the keys rise (`valid-rising`) it ends at the time's place, and around that place the lookup is `raw-around`.
 use Prim.Native.Nat.{_+_, _-_, _/_}
 use mathlib.Core.Path.{sym, ap, _∙_}
 use native.Mathlib.Omega.{arith}
@@ -7,7 +8,7 @@ use Rattle.points.specs.Point.{anyPoint}
 use Rattle.points.specs.Points.{timeKey}
 use Rattle.points.specs.Refusal.{gives}
 use Rattle.points.proofs.ValidLaws.{valid-count, valid-rising}
-use Rattle.points.proofs.SearchLaws.{Searching, search-start, search-up, search-down, search-end}
+use Rattle.points.proofs.SearchLaws.{Halving, halving-start, halving-up, halving-down, halving-place}
 use Rattle.lookup.specs.Lookup.{pointAt}
 use Rattle.lookup.proofs.LookupLaws.{raw-none, raw-one, raw-first, raw-last, raw-around, at-place}
 use Rattle.lookup.proofs.Good.{inside}
@@ -15,7 +16,7 @@ use Rattle.lookup.proofs.time.raw_at.Statement.{statement}
 use Rattle.lookup.proofs.time.raw_at.Tie as tie
 
 abbrev Inv-loop : tie.InvT-loop
-Inv-loop time points n key low₀ high₀ low high = Searching timeKey anyPoint (orderKey time) (points .places) n low high
+Inv-loop time points n key low₀ high₀ low high = Halving timeKey anyPoint (orderKey time) (points .places) n low high
 
 abbrev μ-loop : tie.MeasureT-loop
 μ-loop time points n key low₀ high₀ low high = high - low
@@ -41,7 +42,7 @@ returns-3 c =
     let good = c .before .before .before .before .before .good in
     let pre = c .before .before .before .before .before .pre in
     let ps = args .t1 in
-    ap gives (sym (raw-first _ _ (ps .places) (ps .count) (args .time) (inside ps _ (good .0) (pre)) (omega arith) (c .if3 .taken)))
+    ap gives (sym (raw-first _ _ (ps .places) (ps .count) (args .time) (inside ps _ (good .0) pre) (omega arith) (c .if3 .taken)))
 
 sub-last : tie.Need-sub-last Inv-loop μ-loop
 sub-last c = omega arith
@@ -50,13 +51,13 @@ mul-last : tie.Need-mul-last Inv-loop μ-loop
 mul-last c =
     let args = c .before .before .before .before .before .args in
     let pre = c .before .before .before .before .before .pre in
-    omega (arith, valid-count (args .t1) (pre))
+    omega (arith, valid-count (args .t1) pre)
 
 element-copy-out-last : tie.Need-element-copy-out-last Inv-loop μ-loop
 element-copy-out-last c =
     let args = c .before .before .before .before .before .args in
     let pre = c .before .before .before .before .before .pre in
-    omega (arith, valid-count (args .t1) (pre))
+    omega (arith, valid-count (args .t1) pre)
 
 returns-4 : tie.Need-returns-4 Inv-loop μ-loop
 returns-4 c =
@@ -65,7 +66,7 @@ returns-4 c =
     let pre = c .before .before .before .before .before .before .before .before .pre in
     let if3 = c .before .before .before .if3 in
     let ps = args .t1 in
-    ap gives (sym (raw-last _ _ (ps .places) (ps .count) (args .time) (inside ps _ (good .0) (pre)) (omega arith) (if3 .left) (c .if4 .taken)))
+    ap gives (sym (raw-last _ _ (ps .places) (ps .count) (args .time) (inside ps _ (good .0) pre) (omega arith) (if3 .left) (c .if4 .taken)))
 
 order-key-requires : tie.Need-order-key-requires Inv-loop μ-loop
 order-key-requires c κs = tt
@@ -73,7 +74,7 @@ order-key-requires c κs = tt
 loop-holds : tie.Need-loop-holds Inv-loop μ-loop
 loop-holds c =
     let args = c .before .before .before .before .before .before .before .before .before .args in
-    search-start timeKey anyPoint (orderKey (args .time)) (args .t1 .places) (args .t1 .count)
+    halving-start timeKey anyPoint (orderKey (args .time)) (args .t1 .places) (args .t1 .count)
 
 sub-mid : tie.Need-sub-mid Inv-loop μ-loop
 sub-mid c = omega arith
@@ -82,19 +83,19 @@ add-mid : tie.Need-add-mid Inv-loop μ-loop
 add-mid c =
     let args = c .before .before .before .before .before .before .before .before .before .before .before .args in
     let pre = c .before .before .before .before .before .before .before .before .before .before .before .pre in
-    omega (arith, valid-count (args .t1) (pre))
+    omega (arith, valid-count (args .t1) pre)
 
 mul-p : tie.Need-mul-p Inv-loop μ-loop
 mul-p c =
     let args = c .before .before .before .before .before .before .before .before .before .before .before .args in
     let pre = c .before .before .before .before .before .before .before .before .before .before .before .pre in
-    omega (arith, valid-count (args .t1) (pre))
+    omega (arith, valid-count (args .t1) pre)
 
 element-copy-out-p : tie.Need-element-copy-out-p Inv-loop μ-loop
 element-copy-out-p c =
     let args = c .before .before .before .before .before .before .before .before .before .before .before .args in
     let pre = c .before .before .before .before .before .before .before .before .before .before .before .pre in
-    omega (arith, valid-count (args .t1) (pre))
+    omega (arith, valid-count (args .t1) pre)
 
 order-key-requires-2 : tie.Need-order-key-requires-2 Inv-loop μ-loop
 order-key-requires-2 c κs = tt
@@ -103,7 +104,7 @@ add-low : tie.Need-add-low Inv-loop μ-loop
 add-low c =
     let args = c .before .before .before .before .before .before .before .before .before .before .before .before .before .before .args in
     let pre = c .before .before .before .before .before .before .before .before .before .before .before .before .before .before .pre in
-    omega (arith, valid-count (args .t1) (pre))
+    omega (arith, valid-count (args .t1) pre)
 
 loop-less : tie.Need-loop-less Inv-loop μ-loop
 loop-less c = omega arith
@@ -111,13 +112,11 @@ loop-less c = omega arith
 loop-again : tie.Need-loop-again Inv-loop μ-loop
 loop-again c =
     let args = c .before .before .before .before .before .before .before .before .before .before .before .before .before .before .args in
-    let pre = c .before .before .before .before .before .before .before .before .before .before .before .before .before .before .pre in
-    let good = c .before .before .before .before .before .before .before .before .before .before .before .before .before .before .good in
     let order-key = c .before .before .before .before .before .order-key in
     let ps = args .t1 in
     let h = c .before .before .before .before .loop in
-    search-up timeKey anyPoint (orderKey (args .time)) (ps .places) (ps .count) (h .low) (h .high) (h .low + (h .high - h .low) / 2) (h .inv)
-    (valid-rising ps (pre)) (inside ps _ (good .0) (pre)) (omega arith) (omega (arith, order-key .ensures, c .before .order-key2 .ensures, c .if5 .taken))
+    halving-up timeKey anyPoint (orderKey (args .time)) (ps .places) (ps .count) (h .low) (h .high) (h .low + (h .high - h .low) / 2) (h .inv)
+    (omega arith) (omega (arith, order-key .ensures, c .before .order-key2 .ensures, c .if5 .taken))
 
 loop-less-2 : tie.Need-loop-less-2 Inv-loop μ-loop
 loop-less-2 c = omega arith
@@ -128,7 +127,7 @@ loop-again-2 c =
     let order-key = c .before .before .before .before .before .order-key in
     let ps = args .t1 in
     let h = c .before .before .before .before .loop in
-    search-down timeKey anyPoint (orderKey (args .time)) (ps .places) (ps .count) (h .low) (h .high) (h .low + (h .high - h .low) / 2) (h .inv)
+    halving-down timeKey anyPoint (orderKey (args .time)) (ps .places) (ps .count) (h .low) (h .high) (h .low + (h .high - h .low) / 2) (h .inv)
     (omega arith) (omega arith) (omega (arith, order-key .ensures, c .before .order-key2 .ensures, c .if5 .left))
 
 previous-requires : tie.Need-previous-requires Inv-loop μ-loop
@@ -141,13 +140,13 @@ mul-p-2 : tie.Need-mul-p-2 Inv-loop μ-loop
 mul-p-2 c =
     let args = c .before .before .before .before .before .before .before .before .before .before .before .before .before .args in
     let pre = c .before .before .before .before .before .before .before .before .before .before .before .before .before .pre in
-    omega (arith, valid-count (args .t1) (pre), c .before .previous .ensures)
+    omega (arith, valid-count (args .t1) pre, c .before .previous .ensures)
 
 element-copy-out-p-2 : tie.Need-element-copy-out-p-2 Inv-loop μ-loop
 element-copy-out-p-2 c =
     let args = c .before .before .before .before .before .before .before .before .before .before .before .before .before .args in
     let pre = c .before .before .before .before .before .before .before .before .before .before .before .before .before .pre in
-    omega (arith, valid-count (args .t1) (pre), c .before .previous .ensures)
+    omega (arith, valid-count (args .t1) pre, c .before .previous .ensures)
 
 mul-q : tie.Need-mul-q Inv-loop μ-loop
 mul-q c = omega (arith, c .before .within .ensures)
@@ -169,12 +168,12 @@ returns-5 c =
     let within = c .before .before .before .within in
     let ps = args .t1 in
     let h = c .before .before .before .before .before .before .loop in
-    let f = inside ps _ (good .0) (pre) in
-    let e = search-end timeKey anyPoint (orderKey (args .time)) (ps .places) (ps .count) (h .low) (h .high) (h .inv) f (omega arith) in
+    let f = inside ps _ (good .0) pre in
+    let e = halving-place timeKey anyPoint (orderKey (args .time)) (ps .places) (ps .count) (h .low) (h .high) (h .inv) (valid-rising ps pre) f (omega arith) in
     c .around .ensures
     ∙ ap gives
     (raw-around _ _ (ps .places) (ps .count) (args .time) f (omega arith) (if3 .left) (if4 .left) (h .low) e _ _ (ap (pointAt (ps .places)) (previous .ensures))
-    (at-place (ps .places) (h .low) _ (ps .count) (within .ensures) (valid-count ps (pre))))
+    (at-place (ps .places) (h .low) _ (ps .count) (within .ensures) (valid-count ps pre)))
 
 pub raw-at-spec : {M : Type 1} → statement M
 raw-at-spec =

@@ -1,4 +1,4 @@
--- `lookup::time::value_at` meets its contract. Assumes nothing.
+-- `lookup::time::value_at` meets its contract: enabled, to constrain the answer of `raw_at` is to constrain what is heard (`heard-on`); disabled, nothing is heard (`heard-off`).
 use mathlib.Core.Path.{ap, _∙_}
 use Rattle.points.specs.Points.{listOf}
 use Rattle.lookup.specs.Lookup.{rawAt, told}

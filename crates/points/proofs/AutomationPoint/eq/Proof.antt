@@ -1,6 +1,6 @@
 use mathlib.Core.Path.{sym, ap, _∙_}
+use Rattle.numbers.proofs.Tests.{and-both}
 use Rattle.points.specs.Refusal.{gives}
-use Rattle.points.proofs.Laws.{and-both}
 use Rattle.points.specs.Point.{pointsEqual}
 use borrow.Author.Needs.{needs}
 use Rattle.points.proofs.AutomationPoint.eq.Statement.{statement}

@@ -1,7 +1,7 @@
 use mathlib.Core.Path.{sym}
 use lib.IntN.{negsuc}
 use lib.Ieee.{ofBits}
-use Rattle.points.proofs.Laws.{and-both}
+use Rattle.numbers.proofs.Tests.{and-both}
 use Rattle.points.proofs.FloatLaws.{abs-below}
 use Rattle.points.proofs.AutomationPoint.same.Statement.{statement}
 use Rattle.points.proofs.AutomationPoint.same.Tie as tie

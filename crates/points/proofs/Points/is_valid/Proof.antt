@@ -6,9 +6,10 @@ use native.Mathlib.Nat.{sub-self}
 use lib.ListN.{take, drop, getD, length-drop}
 use lib.Seq.{take-all}
 use borrow.Author.Tests.{lt-leb, le-leb}
+use Rattle.numbers.proofs.Tests.{and-both}
 use Rattle.points.specs.Point.{anyPoint, finitePoint, isUnused}
 use Rattle.points.specs.Points.{every, timeKey, rising, validPoints}
-use Rattle.points.proofs.Laws.{every-more, every-rest, rising-next, rising-one, rising-end, and-both}
+use Rattle.points.proofs.Laws.{every-more, every-rest, rising-next, rising-one, rising-end}
 use Rattle.points.proofs.Good.{places}
 use Rattle.points.proofs.Points.is_valid.Statement.{statement}
 use Rattle.points.proofs.Points.is_valid.Tie as tie

@@ -1,4 +1,4 @@
--- `render::Ends::value_at` meets its contract. Assumes nothing.
+-- `render::Ends::value_at` meets its contract: its two tests are those of `outsideAt`, so each of the three ways out is a branch of it.
 use Rattle.render.proofs.Ends.value_at.Statement.{statement}
 use Rattle.render.proofs.Ends.value_at.Tie as tie
 

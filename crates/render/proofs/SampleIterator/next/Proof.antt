@@ -1,4 +1,5 @@
--- `render::SampleIterator::next` meets its contract. Assumes nothing.
+-- `render::SampleIterator::next` meets its contract: each way out is a law, and `next-invalid`, `next-infinite`, `next-too-many` and `next-over` leave the walk.
+-- Else it is `next-is`: the place is below 2^53, so exact as an f64, and a valid envelope's lookup isn't refused (`lookup-given`).
 use Prim.Native.Nat.{_+_, _^_}
 use mathlib.Core.Path.{sym, ap, _∙_}
 use mathlib.Core.Option.{Option}

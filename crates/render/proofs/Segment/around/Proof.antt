@@ -1,4 +1,4 @@
--- `render::Segment::around` meets its contract. Assumes nothing.
+-- `render::Segment::around` meets its contract: the test of the key is that of `segmentAround` (`eq-eqb`, `ne-eqb`), and both branches are what `new` ensures.
 use mathlib.Core.Path.{sym, _∙_}
 use borrow.Author.Tests.{eq-eqb, ne-eqb}
 use borrow.Author.Needs.{needs}

@@ -1,11 +1,12 @@
--- `render::Segment::value_at` meets its contract. Assumes nothing.
+-- `render::Segment::value_at` meets its contract: a Bezier curve written out is `interpolated` (`by-bezier`), and the others call `interpolate`;
+-- fraction and constraints are those of `segmentAt`, as the calls ensure.
 use mathlib.Core.Path.{_≡_, sym, ap, _∙_}
 use lib.Ieee.{Float, binary32, add, sub, mul}
 use borrow.Author.Needs.{needs}
 use Rattle.curve.specs.Curve.{clamped, cubicBezier, eased, interpolated}
 use Rattle.curve.specs.declared.CurveType.{CurveType}
 use Rattle.curve.specs.declared.CurveType.the-variants.{Bezier}
-use Rattle.lookup.specs.Limits.{constrained}
+use Rattle.limits.specs.Limits.{constrained}
 use Rattle.render.specs.Writer.{segmentAt}
 use Rattle.render.proofs.Segment.value_at.Statement.{statement}
 use Rattle.render.proofs.Segment.value_at.Tie as tie

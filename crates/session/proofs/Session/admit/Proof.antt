@@ -1,4 +1,5 @@
--- The memory's length against the one at opening.
+-- `session::Session::admit` meets its contract: the memory's length is the one check: as at opening, none fails (`admits`);
+-- any other, and `MemoryLength` is the first that fails (`admits-not`).
 use denote.Ref.{now}
 use Rattle.session.proofs.Ways.{admits, admits-not}
 use Rattle.session.proofs.Session.admit.Statement.{statement}

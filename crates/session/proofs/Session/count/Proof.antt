@@ -1,4 +1,5 @@
--- With no slot the memory stays; else the place is below D, so its slot lies in the memory.
+-- `session::Session::count` meets its contract: with no slot the memory stays (`count-none`); else the place is below D (`in-order`),
+-- so its slot lies in the memory, and `store` puts the old envelope there (`count-put`).
 use mathlib.Core.Path.{refl}
 use denote.Ref.{now}
 use native.Mathlib.Omega.{arith}

@@ -1,13 +1,14 @@
--- The tests in turn: the session's order, what `admit` refuses (but 1 for the envelope first), and the edit's own, whose 1 is the session's too.
+-- `session::Session::edit` meets its contract: the tests in turn: out of order is 1 (`edit-order`);
+-- what `admit` refuses, but 1 for the envelope first (`edit-refused`); the edit's own answer (`edit-own`), whose 1 (`edit-one`) is the session's too.
 use mathlib.Core.Path.{ap, sym, _∙_}
 use denote.Ref.{now}
-use Rattle.points.proofs.Laws.{and-true}
+use mathlib.Core.Bool.{and-true}
 use Rattle.envelope.specs.Envelope.{validEnvelope}
 use Rattle.envelope.specs.Edit.{EditTold}
 use Rattle.points.specs.Checks.{refusalOf}
 use Rattle.session.specs.Session.{called, settled}
 use Rattle.session.specs.Calls.{alone}
-use Rattle.session.proofs.One.{edit-one}
+use Rattle.envelope.proofs.EditLaws.{edit-one}
 use Rattle.session.proofs.Ways.{admitted-length, edit-order, edit-refused, edit-own}
 use Rattle.session.specs.declared.SessionAnswer.{SessionAnswer}
 use borrow.Author.Needs.{needs}

@@ -1,7 +1,8 @@
--- The tests in turn: 1 by `is_valid`, what `admit` refuses, and the rest is `step_forward`'s.
+-- `session::Session::forward` meets its contract: the tests in turn: not valid is 1 (`call-one`); then what `admit` refuses (`call-refused`);
+-- else the memory has its length (`admitted-length`), and the rest is `step_forward`'s (`call-behind`).
 use mathlib.Core.Path.{ap, sym, _∙_}
 use denote.Ref.{now}
-use Rattle.points.proofs.Laws.{and-true}
+use mathlib.Core.Bool.{and-true}
 use Rattle.points.specs.Checks.{refusalOf}
 use Rattle.session.specs.Session.{validSession, called}
 use Rattle.session.specs.Calls.{forward}

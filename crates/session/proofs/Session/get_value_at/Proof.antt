@@ -1,3 +1,5 @@
+-- `session::Session::get_value_at` meets its contract: in order, it is valid just if its envelope is, and if not the envelope's own call gives the 1 (`value-own`);
+-- out of order it isn't valid, and the code gives the 1 (`value-not`).
 use mathlib.Core.Path.{sym, _∙_}
 use Rattle.session.proofs.PlayLaws.{value-own, value-not}
 use borrow.Author.Needs.{needs}

@@ -1,3 +1,5 @@
+-- `session::Session::in_order` meets its contract: with `kept ≤ D`, `ahead ≤ D - kept` says `kept + ahead ≤ D` with no sum to wrap (`order-yes`);
+-- with more kept than D the sum is too much for any `ahead` (`order-no`).
 use Rattle.session.proofs.Ways.{order-yes, order-no}
 use borrow.Author.Needs.{needs}
 use Rattle.session.proofs.Session.in_order.Statement.{statement}

@@ -1,3 +1,4 @@
+-- `session::Session::is_valid` meets its contract: `validSession` is by definition the conjunction of what `is_valid` of the envelope and `in_order` answer.
 use mathlib.Core.Bool.{_&&_}
 use borrow.Author.Needs.{needs}
 use Rattle.session.proofs.Session.is_valid.Statement.{statement}

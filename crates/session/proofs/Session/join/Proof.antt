@@ -1,4 +1,5 @@
--- As `edit`, with 1 for either envelope.
+-- `session::Session::join` meets its contract: the tests in turn, as in `edit`, with 1 for either envelope: out of order (`edit-order`);
+-- what `admit` refuses, but that 1 first (`edit-refused`); the join's own answer (`edit-own`), whose 1 (`join-one`) is the session's too.
 use mathlib.Core.Path.{ap, sym, _∙_}
 use denote.Ref.{now}
 use mathlib.Core.Bool.{_&&_}
@@ -6,7 +7,7 @@ use Rattle.envelope.specs.Edit.{EditTold}
 use Rattle.points.specs.Checks.{refusalOf}
 use Rattle.session.specs.Session.{called, settled}
 use Rattle.session.specs.Calls.{joined}
-use Rattle.session.proofs.One.{join-one}
+use Rattle.envelope.proofs.JoinLaws.{join-one}
 use Rattle.session.proofs.Ways.{admitted-length, edit-order, edit-refused, edit-own}
 use Rattle.session.specs.declared.SessionAnswer.{SessionAnswer}
 use borrow.Author.Needs.{needs}

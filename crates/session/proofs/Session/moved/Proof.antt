@@ -1,4 +1,4 @@
--- The session with the new envelope and numbers, field by field.
+-- `session::Session::moved` meets its contract: by definition of `movedBy`: the session with the new envelope and numbers, field by field.
 use mathlib.Core.Path.{refl}
 use Rattle.session.proofs.Session.moved.Statement.{statement}
 use Rattle.session.proofs.Session.moved.Tie as tie

@@ -1,3 +1,4 @@
+-- `session::Session::open` meets its contract: by definition of `openSession`, as `AutomationEnvelope::new` answers `new target`.
 use mathlib.Core.Path.{ap}
 use denote.Ref.{now}
 use lib.ListN.{length}

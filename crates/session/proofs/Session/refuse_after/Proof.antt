@@ -1,4 +1,4 @@
--- By the validity that it is given.
+-- `session::Session::refuse_after` meets its contract: by the branch that its `if` took, `first` is `cond valid refusal NotValid`, which `refuse` answers.
 use mathlib.Core.Path.{_≡_, ap, _∙_}
 use mathlib.Core.Bool.{cond}
 use mathlib.Core.Logic.{⊎-elim}

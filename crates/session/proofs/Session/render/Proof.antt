@@ -1,3 +1,5 @@
+-- `session::Session::render` meets its contract: in order, it is valid just if its envelope is, and if not the envelope's own call gives the 1 (`render-own`);
+-- out of order it isn't valid, and the code gives the 1 with the buffer as it was (`render-not`).
 use mathlib.Core.Path.{refl, sym, _∙_}
 use denote.Ref.{now}
 use Rattle.render.proofs.RenderLaws.{answers}

@@ -1,4 +1,5 @@
--- By what the edit says: it counts, or its refusal is the call's.
+-- `session::Session::settle` meets its contract: by what the edit says: accepted, `count` makes what `settled` names (`settle-counted`);
+-- refused, its refusal is the call's (`settle-refused`).
 use denote.Ref.{now}
 use Rattle.session.proofs.Ways.{settle-counted, settle-refused}
 use borrow.Author.Needs.{needs}

@@ -1,8 +1,9 @@
--- A kept edit leaves room for its slot, which is below D; none is 10.
+-- `session::Session::step_back` meets its contract: nothing kept is 10 (`back-none`); else by `kept + ahead ≤ D` (`in-order`) no sum wraps
+-- and the slot before the place is below D (`before-below`), so it lies in the memory, and `step_over` makes the step (`back-over`).
 use mathlib.Core.Path.{ap, _∙_}
 use denote.Ref.{now}
 use native.Mathlib.Omega.{arith}
-use Rattle.points.proofs.Laws.{and-right}
+use Rattle.numbers.proofs.Tests.{and-right}
 use Rattle.envelope.specs.Envelope.{validEnvelope}
 use Rattle.session.specs.Session.{inOrder, called}
 use Rattle.session.proofs.Ways.{in-order, before-below, back-none, back-over}

@@ -1,8 +1,9 @@
--- An entry ahead has its slot at the place, which is below D; none is 10.
+-- `session::Session::step_forward` meets its contract: nothing ahead is 10 (`forward-none`); else by `kept + ahead ≤ D` (`in-order`) no sum wraps
+-- and the place is below D, so its slot lies in the memory, and `step_over` makes the step (`forward-over`).
 use mathlib.Core.Path.{ap, _∙_}
 use denote.Ref.{now}
 use native.Mathlib.Omega.{arith}
-use Rattle.points.proofs.Laws.{and-right}
+use Rattle.numbers.proofs.Tests.{and-right}
 use Rattle.envelope.specs.Envelope.{validEnvelope}
 use Rattle.session.specs.Session.{inOrder, called}
 use Rattle.session.proofs.Ways.{in-order, forward-none, forward-over}

@@ -1,4 +1,5 @@
--- By what the slot holds: a state that changes places with the envelope, or 12.
+-- `session::Session::step_over` meets its contract: by what `load` answers: accepted, the state there packs a valid envelope, and the two change places (`step-done`);
+-- refused, it packs none, and that is 12 (`step-bad`).
 use denote.Ref.{now}
 use Rattle.session.proofs.Ways.{step-done, step-bad}
 use borrow.Author.Needs.{needs}

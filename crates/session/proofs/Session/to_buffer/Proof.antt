@@ -1,3 +1,5 @@
+-- `session::Session::to_buffer` meets its contract: in order, it is valid just if its envelope is, and if not the envelope's own call gives the 1 (`buffer-own`);
+-- out of order it isn't valid, and the code gives the 1 with the buffer as it was (`buffer-not`).
 use mathlib.Core.Path.{refl, sym, _∙_}
 use denote.Ref.{now}
 use Rattle.render.proofs.RenderLaws.{answers}

@@ -1,3 +1,4 @@
+-- `sheet::play::no_input` meets its contract: by definition of `toldInput` and `inputHeld`, with the empty envelope that `new` ensures.
 use mathlib.Core.Path.{refl}
 use lib.Ieee.{ofBits}
 use Rattle.sheet.specs.Told.{toldInput}

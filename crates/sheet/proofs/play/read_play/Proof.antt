@@ -1,9 +1,12 @@
+-- `sheet::play::read_play` meets its contract: by the answer of `sheet_lines`: a refusal is passed on (`refused-lines`), and an accepted sheet is valid
+-- and ends at the block's names (`sheet-read`), as `block_at` asks, which ensures the rest (`accepted-lines`).
 use mathlib.Core.Bool.{true}
 use Rattle.lines.specs.PointLines.{pointsEnd}
 use Rattle.sheet.specs.Sheet.{playInput}
 use Rattle.sheet.proofs.Answers.{accepted-lines, refused-lines}
 use Rattle.sheet.proofs.Sheets.{sheet-read}
-use Rattle.sheet.proofs.Valid.{few}
+use Rattle.points.proofs.ValidLaws.{valid-count}
+use Rattle.envelope.proofs.ValidParts.{points-valid}
 use borrow.Author.Needs.{needs}
 use Rattle.sheet.proofs.play.read_play.Statement.{statement}
 use Rattle.sheet.proofs.play.read_play.Tie as tie
@@ -25,7 +28,7 @@ unfolding pointsEnd
 block-at-requires c κs =
     let sheet-lines = c .before .before .before .sheet-lines in
     let w = sheet-read true _ _ _ (accepted-lines _ _ (sheet-lines .ensures) (c .before .enum-told .given .1)) in
-    (few (sheet-lines .result .envelope) (w .valid), w .end)
+    (valid-count (sheet-lines .result .envelope .points) (points-valid (sheet-lines .result .envelope) (w .valid)), w .end)
 
 returns : tie.Need-returns
 unfolding playInput

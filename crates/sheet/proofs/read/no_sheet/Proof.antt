@@ -1,3 +1,4 @@
+-- `sheet::read::no_sheet` meets its contract: by definition of `toldSheetLines`: a refusal with its line, whatever the bytes.
 use mathlib.Core.Path.{refl}
 use Rattle.sheet.specs.Told.{toldSheetLines}
 use borrow.Author.Needs.{needs}

@@ -1,3 +1,5 @@
+-- `sheet::read::read_sheet` meets its contract: by the answer of `sheet_lines`: a refusal with its line beside the envelope of `new` (`refused-lines`),
+-- or the sheet's envelope (`accepted-lines`).
 use mathlib.Core.Path.{refl}
 use Rattle.sheet.specs.Sheet.{readSheet}
 use Rattle.sheet.specs.Told.{toldRead}

@@ -1,3 +1,4 @@
+-- `sheet::read::with_settings` meets its contract: by the answer's two cases (`with-settings`): settings beside the points, or the refusal as it was.
 use Rattle.lines.specs.Told.{toldPointLines}
 use Rattle.sheet.specs.Told.{toldSheetLines}
 use Rattle.sheet.proofs.Answers.{with-settings}

@@ -1,3 +1,4 @@
+-- `sheet::write::controls_length` meets its contract: by the code: 5 is `five-length`, any other `other-length`.
 use mathlib.Core.Path.{sym}
 use Rattle.sheet.proofs.Texts.{five-length, other-length}
 use Rattle.sheet.proofs.write.controls_length.Statement.{statement}

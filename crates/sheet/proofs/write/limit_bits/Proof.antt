@@ -1,3 +1,5 @@
+-- `sheet::write::limit_bits` meets its contract: by the limit's two cases, as in `limitBits`; a finite number is no NaN (`finite-number`),
+-- so it has bits, and they fit the cast (`toBits-lt`).
 use native.Mathlib.Omega.{arith}
 use lib.Ieee.{binary32}
 use lib.Ieee.Bits.{toBits-lt}

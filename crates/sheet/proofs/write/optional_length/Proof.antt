@@ -1,3 +1,4 @@
+-- `sheet::write::optional_length` meets its contract: by its two cases: none is a dash and the byte after it (`none-length`), a number its digits and that byte (`some-length`).
 use mathlib.Core.Path.{sym}
 use Rattle.fields.proofs.Stores.{some-length, none-length}
 use borrow.Author.Needs.{needs}

@@ -1,3 +1,5 @@
+-- `sheet::write::points_length` meets its contract: total is the length of the first i lines (`texts-more`), at most 65 i (`point-le`), so it can't overflow;
+-- n - i falls, and at `used` these are all the lines, as there are 256 places (`take-min`).
 use Prim.Native.Nat.{ℕ, _≤_, _-_, _*_}
 use mathlib.Core.Path.{_≡_, refl, ap, _∙_}
 use native.Mathlib.Omega.{arith}
@@ -5,11 +7,11 @@ use lib.ListN.{length, take, getD, length-append}
 use mathlib.Core.List.{List}
 use Rattle.points.specs.declared.AutomationPoint.{AutomationPoint}
 use Rattle.lines.specs.declared.point.RawPoint.{RawPoint}
-use Rattle.points.proofs.Laws.{take-min}
+use Rattle.points.proofs.Laws.{take-min, every-within}
 use Rattle.points.specs.Point.{finitePoint, anyPoint}
 use Rattle.points.proofs.Good.{places}
 use Rattle.sheet.specs.Text.{pointText, rawPoint, pointTexts}
-use Rattle.sheet.proofs.Texts.{point-le, texts-more, every-at}
+use Rattle.sheet.proofs.Texts.{point-le, texts-more}
 use Rattle.sheet.proofs.write.points_length.Statement.{statement}
 use Rattle.sheet.proofs.write.points_length.Tie as tie
 
@@ -39,7 +41,7 @@ raw-point-requires c κs =
     let good = c .before .before .before .before .good in
     let used = c .before .before .before .used in
     let loop = c .before .before .loop in
-    every-at finitePoint (args .t1 .places) (args .t1 .count) (loop .i) anyPoint (pre) (omega (arith, used .ensures)) (let len = places (args .t1) _ (good .0) in omega (arith, used .ensures))
+    every-within finitePoint (args .t1 .places) (args .t1 .count) (loop .i) anyPoint pre (omega (arith, used .ensures)) (let len = places (args .t1) _ (good .0) in omega (arith, used .ensures))
 
 point-length-requires : tie.Need-point-length-requires Inv-loop μ-loop
 point-length-requires c κs = tt

@@ -1,3 +1,4 @@
+-- `sheet::write::position_bits` meets its contract: the position's two cases are those of `positionBits`.
 use borrow.Author.Needs.{needs}
 use Rattle.sheet.proofs.write.position_bits.Statement.{statement}
 use Rattle.sheet.proofs.write.position_bits.Tie as tie

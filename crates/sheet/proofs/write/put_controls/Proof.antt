@@ -1,3 +1,5 @@
+-- `sheet::write::put_controls` meets its contract: by the code: 5 is two numbers (`controls-five`), of which the second stands after the first (`fit-then`),
+-- any other the dashes (`controls-other`); the room is required, so what is put fits (`put-fits`).
 use Prim.Native.Nat.{ℕ, _+_, _≤_}
 use mathlib.Core.Path.{sym, subst}
 use mathlib.Core.List.{List}

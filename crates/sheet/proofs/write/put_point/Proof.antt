@@ -1,3 +1,5 @@
+-- `sheet::write::put_point` meets its contract: the line has room, so each field fits where the one before ended, and so do the controls (`fifth-room`),
+-- and the five put one after another are the line (`five-put`).
 use Rattle.sheet.specs.Text.{controlsText, pointText}
 use Rattle.sheet.proofs.Texts.{fifth-room, five-put}
 use borrow.Author.Needs.{needs}

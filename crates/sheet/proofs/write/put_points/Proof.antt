@@ -1,3 +1,5 @@
+-- `sheet::write::put_points` meets its contract: the first i lines are put; the next has room, as they all do (`text-fits`), and stands after them (`text-put`).
+-- n - i falls, and at `used` these are all the lines, as there are 256 places (`take-min`).
 use Prim.Native.Nat.{ℕ, _≤_, _-_}
 use mathlib.Core.Path.{_≡_, refl, sym, ap, subst, _∙_}
 use mathlib.Core.List.{List}
@@ -5,13 +7,13 @@ use native.Mathlib.Omega.{arith}
 use native.Mathlib.Nat.{add-zero}
 use lib.ListN.{length, take}
 use Rattle.fields.proofs.Stores.{put-length}
-use Rattle.points.proofs.Laws.{take-min}
+use Rattle.points.proofs.Laws.{take-min, every-within}
 use Rattle.points.specs.Point.{finitePoint, anyPoint}
 use Rattle.points.specs.declared.AutomationPoint.{AutomationPoint}
 use Rattle.points.proofs.Good.{places}
 use Rattle.sheet.specs.Text.{pointTexts}
 use Rattle.fields.specs.Told.{Put}
-use Rattle.sheet.proofs.Texts.{every-at, text-fits, text-put}
+use Rattle.sheet.proofs.Texts.{text-fits, text-put}
 use Rattle.sheet.proofs.write.put_points.Statement.{statement}
 use Rattle.sheet.proofs.write.put_points.Tie as tie
 
@@ -41,7 +43,8 @@ raw-point-requires c κs =
     let good = c .before .before .before .before .before .before .good in
     let used = c .before .before .before .before .used in
     let loop = c .before .before .before .loop in
-    every-at finitePoint (args .t3 .places) (args .t3 .count) (loop .i) anyPoint (pre .0) (omega (arith, used .ensures)) (let len = places (args .t3) _ (good .1 .1 .0) in omega (arith, used .ensures))
+    every-within finitePoint (args .t3 .places) (args .t3 .count) (loop .i) anyPoint (pre .0) (omega (arith, used .ensures))
+    (let len = places (args .t3) _ (good .1 .1 .0) in omega (arith, used .ensures))
 
 put-point-requires : tie.Need-put-point-requires Inv-loop μ-loop
 put-point-requires c κs =

@@ -1,3 +1,5 @@
+-- `sheet::write::put_settings` meets its contract: the line has room, so each field fits where the one before ended, the fifth too (`fifth-room`, `put-fits`),
+-- and the five put one after another are the line (`five-put`).
 use Rattle.fields.specs.Text.{optionalText}
 use Rattle.fields.proofs.Stores.{put-fits}
 use Rattle.sheet.specs.Text.{settingsText}

@@ -1,5 +1,8 @@
+-- `sheet::write::put_sheet` meets its contract: the sheet has room, so settings and points fit where the text before ended (`settings-room`, `points-room`),
+-- and the four texts put one after another are the sheet (`sheet-put`); a valid envelope is finite, as the calls ask.
 use Rattle.sheet.proofs.Texts.{settings-room, points-room, sheet-put}
-use Rattle.sheet.proofs.Valid.{limits-finite, points-finite}
+use Rattle.points.proofs.ValidLaws.{valid-finite}
+use Rattle.envelope.proofs.ValidParts.{limits-finite, points-valid}
 use borrow.Author.Needs.{needs}
 use Rattle.sheet.proofs.write.put_sheet.Statement.{statement}
 use Rattle.sheet.proofs.write.put_sheet.Tie as tie
@@ -36,8 +39,10 @@ put-points-requires c κs =
     let fit-text = c .before .before .before .before .before .before .before .before .before .before .before .before .before .fit-text in
     let raw-settings = c .before .before .before .before .before .before .before .before .before .raw-settings in
     let put-settings = c .before .before .before .before .before .before .before .before .put-settings in
-    let fit-text2 = c .before .before .before .fit-text2 in
-    (points-finite (args .e) (entry .pre .0), points-room (args .e) (entry .pre .1) (fit-text .ensures) (rw (raw-settings .ensures) at (put-settings .ensures)) (fit-text2 .ensures))
+    let fit-text2 = c .before .before .before .fit-text2 in (
+      valid-finite (args .e .points) (points-valid (args .e) (entry .pre .0)),
+      points-room (args .e) (entry .pre .1) (fit-text .ensures) (rw (raw-settings .ensures) at (put-settings .ensures)) (fit-text2 .ensures),
+    )
 
 same-length : tie.Need-same-length
 same-length c = search needs

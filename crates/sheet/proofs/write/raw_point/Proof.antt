@@ -1,7 +1,9 @@
+-- `sheet::write::raw_point` meets its contract: by definition of `rawPoint`, as the calls ensure; a finite point's four floats are finite (`finite-time`,
+-- `finite-value`, `finite-cp1`, `finite-cp2`), so none is a NaN (`finite-number`) and each has bits.
 use Rattle.sheet.specs.Text.{rawPoint}
 use Rattle.numbers.proofs.Tests.{no}
 use Rattle.numbers.proofs.Compare.{finite-number}
-use Rattle.sheet.proofs.Valid.{finite-time, finite-value, finite-cp1, finite-cp2}
+use Rattle.points.proofs.ValidLaws.{finite-time, finite-value, finite-cp1, finite-cp2}
 use borrow.Author.Needs.{needs}
 use Rattle.sheet.proofs.write.raw_point.Statement.{statement}
 use Rattle.sheet.proofs.write.raw_point.Tie as tie

@@ -1,17 +1,20 @@
+-- `sheet::write::raw_settings` meets its contract: by definition of `rawSettings`, field by field as the calls ensure; finite limits are so
+-- one by one (`finite-min`, `finite-max`, `finite-step`), as `limit_bits` asks.
 use Rattle.sheet.specs.Text.{rawSettings}
-use Rattle.sheet.proofs.Valid.{finite-min, finite-max, finite-step}
+use Rattle.limits.proofs.LimitLaws.{finite-min, finite-max, finite-step}
+use Rattle.envelope.specs.Envelope.{limitsOf}
 use borrow.Author.Needs.{needs}
 use Rattle.sheet.proofs.write.raw_settings.Statement.{statement}
 use Rattle.sheet.proofs.write.raw_settings.Tie as tie
 
 limit-bits-requires : tie.Need-limit-bits-requires
-limit-bits-requires c κs = finite-min (c .args .e) (c .pre)
+limit-bits-requires c κs = finite-min (limitsOf (c .args .e)) (c .pre)
 
 limit-bits-requires-2 : tie.Need-limit-bits-requires-2
-limit-bits-requires-2 c κs = finite-max (c .before .args .e) (c .before .pre)
+limit-bits-requires-2 c κs = finite-max (limitsOf (c .before .args .e)) (c .before .pre)
 
 limit-bits-requires-3 : tie.Need-limit-bits-requires-3
-limit-bits-requires-3 c κs = finite-step (c .before .before .args .e) (c .before .before .pre)
+limit-bits-requires-3 c κs = finite-step (limitsOf (c .before .before .args .e)) (c .before .before .pre)
 
 enabled-digit-requires : tie.Need-enabled-digit-requires
 enabled-digit-requires c κs = search needs

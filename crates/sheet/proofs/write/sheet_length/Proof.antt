@@ -1,10 +1,13 @@
+-- `sheet::write::sheet_length` meets its contract: the length is the sum of names, settings, names and points (`sheet-length`);
+-- settings and at most 256 points are short (`settings-le`, `texts-few`), so no sum overflows.
 use mathlib.Core.Path.{ap, _∙_}
 use native.Mathlib.Omega.{arith}
 use lib.ListN.{length}
 use Rattle.sheet.specs.Text.{settingsText}
 use Rattle.lines.specs.declared.settings.RawSettings.{RawSettings}
 use Rattle.sheet.proofs.Texts.{settings-le, sheet-length, texts-few}
-use Rattle.sheet.proofs.Valid.{limits-finite, few, points-finite}
+use Rattle.points.proofs.ValidLaws.{valid-count, valid-finite}
+use Rattle.envelope.proofs.ValidParts.{limits-finite, points-valid}
 use borrow.Author.Needs.{needs}
 use Rattle.sheet.proofs.write.sheet_length.Statement.{statement}
 use Rattle.sheet.proofs.write.sheet_length.Tie as tie
@@ -22,14 +25,17 @@ add-result-2 : tie.Need-add-result-2
 add-result-2 c = omega (arith, c .settings-length .ensures, settings-le (c .before .raw-settings .result))
 
 points-length-requires : tie.Need-points-length-requires
-points-length-requires c κs = points-finite (c .before .before .before .args .e) (c .before .before .before .pre)
+points-length-requires c κs =
+    let entry = c .before .before .before in
+    let args = entry .args in
+    valid-finite (args .e .points) (points-valid (args .e) (entry .pre))
 
 add-result-3 : tie.Need-add-result-3
 add-result-3 c =
     let args = c .before .before .before .before .args in
     let pre = c .before .before .before .before .pre in
     let raw-settings = c .before .before .raw-settings in
-    omega (arith, c .before .settings-length .ensures, settings-le (raw-settings .result), c .points-length .ensures, texts-few (args .e) (few (args .e) (pre)))
+    omega (arith, c .before .settings-length .ensures, settings-le (raw-settings .result), c .points-length .ensures, texts-few (args .e) (valid-count (args .e .points) (points-valid (args .e) pre)))
 
 returns : tie.Need-returns
 returns c =

@@ -1,3 +1,5 @@
+-- `sheet::write::write_sheet` meets its contract: its tests are those of `writeSheet`: refusal 1, and 8 by the length that `sheet_length` ensures
+-- (`lt-leb`, `le-leb`); past them the sheet put from the start is followed by the bytes that stay (`put-all`).
 use mathlib.Core.Path.{sym, ap, _∙_}
 use native.Mathlib.Omega.{arith}
 use borrow.Author.Tests.{not-true, not-false, lt-leb, le-leb}

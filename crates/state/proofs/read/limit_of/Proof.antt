@@ -1,5 +1,6 @@
+-- `state::read::limit_of` meets its contract: the flag's two cases are those of `limitOf`, and the number is what `from_bitsf` ensures.
 use mathlib.Core.Path.{ap}
-use Rattle.lookup.specs.declared.Limit.the-variants as limit
+use Rattle.limits.specs.declared.Limit.the-variants as limit
 use borrow.Author.Needs.{needs}
 use Rattle.state.proofs.read.limit_of.Statement.{statement}
 use Rattle.state.proofs.read.limit_of.Tie as tie

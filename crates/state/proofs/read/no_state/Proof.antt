@@ -1,3 +1,4 @@
+-- `state::read::no_state` meets its contract: by definition of `refusedEdit`, with the empty envelope that `new` ensures.
 use mathlib.Core.Path.{ap}
 use Rattle.points.specs.declared.refusal.Refusal.the-variants.{StoredState}
 use Rattle.envelope.specs.Edit.{refusedEdit}

@@ -1,3 +1,4 @@
+-- `state::read::position_of` meets its contract: the flag's two cases are those of `positionOf`.
 use borrow.Author.Needs.{needs}
 use Rattle.state.proofs.read.position_of.Statement.{statement}
 use Rattle.state.proofs.read.position_of.Tie as tie

@@ -1,14 +1,14 @@
--- `state::read::read_places` meets its contract. Assumes nothing.
+-- `state::read::read_places` meets its contract: the first i places are the words' points (`read-turn`, or `stands-turn` where four zeros mean
+-- the unused place that stands there), same is whether they pack to these words (`same-turn`), and at 256 that is all (`read-all`, `same-all`).
 use Prim.Native.Nat.{ℕ, _≤_, _<_, _-_, _*_, _+_}
 use mathlib.Core.Path.{_≡_, refl, sym, _∙_}
-use mathlib.Core.Bool.{true}
+use mathlib.Core.Bool.{true, and-true}
 use native.Mathlib.Omega.{arith}
 use lib.Dec.{eqb}
 use lib.ListN.{length, take, drop, getD, length-set, getD-replicate}
 use lib.Seq.{getD-set-other}
 use Rattle.points.specs.Point.{unused, anyPoint}
 use Rattle.points.specs.Points.{everyPair}
-use Rattle.points.proofs.Laws.{and-true}
 use Rattle.state.specs.State.{packPoints, pointsOf}
 use Rattle.state.proofs.Words.{unused-read, unused-same, read-none, same-none, read-turn, stands-turn, same-turn, read-all, same-all}
 use Rattle.state.proofs.read.read_places.Statement.{statement}
@@ -134,7 +134,7 @@ returns c =
     let w = args .words .now in
     let h = c .before .loop in
     let i : h .i ≡ 256 = omega (arith, h .inv .0) in
-    (read-all w (h .places) (h .i) i (h .inv .1) (h .inv .2), same-all w (h .same) (h .i) i (pre) (h .inv .3))
+    (read-all w (h .places) (h .i) i (h .inv .1) (h .inv .2), same-all w (h .same) (h .i) i pre (h .inv .3))
 
 pub read-places-spec : {M : Type 1} → statement M
 read-places-spec =

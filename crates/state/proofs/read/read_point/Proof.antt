@@ -1,3 +1,5 @@
+-- `state::read::read_point` meets its contract: field by field the point of the four words read, as the calls ensure;
+-- words read at `at` and after it are those of the list from there on (`point-at`).
 use Prim.Native.Nat.{_+_, _/_}
 use mathlib.Core.Path.{ap, _∙_}
 use mathlib.Core.Bool.{Bool}

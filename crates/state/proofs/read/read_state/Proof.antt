@@ -1,3 +1,5 @@
+-- `state::read::read_state` meets its contract: words of another length are no state's (`other-length`); of 1,028 the three tests together are that of
+-- `unpacked` (`tested`), so the answer is `accepted` or `refused`.
 use mathlib.Core.Path.{refl, ap, _∙_}
 use mathlib.Core.Bool.{false, _&&_}
 use lib.Dec.{eqb}

@@ -1,3 +1,5 @@
+-- `state::read::same_point` meets its contract: each word is that of `packPoint`, as its call ensures, and four comparisons from `at` on
+-- are `everyPair` with the four words there (`same-four`).
 use Prim.Native.Nat.{_+_}
 use mathlib.Core.Path.{_∙_}
 use mathlib.Core.Bool.{_&&_}

@@ -1,9 +1,11 @@
+-- `state::read::same_settings` meets its contract: each word is that of `packSettings`, as its call ensures, and the four comparisons
+-- are `everyPair` with the first four words (`same-four` at 0).
 use mathlib.Core.Path.{ap, _∙_}
 use mathlib.Core.Bool.{_&&_}
 use native.Mathlib.Omega.{arith}
 use lib.Dec.{eqb}
 use lib.ListN.{getD}
-use Rattle.lookup.specs.declared.Limits.{Limits}
+use Rattle.limits.specs.declared.Limits.{Limits}
 use Rattle.state.specs.State.{halves, flags, boundsWord, packSettings}
 use Rattle.state.proofs.Words.{same-four}
 use borrow.Author.Needs.{needs}

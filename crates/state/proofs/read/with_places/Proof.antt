@@ -1,3 +1,4 @@
+-- `state::read::with_places` meets its contract: by definition of `stateOf`, field by field as the calls ensure; the places are as required.
 use mathlib.Core.Path.{ap, _∙_}
 use lib.ListN.{getD}
 use Rattle.state.specs.State.{bit, limitOf, stateOf}

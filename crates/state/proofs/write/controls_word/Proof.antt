@@ -1,3 +1,5 @@
+-- `state::write::controls_word` meets its contract: of a Bezier the word is that of its two numbers, as `to_bitsf` and `halves` ensure;
+-- any other curve has no controls (`no-controls`), and the word of two 0.0 is 0.
 use mathlib.Core.Path.{sym, ap, _∙_}
 use lib.Ieee.{binary32, ofBits, toBits}
 use Rattle.curve.specs.Curve.{controls}

@@ -1,4 +1,4 @@
--- `write::fit_state` meets its contract, by the room that there is. Assumes nothing.
+-- `state::write::fit_state` meets its contract: by the room that there is: with fewer than 1,028 words they stay (`over-none`), else they are what `put_state` ensures (`over-all`).
 use mathlib.Core.Path.{_∙_}
 use Rattle.state.proofs.Calls.{over-none, over-all}
 use borrow.Author.Needs.{needs}

@@ -1,3 +1,4 @@
+-- `state::write::limit_bits` meets its contract: by the limit's two cases, as in `limitBits`: none is 0, and a number's bits are what `to_bitsf` ensures.
 use mathlib.Core.Path.{sym, ap, _∙_}
 use Rattle.state.specs.State.{limitBits}
 use borrow.Author.Needs.{needs}

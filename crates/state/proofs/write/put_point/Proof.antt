@@ -1,3 +1,5 @@
+-- `state::write::put_point` meets its contract: four stores one after another are one `sets` (`four-stores`), and each word is that of `packPoint`,
+-- as its call ensures; stores leave the length (`length-set`), so all four have their place.
 use mathlib.Core.Path.{_∙_}
 use mathlib.Core.List.{[], _∷_}
 use native.Mathlib.Omega.{arith}

@@ -1,9 +1,11 @@
+-- `state::write::put_settings` meets its contract: the four stores are `sets` at 0 as they stand, and each word is that of `packSettings`,
+-- as its call ensures; stores leave the length (`length-set`), so all four have their place.
 use mathlib.Core.Path.{ap, _∙_}
 use mathlib.Core.List.{[], _∷_}
 use native.Mathlib.Omega.{arith}
 use lib.ListN.{length-set}
 use lib.Seq.{sets}
-use Rattle.lookup.specs.declared.Limits.{Limits}
+use Rattle.limits.specs.declared.Limits.{Limits}
 use Rattle.state.specs.State.{halves, flags, boundsWord, packSettings}
 use borrow.Author.Needs.{needs}
 use Rattle.state.proofs.write.put_settings.Statement.{statement}

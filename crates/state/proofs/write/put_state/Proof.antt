@@ -1,3 +1,5 @@
+-- `state::write::put_state` meets its contract: after the settings, `Stored` says that the words of the first i points stand from word 4 on (`put-turn`);
+-- at 256 settings and points are `pack`, the words after it stay (`put-all`), and 256 - i falls.
 use Prim.Native.Nat.{_≤_, _-_}
 use mathlib.Core.Path.{ap, _∙_}
 use native.Mathlib.Omega.{arith}
@@ -74,7 +76,7 @@ returns c =
     let pre = c .before .before .before .before .before .before .before .before .pre in
     let put-settings = c .before .before .before .before .before .put-settings in
     let e = args .envelope in
-    put-all e (args .words .now) (c .before .loop .i) (places e _ (good .0)) (pre) (omega (arith, c .before .loop .inv .0)) (put-settings .ensures) (c .before .loop .inv .1)
+    put-all e (args .words .now) (c .before .loop .i) (places e _ (good .0)) pre (omega (arith, c .before .loop .inv .0)) (put-settings .ensures) (c .before .loop .inv .1)
 
 pub put-state-spec : {M : Type 1} → statement M
 put-state-spec =

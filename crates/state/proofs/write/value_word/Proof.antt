@@ -1,3 +1,4 @@
+-- `state::write::value_word` meets its contract: by definition of `valueWord`, by what its calls ensure; a curve's number is below 22 (`code-lt`), so its double and the flag fit a u32.
 use native.Mathlib.Omega.{arith}
 use Rattle.curve.proofs.Laws.{code-lt}
 use borrow.Author.Needs.{needs}

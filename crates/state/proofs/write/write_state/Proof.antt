@@ -1,3 +1,4 @@
+-- `state::write::write_state` meets its contract: each way out is a law: refusal 1 is `not-valid`, 8 `no-room`, and past both tests the words are `room`'s, as `put_state` ensures.
 use mathlib.Core.Path.{sym, ap, _∙_}
 use borrow.Author.Tests.{not-true, not-false}
 use Rattle.state.specs.State.{WordsTold}

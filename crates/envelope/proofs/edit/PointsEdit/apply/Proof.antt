@@ -1,3 +1,5 @@
+-- `envelope::edit::PointsEdit::apply` meets its contract: each of the 18 variants goes to one function,
+-- whose contract is `pointsEdited` of that variant by definition: `clampedEdit` for `ClampValues`, `editPoints` for all others.
 use Rattle.settle.specs.Settle.{editPoints}
 use Rattle.pointwise.specs.Each.{clampedEdit}
 use Rattle.envelope.specs.Edit.{pointsEdited}

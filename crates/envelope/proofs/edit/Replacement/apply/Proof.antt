@@ -1,3 +1,5 @@
+-- `envelope::edit::Replacement::apply` meets its contract: each of the four variants goes to one function of `insert`,
+-- whose contract, an `editPoints`, is `replacedPoints` of that variant by definition.
 use Rattle.settle.specs.Settle.{editPoints}
 use Rattle.envelope.specs.Edit.{replacedPoints}
 use borrow.Author.Needs.{needs}

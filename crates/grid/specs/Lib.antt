@@ -1,2 +1,0 @@
--- What quantizing does to the order of times.
-pub mod Grid

@@ -1,1 +1,0 @@
-// Laws of quantized times: specs/ and proofs/ alone.

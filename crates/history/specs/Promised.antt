@@ -1,0 +1,27 @@
+-- Demand 3, the history theorem: statements alone, each proved by the law that its comment names.
+use Prim.Native.Nat.{ℕ, _<_}
+use mathlib.Core.Path.{_≡_}
+use mathlib.Core.Bool.{true}
+use mathlib.Core.List.{List}
+use lib.ListN.{length}
+use Rattle.points.specs.Points.{every}
+use Rattle.points.specs.Refusal.{Said}
+use Rattle.envelope.specs.Envelope.{new, validEnvelope}
+use Rattle.envelope.specs.Typed.{typed}
+use Rattle.envelope.specs.declared.AutomationEnvelope.{AutomationEnvelope}
+use Rattle.session.specs.Session.{opened, openSession}
+use Rattle.session.specs.Calls.{Call, Ran}
+use Rattle.session.specs.declared.Session.{Session}
+use Rattle.history.specs.After.{typedCall, After}
+
+-- one statement over every list of calls, from a session that was opened with any valid envelope (`history`, proofs/History)
+abbrev pub HistoryFrom : Type 0
+HistoryFrom =
+    (start : AutomationEnvelope) → typed start ≡ true → validEnvelope start ≡ true → (m₀ : List ℕ) (cs : List Call) → every typedCall cs ≡ true
+    → (answers : List (Said (Unit {0}))) (s : Session) (m : List ℕ) → Ran (opened start (length m₀)) m₀ cs answers s m → After start m₀ cs answers s m
+
+-- "Demand 3's list starts with what opening gives for any target and step memory" (`history-new`, there)
+abbrev pub History : Type 0
+History =
+    (target : ℕ) → target < 0x1_0000_0000 → (m₀ : List ℕ) (cs : List Call) → every typedCall cs ≡ true
+    → (answers : List (Said (Unit {0}))) (s : Session) (m : List ℕ) → Ran (openSession target m₀) m₀ cs answers s m → After (new target) m₀ cs answers s m

@@ -1,0 +1,2 @@
+-- 01, "Lookup": the constraints.
+pub mod Limits
