@@ -8,9 +8,9 @@ use borrow.Author.Tests.{lt-ltb, le-ltb, ltb-true, ltb-false, leb-true, leb-fals
 use lib.Dec.{ltb, leb}
 use Rattle.fields.specs.Text.{placesOf}
 
-and-both : (a b : Bool) → (a && b) ≡ true → (a ≡ true) × (b ≡ true)
-and-both true b h = (refl, h)
-and-both false b h = absurd (false≢true h)
+and-parts : (a b : Bool) → (a && b) ≡ true → (a ≡ true) × (b ≡ true)
+and-parts true b h = (refl, h)
+and-parts false b h = absurd (false≢true h)
 
 -- another digit
 pub places-more : (k v : ℕ) → 10 ≤ v → placesOf (suc k) v ≡ placesOf k (v / 10) + 1
@@ -53,7 +53,7 @@ counting v = record { few = omega arith; so-far = omega arith }
 
 module _ {v left places : ℕ} (c : Counting v left places) where
   pub again : (leb 10 left && ltb places 10) ≡ true → (10 ≤ left) × (places < 10)
-  again h = (leb-true 10 left (and-both (leb 10 left) (ltb places 10) h .0), ltb-true places 10 (and-both (leb 10 left) (ltb places 10) h .1))
+  again h = (leb-true 10 left (and-parts (leb 10 left) (ltb places 10) h .0), ltb-true places 10 (and-parts (leb 10 left) (ltb places 10) h .1))
 
   pub counts : 10 ≤ left → places < 10 → Counting v (left / 10) (places + 1)
   counts h m =

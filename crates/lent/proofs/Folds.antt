@@ -24,7 +24,7 @@ use Rattle.envelope.specs.Envelope.{new}
 use Rattle.envelope.specs.Edit.{withPoints, joinOf, declined}
 use Rattle.envelope.specs.declared.AutomationEnvelope.{AutomationEnvelope}
 use Rattle.envelope.specs.declared.edit.Join.the-variants.{Merge}
-use Rattle.lent.specs.Merge.{validList, mergeListOf, isAccepted, mergeStart, addedTo, mergeStep, mergeEnd, foldOf}
+use Rattle.lent.specs.Merge.{validList, mergeListOf, isAccepted, mergeStart, addedTo, mergeStep, mergeEnd}
 use Rattle.lent.specs.declared.Merging.{Merging}
 
 -- the time of p comes after those of l
@@ -43,6 +43,11 @@ rising-two (x ∷ (y ∷ l)) q p r =
 -- what the fold ends with, for the list l
 abbrev Ends : Merging → List AutomationPoint → Type 0
 Ends r l = (r .good ≡ validList l) × (r .good ≡ true → r .gathered ≡ holding l)
+
+-- point after point
+abbrev pub foldOf : Merging → List AutomationPoint → Merging
+foldOf m [] = m
+foldOf m (p ∷ ps) = foldOf (mergeStep m p) ps
 
 -- once bad, always bad
 bad : (m : Merging) (ps : List AutomationPoint) → m .good ≡ false → foldOf m ps .good ≡ false

@@ -1,7 +1,7 @@
 -- 01, "Edits": "Merge can also take the other points as a lent list. One that isn't a valid envelope's points gives 1."
 use Prim.Native.Nat.{ℕ}
 use mathlib.Core.Bool.{Bool, true, false, cond, not, _&&_, _||_}
-use mathlib.Core.List.{List, [], _∷_}
+use mathlib.Core.List.{List, []}
 use lib.ListN.{length}
 use lib.Dec.{leb, ltb}
 use lib.Ieee.{Float}
@@ -58,8 +58,3 @@ mergeStep m p = record {
 unfoldable pub mergeEnd : Merging → EditTold
 unfolding new
 mergeEnd m = cond (m .good) (joinOf (Merge (m .offset)) (m .before) (withPoints (new 0) (m .gathered))) (declined (m .before) 1)
-
--- point after point
-abbrev pub foldOf : Merging → List AutomationPoint → Merging
-foldOf m [] = m
-foldOf m (p ∷ ps) = foldOf (mergeStep m p) ps

@@ -4,7 +4,8 @@ use mathlib.Core.Path.{_≡_, refl, sym, ap, _∙_, subst}
 use mathlib.Core.Bool.{Bool, true, false, cond, not}
 use native.Mathlib.Omega.{arith}
 use lib.Dec.{T, eqb, leb}
-use lib.Ieee.{Float, Format, nan, inf, binary32, binary64, ofBits, ofFields, toBits, isNan, nanBits, odd, prec, low, hid, ones, top, fits, ne, div}
+use lib.IntN.{pos}
+use lib.Ieee.{Float, Format, nan, inf, fin, binary32, binary64, ofBits, ofFields, toBits, isNan, nanBits, odd, prec, low, hid, ones, top, fits, ne, div}
 use lib.Ieee.Bits.{ofBits-toBits, toBits-ofBits, toBits-lt, nanBits-is, nanBits-above}
 use lib.Ieee.Compare.{differs-from-itself}
 use borrow.Author.Tests.{lt-ltb, le-ltb, eq-eqb, ne-eqb, eqb-true}
@@ -60,6 +61,12 @@ pub finite-no-nan : (f : Format) (n : ℕ) → finite (ofBits f n) ≡ true → 
 finite-no-nan f n h = no (nanBits-is f n ∙ finite-number (ofBits f n) h)
 
 -- ---- a pattern and its value
+
+-- the pattern 0 is 0.0's
+pub zero-bits : (f : Format) → ofBits f 0 ≡ fin false 0 (pos 0)
+unfolding ofBits
+zero-bits binary32 = refl
+zero-bits binary64 = refl
 
 pub bits-lt : (f : Format) (x : Float) → fits f x ≡ true → toBits f x < 2 * top f
 bits-lt f x t = toBits-lt f x (yes t)

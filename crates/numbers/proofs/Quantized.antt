@@ -6,7 +6,7 @@ use native.Mathlib.Nat.{mul-comm, mul-assoc, mul-left-comm, mul-le-mul-right, mu
 use native.Mathlib.Omega.{arith}
 use lib.IntN.{ℤ, pos}
 use lib.Dec.{ltb, eqb, eqb·suc-zero}
-use lib.Ieee.{Float, nan, inf, fin, Format, binary64, up, down, round, mul, div, le, lt, eq, ofBits, isNan}
+use lib.Ieee.{Float, nan, inf, fin, Format, binary64, up, down, round, mul, div, le, lt, eq, isNan}
 use lib.Ieee.Fits.{up-pos, down-pos, mul-fits}
 use lib.Ieee.Nearest.{div-mono}
 use borrow.Author.Tests.{ltb-false, le-ltb, lt-ltb}
@@ -14,6 +14,7 @@ use Rattle.numbers.specs.Whole.{roundAway, nearestMultiple}
 use Rattle.numbers.specs.Bounds.{finite}
 use Rattle.numbers.specs.Order.{before, orderKey}
 use Rattle.numbers.proofs.OrderLaws.{before-key}
+use Rattle.numbers.proofs.BitLaws.{zero-bits}
 use Rattle.numbers.proofs.Compare.{finite-number}
 use Rattle.numbers.specs.Promised.{KeepsOrder}
 use Rattle.numbers.proofs.Rounds.{Rounds, keeps-order, gives-number}
@@ -106,10 +107,6 @@ quantized-order n d x y p q h =
 
 -- ---- a finite grid is above 0 where it isn't at most 0
 
-zero-is : ofBits binary64 0 ≡ fin false 0 (pos 0)
-unfolding ofBits
-zero-is = refl
-
 minus-most : (n : ℕ) (d : ℤ) → le (fin true n d) (fin false 0 (pos 0)) ≡ true
 unfolding le lt eq
 minus-most n d = rw (zero-mul (down d)) (go (n * up d * 1))
@@ -126,8 +123,8 @@ pub quantized-keeps-order : KeepsOrder
 unfolding finite
 quantized-keeps-order nan a b g l F G p q h = absurd (false≢true g)
 quantized-keeps-order (inf s) a b g l F G p q h = absurd (false≢true g)
-quantized-keeps-order (fin true n d) a b g l F G p q h = absurd (false≢true (sym l ∙ ap (le (fin true n d)) zero-is ∙ minus-most n d))
-quantized-keeps-order (fin false zero d) a b g l F G p q h = absurd (false≢true (sym l ∙ ap (le (fin false 0 d)) zero-is ∙ zero-most d))
+quantized-keeps-order (fin true n d) a b g l F G p q h = absurd (false≢true (sym l ∙ ap (le (fin true n d)) (zero-bits binary64) ∙ minus-most n d))
+quantized-keeps-order (fin false zero d) a b g l F G p q h = absurd (false≢true (sym l ∙ ap (le (fin false 0 d)) (zero-bits binary64) ∙ zero-most d))
 quantized-keeps-order (fin false (suc n) d) a b g l F G p q h =
     let grid = fin false (suc n) d in
     ltb-false (orderKey (nearestMultiple binary64 grid b)) (orderKey (nearestMultiple binary64 grid a))

@@ -7,12 +7,12 @@ use native.Mathlib.Omega.{arith}
 use borrow.Author.Tests.{leb-true}
 use lib.Dec.{leb, eqb·suc-zero}
 use lib.IntN.{pos, negsuc}
-use lib.Ieee.{Float, nan, inf, fin, ofBits}
+use lib.Ieee.{Float, nan, inf, fin, binary32, binary64, ofBits}
 use lib.ListN.{length, replicate, length-drop, take-append-drop}
 use lib.Seq.{take-append-seam, drop-append-seam, length-take-le}
+use Rattle.numbers.proofs.BitLaws.{zero-bits}
 use Rattle.numbers.proofs.Tests.{and-left, and-right}
-use Rattle.numbers.specs.Bounds.{zero64, finite}
-use Rattle.curve.specs.F32.{f0}
+use Rattle.numbers.specs.Bounds.{finite}
 use Rattle.curve.specs.Curve.{isLinear, code, controls, finiteControls}
 use Rattle.curve.proofs.Laws.{linear-is}
 use Rattle.points.proofs.Laws.{every-replicate}
@@ -34,11 +34,6 @@ zero-is (fin false zero (pos (suc k))) h = absurd (false≢true (sym (eqb·suc-z
 zero-is (fin false zero (negsuc k)) h = absurd (false≢true h)
 zero-is (fin false (suc m) e) h = absurd (false≢true (sym (eqb·suc-zero m) ∙ and-left _ _ h))
 
--- the pattern 0 is 0.0's, of either width
-zeros : (zero64 ≡ fin false 0 (pos 0)) × (f0 ≡ fin false 0 (pos 0))
-unfolding ofBits
-zeros = (refl, refl)
-
 none-is : (x : SamplePosition) → isNone x ≡ true → x ≡ position.None
 none-is position.None h = refl
 none-is (position.At n) h = absurd (false≢true h)
@@ -48,9 +43,9 @@ unused-is p h =
     let h₃ = and-left (isPlusZero (p .time) && isNone (p .«sample_position») && isPlusZero (p .value)) (isLinear (p .curve)) h in
     let h₂ = and-left (isPlusZero (p .time) && isNone (p .«sample_position»)) (isPlusZero (p .value)) h₃ in
     λ i. record {
-      time = (zero-is (p .time) (and-left (isPlusZero (p .time)) (isNone (p .«sample_position»)) h₂) ∙ sym (zeros .0)) i;
+      time = (zero-is (p .time) (and-left (isPlusZero (p .time)) (isNone (p .«sample_position»)) h₂) ∙ sym (zero-bits binary64)) i;
       «sample_position» = none-is (p .«sample_position») (and-right (isPlusZero (p .time)) (isNone (p .«sample_position»)) h₂) i;
-      value = (zero-is (p .value) (and-right (isPlusZero (p .time) && isNone (p .«sample_position»)) (isPlusZero (p .value)) h₃) ∙ sym (zeros .1)) i;
+      value = (zero-is (p .value) (and-right (isPlusZero (p .time) && isNone (p .«sample_position»)) (isPlusZero (p .value)) h₃) ∙ sym (zero-bits binary32)) i;
       curve = linear-is (p .curve) (and-right (isPlusZero (p .time) && isNone (p .«sample_position») && isPlusZero (p .value)) (isLinear (p .curve)) h) i;
     }
 

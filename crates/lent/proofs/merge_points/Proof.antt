@@ -55,7 +55,7 @@ use denote.Triple.Table.{entered, cited}
 use denote.Triple.Walked.{says, Stays, stay-dropped, walkOf, goes-dropped, Walks, ends-at, walked, walk-meets}
 use denote.Triple.Clauses.{ensured, lasts}
 use denote.Exit.{yes}
-use Rattle.lent.specs.Merge.{mergeStart, mergeStep, mergeEnd, foldOf, mergeListOf}
+use Rattle.lent.specs.Merge.{mergeStart, mergeStep, mergeEnd, mergeListOf}
 use Rattle.points.specs.Point.{anyPoint}
 use Rattle.envelope.specs.declared.AutomationEnvelope.{AutomationEnvelope}
 use Rattle.points.specs.declared.AutomationPoint.{AutomationPoint}
@@ -86,7 +86,7 @@ use Rattle.lent.proofs.merge_points as f
 use Rattle.lent.proofs.merge_points.Statement as stated
 use Rattle.lent.proofs.merge_points.Code as code
 use Rattle.lent.proofs.merge_points.Code.Mir as mirs
-use Rattle.lent.proofs.Folds.{folded}
+use Rattle.lent.proofs.Folds.{foldOf, folded}
 use Rattle.envelope.specs.Edit.{toldEdit}
 
 -- at exit nothing is had of any parameter: no contract says a last value of plain data or of a `&`

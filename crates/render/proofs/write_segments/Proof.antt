@@ -1,6 +1,6 @@
 -- `render::write_segments` meets its contract: the loop has the first i samples written, and fewer are left each turn. Between the first point and the last
 -- the search ends between two (`search-inside`) and a stretch is added (`stretch-written`, `run-part`), elsewhere one sample (`outside-sample`, `run-turn`).
-use Prim.Native.Nat.{ℕ, _+_, _≤_, _-_}
+use Prim.Native.Nat.{ℕ, _+_, _≤_, _<_, _-_}
 use mathlib.Core.Path.{_≡_, refl, ap, _∙_}
 use mathlib.Core.Bool.{true}
 use mathlib.Core.List.{_++_}
@@ -55,8 +55,11 @@ order-key-requires c κs = tt
 search-requires : tie.Need-search-requires Inv-loop μ-loop
 search-requires c κs = tt
 
-sub-a : tie.Need-sub-a Inv-loop μ-loop
-sub-a c =
+-- the search ended between two of the points, and there are at most 256
+found : (c : tie.After-search Inv-loop μ-loop) →
+    let args = c .before .before .before .before .before .before .before .before .before .before .before .before .before .before .before .args in
+    (0 < c .search .result) × (c .search .result < args .t1 .count) × (args .t1 .count ≤ 256)
+found c =
     let good = c .before .before .before .before .before .before .before .before .before .before .before .before .before .before .before .good in
     let pre = c .before .before .before .before .before .before .before .before .before .before .before .before .before .before .before .pre in
     let keys = c .before .before .before .before .before .before .before .before .before .keys in
@@ -66,59 +69,22 @@ sub-a c =
     let h = c .before .before .before .before .before .before .before .before .loop in
     let p = search-inside (a .t1) _ (good .0) (pre .0) (pre .1) (keys .result) (keys .ensures) (a .rate) (h .k) (if1 .taken) (order-key .result) (c .search .result) (order-key .ensures)
     (c .search .ensures) in
-    omega (arith, valid-count (a .t1) (pre .0))
+    (p .0, p .1, valid-count (a .t1) (pre .0))
+
+sub-a : tie.Need-sub-a Inv-loop μ-loop
+sub-a c = omega (arith, found c)
 
 mul-a : tie.Need-mul-a Inv-loop μ-loop
-mul-a c =
-    let good = c .before .before .before .before .before .before .before .before .before .before .before .before .before .before .before .good in
-    let pre = c .before .before .before .before .before .before .before .before .before .before .before .before .before .before .before .pre in
-    let keys = c .before .before .before .before .before .before .before .before .before .keys in
-    let if1 = c .before .before .before .if1 in
-    let order-key = c .before .before .order-key in
-    let a = c .before .before .before .before .before .before .before .before .before .before .before .before .before .before .before .args in
-    let h = c .before .before .before .before .before .before .before .before .loop in
-    let p = search-inside (a .t1) _ (good .0) (pre .0) (pre .1) (keys .result) (keys .ensures) (a .rate) (h .k) (if1 .taken) (order-key .result) (c .search .result) (order-key .ensures)
-    (c .search .ensures) in
-    omega (arith, valid-count (a .t1) (pre .0))
+mul-a c = omega (arith, found c)
 
 element-copy-out-a : tie.Need-element-copy-out-a Inv-loop μ-loop
-element-copy-out-a c =
-    let good = c .before .before .before .before .before .before .before .before .before .before .before .before .before .before .before .good in
-    let pre = c .before .before .before .before .before .before .before .before .before .before .before .before .before .before .before .pre in
-    let keys = c .before .before .before .before .before .before .before .before .before .keys in
-    let if1 = c .before .before .before .if1 in
-    let order-key = c .before .before .order-key in
-    let a = c .before .before .before .before .before .before .before .before .before .before .before .before .before .before .before .args in
-    let h = c .before .before .before .before .before .before .before .before .loop in
-    let p = search-inside (a .t1) _ (good .0) (pre .0) (pre .1) (keys .result) (keys .ensures) (a .rate) (h .k) (if1 .taken) (order-key .result) (c .search .result) (order-key .ensures)
-    (c .search .ensures) in
-    omega (arith, valid-count (a .t1) (pre .0))
+element-copy-out-a c = omega (arith, found c)
 
 mul-b : tie.Need-mul-b Inv-loop μ-loop
-mul-b c =
-    let good = c .before .before .before .before .before .before .before .before .before .before .before .before .before .before .before .before .good in
-    let pre = c .before .before .before .before .before .before .before .before .before .before .before .before .before .before .before .before .pre in
-    let keys = c .before .before .before .before .before .before .before .before .before .before .keys in
-    let if1 = c .before .before .before .before .if1 in
-    let order-key = c .before .before .before .order-key in
-    let a = c .before .before .before .before .before .before .before .before .before .before .before .before .before .before .before .before .args in
-    let h = c .before .before .before .before .before .before .before .before .before .loop in
-    let p = search-inside (a .t1) _ (good .0) (pre .0) (pre .1) (keys .result) (keys .ensures) (a .rate) (h .k) (if1 .taken) (order-key .result) (c .before .search .result)
-    (order-key .ensures) (c .before .search .ensures) in
-    omega (arith, valid-count (a .t1) (pre .0))
+mul-b c = omega (arith, found (c .before))
 
 element-copy-out-b : tie.Need-element-copy-out-b Inv-loop μ-loop
-element-copy-out-b c =
-    let good = c .before .before .before .before .before .before .before .before .before .before .before .before .before .before .before .before .good in
-    let pre = c .before .before .before .before .before .before .before .before .before .before .before .before .before .before .before .before .pre in
-    let keys = c .before .before .before .before .before .before .before .before .before .before .keys in
-    let if1 = c .before .before .before .before .if1 in
-    let order-key = c .before .before .before .order-key in
-    let a = c .before .before .before .before .before .before .before .before .before .before .before .before .before .before .before .before .args in
-    let h = c .before .before .before .before .before .before .before .before .before .loop in
-    let p = search-inside (a .t1) _ (good .0) (pre .0) (pre .1) (keys .result) (keys .ensures) (a .rate) (h .k) (if1 .taken) (order-key .result) (c .before .search .result)
-    (order-key .ensures) (c .before .search .ensures) in
-    omega (arith, valid-count (a .t1) (pre .0))
+element-copy-out-b c = omega (arith, found (c .before))
 
 around-requires : tie.Need-around-requires Inv-loop μ-loop
 around-requires c κs = tt
