@@ -1,9 +1,7 @@
 -- A combination's times rise, so 6 can't meet it. Assumes nothing.
-use Prim.Native.Nat.{ℕ}
-use mathlib.Core.Path.{_≡_, refl, ap, _∙_}
-use mathlib.Core.Bool.{Bool, true, _&&_}
-use mathlib.Core.List.{List, [], _∷_, map}
-use lib.Dec.{ltb}
+use mathlib.Core.Path.{_≡_, _∙_}
+use mathlib.Core.Bool.{true, _&&_}
+use Rattle.points.proofs.Laws.{rising-map}
 use Rattle.points.specs.Point.{timeOf}
 use Rattle.numbers.proofs.Tests.{and-left, and-right}
 use Rattle.numbers.specs.Order.{orderKey}
@@ -19,16 +17,7 @@ use Rattle.combine.proofs.Times.{merged-rising}
 use Rattle.combine.specs.declared.Operation.{Operation}
 use Rattle.combine.specs.declared.Side.{Side}
 
--- ---- points rise where their times do
-
-module _ {A B : Type 0} (f : A → B) (key : B → ℕ) where
-  rising-map : (l : List A) → risingBy key (map f l) ≡ risingBy (λ (x : A). key (f x)) l
-  unfolding risingBy
-  rising-map [] = refl
-  rising-map (x ∷ []) = refl
-  rising-map (x ∷ (y ∷ l)) = ap (λ (b : Bool). ltb (key (f x)) (key (f y)) && b) (rising-map (y ∷ l))
-
--- a valid side's points, limits and times
+-- a valid side's points and times
 pub side-points : (s : Side) → validSide s ≡ true → validPoints (s .points) ≡ true
 side-points s v = and-right (finiteLimits (s .limits)) (validPoints (s .points)) v
 

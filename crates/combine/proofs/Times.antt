@@ -7,7 +7,7 @@ use native.Mathlib.Omega.{arith}
 use lib.Dec.{ltb, eqb}
 use lib.Ieee.{Float}
 use borrow.Author.Tests.{ltb-false, eqb-true, eqb-false, lt-ltb}
-use Rattle.numbers.proofs.Tests.{and-left, and-right, and-both}
+use Rattle.numbers.proofs.Tests.{and-left, and-right, and-both, either}
 use Rattle.numbers.specs.Order.{orderKey}
 use Rattle.points.specs.Points.{every, risingBy}
 use Rattle.combine.specs.Combine.{mergeFrom, mergeTimes}
@@ -98,16 +98,12 @@ unfolding risingBy
 rising-cons t [] = refl
 rising-cons t (u ∷ ts) = refl
 
-either : (k : ℕ) (b : Bool) (x y : List Float) → above k x ≡ true → above k y ≡ true → above k (cond b x y) ≡ true
-either k true x y p q = p
-either k false x y p q = q
-
 above-from : (k : ℕ) (a : Float) (rest : List Float → List Float) (ys : List Float) → ltb k (orderKey a) ≡ true → above k ys ≡ true → above k (mergeFrom a rest ys) ≡ true
 unfolding mergeFrom
 above-from k a rest [] p q = p
 above-from k a rest (b ∷ ys) p q =
-    either k (ltb (orderKey a) (orderKey b)) (a ∷ rest (b ∷ ys)) (cond (eqb (orderKey a) (orderKey b)) (a ∷ rest ys) (b ∷ mergeFrom a rest ys)) p
-    (either k (eqb (orderKey a) (orderKey b)) (a ∷ rest ys) (b ∷ mergeFrom a rest ys) p q)
+    either (λ (x : List Float). above k x ≡ true) (ltb (orderKey a) (orderKey b)) (λ h. p)
+    (either (λ (x : List Float). above k x ≡ true) (eqb (orderKey a) (orderKey b)) (λ h. p) q)
 
 above-merge : (k : ℕ) (xs ys : List Float) → above k xs ≡ true → above k ys ≡ true → above k (mergeTimes xs ys) ≡ true
 unfolding mergeTimes

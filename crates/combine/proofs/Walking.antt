@@ -19,12 +19,11 @@ use Rattle.points.specs.Points.{every, rising, timeKey, listOf, holding, validP
 use Rattle.points.proofs.Laws.{every-append, every-one}
 use Rattle.points.specs.Search.{placeBy}
 use Rattle.points.proofs.SearchLaws.{place-at, rising-at, lower-up-to}
-use Rattle.points.proofs.ValidLaws.{valid-count, valid-rising}
+use Rattle.points.proofs.ValidLaws.{valid-count, valid-rising, pushed}
 use Rattle.points.specs.declared.AutomationPoint.{AutomationPoint}
 use Rattle.points.specs.declared.Points.{Points}
 use Rattle.points.specs.declared.refusal.Refusal.the-variants.{NotValid, NotFinite, TooManyPoints}
 use Rattle.settle.specs.Settle.{Proposal, plain, refused, accepted}
-use Rattle.settle.proofs.Ends.{pushed}
 use Rattle.settle.proofs.Judging.{one, argument-three, result-three, five, accepts}
 use Rattle.lookup.specs.Lookup.{pointAt}
 use Rattle.lookup.proofs.LookupLaws.{at-place}

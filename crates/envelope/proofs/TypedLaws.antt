@@ -24,7 +24,7 @@ use Rattle.envelope.specs.Typed.{typedCurve, typedPoint, typedPoints, ty
 use Rattle.envelope.proofs.EditLaws.{outcome-either}
 use Rattle.insert.proofs.Inserting.{every-insert}
 use Rattle.envelope.proofs.TypedParts.{Parts, parted}
-use Rattle.envelope.proofs.TypedLists.{TypedList, every-sub, keepIf-sub, removeFirst-sub, simplified-sub, each, scaledTime-typed, normalized-typed, fadedInAll-typed}
+use Rattle.envelope.proofs.TypedLists.{TypedList, list-none, every-sub, keepIf-sub, removeFirst-sub, simplified-sub, each, scaledTime-typed, normalized-typed, fadedInAll-typed}
 use Rattle.envelope.proofs.TypedLists.{fadedOutAll-typed, reversed-typed, quantized-typed, rampList-typed, pulseList-typed, listOf-typed, holding-typed}
 use Rattle.envelope.specs.declared.AutomationEnvelope.{AutomationEnvelope}
 use Rattle.envelope.specs.declared.edit.PointsEdit.{PointsEdit}
@@ -91,11 +91,6 @@ withSettings-typed : (e : AutomationEnvelope) (on : Bool) (l : Limits) → typed
     → typedLimit (l .«min_value») ≡ true → typedLimit (l .«max_value») ≡ true → typedLimit (l .«step_size») ≡ true → typed (withSettings e on l) ≡ true
 withSettings-typed e on l t a b c = let p = parted e t in joined (withSettings e on l) (record { target = p .target; least = a; greatest = b; step = c; points = p .points })
 
--- no point
-none-typed : TypedList []
-unfolding every
-none-typed = refl
-
 none-valid : (leb 0 256 && (every finitePoint [] && rising [])) ≡ true
 unfolding every risingBy
 none-valid = refl
@@ -103,7 +98,7 @@ none-valid = refl
 -- 000's `new`
 pub new-typed : (target : ℕ) → ltb target 0x1_0000_0000 ≡ true → typed (new target) ≡ true
 unfolding new
-new-typed target h = joined (new target) (record { target = h; least = refl; greatest = refl; step = refl; points = holding-typed [] zero-le none-typed })
+new-typed target h = joined (new target) (record { target = h; least = refl; greatest = refl; step = refl; points = holding-typed [] zero-le list-none })
 
 pub new-valid : (target : ℕ) → validEnvelope (new target) ≡ true
 unfolding new

@@ -189,7 +189,7 @@ list-cons : (p : AutomationPoint) (l : List AutomationPoint) â†’ typedPoint p â‰
 unfolding every
 list-cons p l t h = both t h
 
-list-none : TypedList []
+pub list-none : TypedList []
 unfolding every
 list-none = refl
 

@@ -9,7 +9,6 @@ use Rattle.points.specs.Refusal.{Said}
 use Rattle.points.specs.declared.AutomationPoint.{AutomationPoint}
 use Rattle.lookup.specs.Lookup.{getValueAt, getValueAtSample}
 use Rattle.render.specs.Render.{Rendered, WalkStep, sampleAt, render, toBuffer, iterSamples, nextSample}
-use Rattle.render.specs.Pieces.{Pieces, pieces}
 use Rattle.render.specs.declared.SampleIterator.{SampleIterator}
 use Rattle.analysis.specs.Analysis.{Filled, getRange, getRangeSamples, getSlopeAt, findMiddles}
 use Rattle.envelope.specs.Envelope.{limitsOf}
@@ -34,10 +33,6 @@ samplesOf e rate = sampleAt (e .points) (e .enabled) (limitsOf e) rate
 -- `render`: "a rate, first sample, count and place", into a lent buffer
 abbrev pub renderOf : AutomationEnvelope → Float → ℕ → ℕ → ℕ → List Float → Rendered
 renderOf e rate first count place buffer = render (e .points) (e .enabled) (limitsOf e) rate first count place buffer
-
--- a run's pieces by their counts: each of them a `render`
-abbrev pub piecesOf : AutomationEnvelope → Float → ℕ → ℕ → List Float → List ℕ → Pieces
-piecesOf e rate first place buffer counts = pieces (e .points) (e .enabled) (limitsOf e) rate first place buffer counts
 
 -- `to_buffer`: from sample 0 on, by a rate and a duration
 abbrev pub toBufferOf : AutomationEnvelope → Float → Float → ℕ → List Float → Rendered

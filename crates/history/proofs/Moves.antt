@@ -12,9 +12,9 @@ use Rattle.points.specs.Checks.{firstFailing}
 use Rattle.points.specs.Refusal.{gives}
 use Rattle.envelope.specs.declared.AutomationEnvelope.{AutomationEnvelope}
 use Rattle.state.specs.State.{stateWords, pack, unpacked}
-use Rattle.state.proofs.StateLaws.{unpacked-pack}
+use Rattle.state.proofs.StateLaws.{unpacked-pack, slot-fits}
 use Rattle.session.specs.Session.{statesIn, stateAt, stored, slotAfter, slotBefore, movedTo, exchanged, steppedOver, accepted}
-use Rattle.session.proofs.Slots.{lt-or-le, length-stored, stored-same, stored-other, word-other, slot-fits, slots-differ, after-slot, before-slot}
+use Rattle.session.proofs.Slots.{lt-or-le, length-stored, stored-same, stored-other, word-other, slots-differ, after-slot, before-slot}
 use Rattle.session.specs.Calls.{back, forward, inTurn, callOf}
 use Rattle.session.specs.declared.Session.{Session}
 use Rattle.history.specs.Rule.{Hist, upTo, steppedBack, steppedForward, ruleTests}

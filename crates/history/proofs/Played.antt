@@ -9,7 +9,8 @@ use Rattle.numbers.specs.Bounds.{finite}
 use Rattle.points.specs.Refusal.{gives}
 use Rattle.render.specs.Render.{Rendered, declined, runInto, sampleCount}
 use Rattle.render.specs.Pieces.{total, pieces}
-use Rattle.envelope.specs.Calls.{samplesOf, renderOf, piecesOf}
+use Rattle.envelope.specs.Calls.{samplesOf, renderOf}
+use Rattle.envelope.proofs.CallLaws.{piecesOf}
 use Rattle.envelope.proofs.CallLaws as calls
 use Rattle.envelope.specs.declared.AutomationEnvelope.{AutomationEnvelope}
 use Rattle.session.specs.Play.{sessionRender, sessionToBuffer, sessionPieces}

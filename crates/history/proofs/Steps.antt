@@ -20,9 +20,8 @@ use Rattle.envelope.specs.Envelope.{validEnvelope}
 use Rattle.envelope.specs.Typed.{typed}
 use Rattle.envelope.specs.declared.AutomationEnvelope.{AutomationEnvelope}
 use Rattle.state.specs.State.{stateWords, pack}
-use Rattle.state.proofs.StateLaws.{length-pack}
+use Rattle.state.proofs.StateLaws.{length-pack, slot-fits}
 use Rattle.session.specs.Session.{statesIn, depth, placeBelow, inOrder, validSession, declined}
-use Rattle.session.proofs.Slots.{slot-fits}
 use Rattle.session.specs.Calls.{Entry, madeBy, Call, edit, back, forward, callValid, stepStands, Tests, inTurn, testsOf, ownOf, callOf}
 use Rattle.session.specs.declared.Session.{Session}
 use Rattle.history.specs.Rule.{Hist, made, upTo, ruleRefuses, standsIn, ruleTests, ruled, ruleOf}

@@ -14,11 +14,10 @@ use Rattle.points.specs.Point.{unused, anyPoint}
 use Rattle.points.specs.Points.{every, rising, risingBy, timeKey, listOf, holding}
 use Rattle.points.proofs.ValidLaws.{listOf-holding}
 use Rattle.points.specs.Search.{placeBy}
-use Rattle.points.proofs.Laws.{rising-front}
+use Rattle.points.proofs.Laws.{rising-front, fold-more}
 use Rattle.points.proofs.SearchLaws.{place-bound, Halving, halving-place}
 use Rattle.points.specs.declared.AutomationPoint.{AutomationPoint}
 use Rattle.points.specs.declared.Points.{Points}
-use Rattle.settle.proofs.Lists.{fold-more}
 use Rattle.insert.specs.Insert.{insertPoint, insertAll}
 use Rattle.insert.specs.Inserted.{Sorted, Inserts}
 

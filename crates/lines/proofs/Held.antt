@@ -1,12 +1,10 @@
 -- What stands beside the answer of the point lines. Assumes nothing.
-use Prim.Native.Nat.{ℕ, _-_, _≤_, min}
-use mathlib.Core.Path.{_≡_, refl, sym, ap, _∙_}
-use mathlib.Core.Bool.{Bool, true, false}
+use Prim.Native.Nat.{ℕ, _-_, min}
+use mathlib.Core.Path.{_≡_, refl, ap, _∙_}
 use mathlib.Core.List.{List}
 use native.Mathlib.Omega.{arith}
-use borrow.Author.Tests.{leb-true, leb-false}
-use lib.Dec.{leb}
-use lib.ListN.{length, drop, length-drop, drop-of-length-le}
+use lib.ListN.{length, drop, length-drop}
+use Rattle.points.proofs.Laws.{drop-min}
 use Rattle.points.specs.declared.Points.{Points}
 use Rattle.points.specs.declared.refusal.Answer.the-variants.{Accepted}
 use Rattle.lines.specs.PointLines.{Lines, lines}
@@ -18,20 +16,11 @@ pub handed : {r : PointLines} {x : Lines Points} → ((s : List ℕ) → toldPoi
     → (s : List ℕ) {y : Lines Points} → x ≡ y → (toldPointLines s r ≡ y) × (r ≡ pointLinesHeld s (r .answer) y)
 handed {r = r} e h s q = (e s ∙ q, h s ∙ ap (λ (z : Lines Points). pointLinesHeld s (r .answer) z) q)
 
--- a place past the end stands for no bytes, as the end does
-drop-min : (s : List ℕ) (at : ℕ) → drop (min at (length s)) s ≡ drop at s
-drop-min s at = go (leb at (length s)) refl
-  where
-    go : (t : Bool) → leb at (length s) ≡ t → drop (min at (length s)) s ≡ drop at s
-    go true e = let k : at ≤ length s = leb-true at (length s) e in let z : min at (length s) ≡ at = omega arith in rw z
-    go false e = let z : length s ≤ at = omega (arith, leb-false at (length s) e) in let w : min at (length s)
-        ≡ length s = omega arith in rw w (drop-of-length-le s {i = length s} (omega arith) ∙ sym (drop-of-length-le s z))
-
 pub held-lines : (s : List ℕ) (ps : Points) (at w : ℕ) (x : Lines Points) → w ≡ min at (length s) → lines ps (drop at s) ≡ x
     → (linesBy Accepted 0 ps (drop w s) ≡ x) × (record { answer = Accepted; line = 0; points = ps; next = w } ≡ pointLinesHeld s Accepted x)
 held-lines s ps at w x e q =
     let p : min at (length s) ≡ length s - length (drop at s) = rw (length-drop at s) (omega arith) in
-    rw (e, ← q, drop-min s at) (refl, ap (λ (n : ℕ). beside n) p)
+    rw (e, ← q, drop-min at s (length s) refl) (refl, ap (λ (n : ℕ). beside n) p)
   where
     beside : ℕ → PointLines
     beside n = record { answer = Accepted; line = 0; points = ps; next = n }

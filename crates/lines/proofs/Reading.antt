@@ -161,3 +161,7 @@ module _ {program : Bool} {l₀ s : List ℕ} {ps : List AutomationPoint} {count
               rest = d ∙ remain;
               same = opened ∙ rw (e, u, t);
             }
+
+-- a line is refused or read
+pub no-line : {A C : Type 0} {n : ℕ} {a : A} {rest : List ℕ} → refused n ≡ line a rest → C
+no-line e = let z : _≡_ {A = ℕ} 0 1 = cc in absurd (omega arith)

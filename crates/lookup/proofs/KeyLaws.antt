@@ -1,13 +1,14 @@
 -- Laws of the points' keys in a list of their own, and of the search over it. Assumes nothing.
 use Prim.Native.Nat.{ℕ, suc, _+_, _-_, _≤_, _<_, min}
 use mathlib.Core.Path.{_≡_, refl, sym, ap, subst, _∙_}
-use mathlib.Core.Bool.{Bool, true, cond, _&&_}
+use mathlib.Core.Bool.{true, cond}
 use mathlib.Core.List.{List, [], _∷_, _++_, map, map-append}
 use native.Mathlib.Numerals.{add-one}
 use native.Mathlib.Omega.{arith}
 use lib.Dec.{ltb}
 use lib.ListN.{length, take, getD, set, replicate, length-take, length-map}
 use lib.Seq.{take-suc, take-at, set-at, append-snoc, length-take-le}
+use Rattle.points.proofs.Laws.{rising-map}
 use Rattle.points.specs.Points.{risingBy}
 use Rattle.points.specs.Search.{placeBy}
 use Rattle.points.proofs.SearchLaws.{Halving, halving-place}
@@ -49,13 +50,7 @@ module _ {A : Type 0} (key : A → ℕ) where
       ∙ sym (append-snoc (map key (take i l)) (key (getD l i d)) rest)
       ∙ ap (λ (r : List ℕ). r ++ rest) (sym (map-append key (take i l) (getD l i d ∷ [])) ∙ ap (map key) (sym (take-suc l i d h))))
 
-  -- they rise where the points' do, and a search over them ends where one over the points does
-  rising-keys : (l : List A) → risingBy itself (map key l) ≡ risingBy key l
-  unfolding risingBy
-  rising-keys [] = refl
-  rising-keys (x ∷ []) = refl
-  rising-keys (x ∷ (y ∷ l)) = ap (λ (b : Bool). ltb (key x) (key y) && b) (rising-keys (y ∷ l))
-
+  -- a search over them ends where one over the points does
   place-keys : (k : ℕ) (l : List A) → placeBy itself k (map key l) ≡ placeBy key k l
   unfolding placeBy
   place-keys k [] = refl
@@ -72,4 +67,4 @@ module _ {A : Type 0} (key : A → ℕ) where
       ap (λ (x : ℕ). placeBy key x (take n l)) (sym w)
       ∙ sym (place-keys q (take n l))
       ∙ ap (placeBy itself q) (sym e)
-      ∙ ends-place keys n q j (ap (risingBy itself) e ∙ rising-keys (take n l) ∙ r) long t
+      ∙ ends-place keys n q j (ap (risingBy itself) e ∙ rising-map key itself (take n l) ∙ r) long t

@@ -1,5 +1,3 @@
--- What owning a value tells.
-pub mod Good
 -- Laws that the crates above cite too: each way out of a lookup, the search over keys, runs of values.
 pub mod LookupLaws
 pub mod KeyLaws

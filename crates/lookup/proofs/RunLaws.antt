@@ -77,3 +77,9 @@ run-constant v a (suc n) = ap (λ (l : List _). v ∷ l) (run-constant v (suc a)
 -- how long such a part is
 pub part-long : {A : Type 0} (i n : ℕ) (out : List A) → length out ≡ n → i ≤ n → length (take (n - i) (drop i out)) ≡ n - i
 part-long i n out e h = length-take-le (n - i) (drop i out) (simp length-drop (omega arith))
+
+-- a part of n from a place on, as a call is lent it
+pub part-count : {A : Type 0} (at n : ℕ) (l : List A) → at + n ≤ length l → length (take (at + n - at) (drop at l)) ≡ n
+part-count at n l h =
+    let e : at + n - at ≡ n = omega arith in
+    ap (λ (k : ℕ). length (take k (drop at l))) e ∙ length-take-le n (drop at l) (simp length-drop (omega arith))

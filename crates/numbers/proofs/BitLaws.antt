@@ -6,7 +6,7 @@ use native.Mathlib.Omega.{arith}
 use lib.Dec.{T, eqb, leb}
 use lib.IntN.{pos}
 use lib.Ieee.{Float, Format, nan, inf, fin, binary32, binary64, ofBits, ofFields, toBits, isNan, nanBits, odd, prec, low, hid, ones, top, fits, ne, div}
-use lib.Ieee.Bits.{ofBits-toBits, toBits-ofBits, toBits-lt, nanBits-is, nanBits-above}
+use lib.Ieee.Bits.{ofBits-toBits, toBits-ofBits, nanBits-is, nanBits-above}
 use lib.Ieee.Compare.{differs-from-itself}
 use borrow.Author.Tests.{lt-ltb, le-ltb, eq-eqb, ne-eqb, eqb-true}
 use Rattle.numbers.specs.Bounds.{finite}
@@ -68,14 +68,7 @@ unfolding ofBits
 zero-bits binary32 = refl
 zero-bits binary64 = refl
 
-pub bits-lt : (f : Format) (x : Float) → fits f x ≡ true → toBits f x < 2 * top f
-bits-lt f x t = toBits-lt f x (yes t)
-
--- what was written reads back
-pub bits-back : (f : Format) (x : Float) → fits f x ≡ true → ofBits f (toBits f x) ≡ x
-bits-back f x t = ofBits-toBits f x (yes t)
-
--- and what reads as a finite number was written so
+-- what reads as a finite number was written so
 pub pattern-back : (f : Format) (n : ℕ) → n < 2 * top f → finite (ofBits f n) ≡ true → toBits f (ofBits f n) ≡ n
 pattern-back f n h k = toBits-ofBits f n h (subst (λ (t : Bool). T (not t)) (nanBits-is f n) (finite-no-nan f n k))
 

@@ -1,4 +1,4 @@
--- Laws: x stands before y exactly where its key is smaller, no two values share a key, and a key is a `u64`. So the order is that of whole numbers. Assumes nothing.
+-- Laws: x stands before y exactly where its key is smaller, and no two values share a key. So the order is that of whole numbers. Assumes nothing.
 -- A pattern without its sign is `code` of the size in units, which grows with the size: an infinity's size is `overflow`, above every finite one.
 use mathlib.Core.Path.{_≡_, refl, sym, ap, _∙_, subst}
 use mathlib.Core.Logic.{⊎-elim}

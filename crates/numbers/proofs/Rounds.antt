@@ -9,6 +9,7 @@ use lib.Ieee.{Float, nan, inf, fin, Format, prec, emax, low, up, down, odd, unit
 use lib.Ieee.Fits.{and-l, round-is}
 use lib.Ieee.Order.{round-mono}
 use borrow.Author.Tests.{ltb-true, ltb-false, le-ltb}
+use Rattle.numbers.proofs.Halves.{neg-round}
 use Rattle.numbers.specs.Order.{before}
 
 -- ---- what `round` gives: a number without a sign, or the opposite of it
@@ -22,11 +23,6 @@ unfolding odd
 odd-plus d zero k l = number
 odd-plus d (suc q) k l = number
 
-odd-minus : (d q k l : ℕ) → odd d true q k l ≡ neg (odd d false q k l)
-unfolding odd neg
-odd-minus d zero k l = refl
-odd-minus d (suc q) k l = refl
-
 units-plus : (f : Format) (q k : ℕ) → Plus (units f false q k)
 unfolding units
 units-plus f q k = go (ltb (q * 2 ^ k) (2 ^ (low f + suc (emax f))))
@@ -35,19 +31,11 @@ units-plus f q k = go (ltb (q * 2 ^ k) (2 ^ (low f + suc (emax f))))
     go true = odd-plus (suc (prec f)) q k (low f)
     go false = infinity
 
-units-minus : (f : Format) (q k : ℕ) → units f true q k ≡ neg (units f false q k)
-unfolding units
-units-minus f q k = go (ltb (q * 2 ^ k) (2 ^ (low f + suc (emax f))))
-  where
-    go : (b : Bool) → cond b (odd (suc (prec f)) true q k (low f)) (inf true) ≡ neg (cond b (odd (suc (prec f)) false q k (low f)) (inf false))
-    go true = odd-minus (suc (prec f)) q k (low f)
-    go false = unfold neg in refl
-
 round-plus : (f : Format) (a b : ℕ) → Plus (round f false a b)
 round-plus f a b = subst Plus (sym (round-is f false a b)) (units-plus f _ _)
 
 round-minus : (f : Format) (a b : ℕ) → round f true a b ≡ neg (round f false a b)
-round-minus f a b = round-is f true a b ∙ units-minus f _ _ ∙ ap neg (sym (round-is f false a b))
+round-minus f a b = sym (neg-round f false a b)
 
 plus-number : {x : Float} → Plus x → (isNan x ≡ false) × (isNan (neg x) ≡ false)
 unfolding isNan neg

@@ -7,6 +7,7 @@ use native.Mathlib.Nat.{add-zero, sub-zero, add-suc, suc-add}
 use native.Mathlib.Omega.{arith}
 use lib.ListN.{length, drop}
 use lib.Ieee.{Float, binary64, ofBits}
+use Rattle.lines.proofs.Reading.{no-line}
 use Rattle.numbers.specs.Bounds.{finite}
 use Rattle.points.specs.Refusal.{gives}
 use Rattle.lookup.specs.Runs.{run}
@@ -20,7 +21,7 @@ use Rattle.lines.specs.PointLines.{Lines, stop, lines, isEmpty}
 use Rattle.sheet.specs.Sheet.{Input, declined, input, sheetLines, blockFrom, lastLine, playInput}
 use Rattle.lines.specs.declared.block.RawBlock.{RawBlock}
 use Rattle.lines.specs.declared.block.Block.{Block}
-use Rattle.sheet.proofs.Sheets.{sheet-read, no-line}
+use Rattle.sheet.proofs.Sheets.{sheet-read}
 use Rattle.play.specs.Play.{sampleLine, sampleLines, refusalText, printed}
 use Rattle.play.specs.Blocks.{firstText, firstPlay, blockCount, blockText, after}
 use Rattle.play.specs.declared.Play.{Play}

@@ -2,14 +2,14 @@
 use Prim.Native.Nat.{ℕ, zero, suc, _+_, _-_, _≤_, _<_, min, max}
 use mathlib.Core.Path.{_≡_, refl, sym, ap, _∙_}
 use mathlib.Core.Bool.{Bool, true, false, _&&_, and-assoc, and-true, and-false}
-use mathlib.Core.List.{List, [], _∷_, _++_, map, foldl, reverse, reverseAux}
+use mathlib.Core.List.{List, [], _∷_, _++_, map, foldl, reverse, reverseAux, foldl-append, append-assoc}
 use native.Mathlib.Numerals.{add-one}
 use native.Mathlib.Nat.{le-of-suc-le-suc, not-suc-le-zero}
 use native.Mathlib.Omega.{arith}
 use lib.Dec.{ltb, leb}
 use borrow.Author.Tests.{leb-true, leb-false}
-use lib.ListN.{length, take, drop, getD, length-drop, replicate, length-take}
-use lib.Seq.{take-suc, take-all, getD-drop, getD-take}
+use lib.ListN.{length, take, drop, getD, length-drop, replicate, length-take, drop-of-length-le, set}
+use lib.Seq.{take-suc, take-all, getD-drop, getD-take, set-append-seam}
 use Rattle.numbers.proofs.Tests.{and-left, and-right, and-both}
 use Rattle.points.specs.Points.{every, everyPair, risingBy}
 
@@ -134,6 +134,13 @@ module _ {A : Type 0} where
       go true e = let m : min n k ≡ n = omega (arith, leb-true n k e) in rw m
       go false e = take-all (min n k) l (omega (arith, leb-false n k e)) ∙ sym (take-all n l (omega (arith, leb-false n k e)))
 
+  pub drop-min : (n : ℕ) (l : List A) (k : ℕ) → length l ≡ k → drop (min n k) l ≡ drop n l
+  drop-min n l k h = go (leb n k) refl
+    where
+      go : (b : Bool) → leb n k ≡ b → drop (min n k) l ≡ drop n l
+      go true e = let m : min n k ≡ n = omega (arith, leb-true n k e) in rw m
+      go false e = drop-of-length-le l {i = min n k} (omega (arith, leb-false n k e)) ∙ sym (drop-of-length-le l {i = n} (omega (arith, leb-false n k e)))
+
   -- ---- a test of each pair
 
   pub pair-none : (q : A → A → Bool) → true ≡ everyPair q [] []
@@ -167,3 +174,19 @@ pub every-map : {A B : Type 0} (q : A → Bool) (r : B → Bool) (f : A → B) �
 unfolding every
 every-map q r f k [] h = refl
 every-map q r f k (x ∷ l) h = and-both (k x (and-left (q x) (every q l) h)) (every-map q r f k l (and-right (q x) (every q l) h))
+
+-- the keys of what a function makes rise where its arguments' do by the two in a row
+pub rising-map : {A B : Type 0} (f : A → B) (key : B → ℕ) (l : List A) → risingBy key (map f l) ≡ risingBy (λ (x : A). key (f x)) l
+unfolding risingBy
+rising-map f key [] = refl
+rising-map f key (x ∷ []) = refl
+rising-map f key (x ∷ (y ∷ l)) = ap (λ (b : Bool). ltb (key (f x)) (key (f y)) && b) (rising-map f key (y ∷ l))
+
+-- a loop that builds a list in its places: the first of n that are left gets p
+pub set-next : {A : Type 0} (l : List A) (u p : A) (n k : ℕ) → n ≡ suc k → set (l ++ replicate n u) (length l) p ≡ (l ++ (p ∷ [])) ++ replicate k u
+set-next l u p n k h = rw h (set-append-seam l u (replicate k u) p ∙ sym (append-assoc l (p ∷ []) (replicate k u)))
+
+-- a loop that folds: one more element
+pub fold-more : {A B : Type 0} (g : B → A → B) (z : B) (l : List A) (i : ℕ) (d : A) → i < length l
+    → foldl g z (take (i + 1) l) ≡ g (foldl g z (take i l)) (getD l i d)
+fold-more g z l i d h = rw (add-one, take-suc l i d h) (foldl-append g z (take i l) (getD l i d ∷ []))

@@ -1,5 +1,5 @@
 -- What validity tells of points, and which lists give valid ones. Assumes nothing.
-use Prim.Native.Nat.{ℕ, zero, suc, _-_, _≤_}
+use Prim.Native.Nat.{ℕ, zero, suc, _-_, _≤_, _+_, _<_}
 use mathlib.Core.Path.{_≡_, refl, sym, ap, _∙_}
 use mathlib.Core.Bool.{Bool, true, false, _&&_, false≢true, and-true}
 use mathlib.Core.List.{List, [], _∷_, _++_}
@@ -8,14 +8,14 @@ use borrow.Author.Tests.{leb-true}
 use lib.Dec.{leb, eqb·suc-zero}
 use lib.IntN.{pos, negsuc}
 use lib.Ieee.{Float, nan, inf, fin, binary32, binary64, ofBits}
-use lib.ListN.{length, replicate, length-drop, take-append-drop}
+use lib.ListN.{length, replicate, length-drop, take-append-drop, set, length-append, length-take}
 use lib.Seq.{take-append-seam, drop-append-seam, length-take-le}
 use Rattle.numbers.proofs.BitLaws.{zero-bits}
 use Rattle.numbers.proofs.Tests.{and-left, and-right}
 use Rattle.numbers.specs.Bounds.{finite}
 use Rattle.curve.specs.Curve.{isLinear, code, controls, finiteControls}
 use Rattle.curve.proofs.Laws.{linear-is}
-use Rattle.points.proofs.Laws.{every-replicate}
+use Rattle.points.proofs.Laws.{every-replicate, set-next}
 use Rattle.points.specs.Point.{unused, isPlusZero, isNone, isUnused, finitePoint}
 use Rattle.points.specs.Points.{listOf, restOf, holding, every, rising, validPoints}
 use Rattle.points.specs.declared.SamplePosition.{SamplePosition}
@@ -132,3 +132,15 @@ holding-valid l =
     (ap (λ (m : List AutomationPoint). every finitePoint m && rising m && every isUnused (restOf (holding l))) (listOf-holding l)
     ∙ ap (λ (b : Bool). every finitePoint l && rising l && b) (ap (every isUnused) (restOf-holding l) ∙ unused-every (256 - length l))
     ∙ and-true (every finitePoint l && rising l))
+
+-- no more points than there are places
+pub listOf-few : (ps : Points) → length (ps .places) ≡ 256 → length (listOf ps) ≤ 256
+listOf-few ps len = omega (arith, length-take (ps .count) (ps .places))
+
+-- a loop that builds points anew: one more
+pub pushed : (out : Points) (l : List AutomationPoint) (p : AutomationPoint) → length l < 256 → out ≡ holding l
+    → _≡_ {A = Points} (record { count = out .count + 1; places = set (out .places) (out .count) p }) (holding (l ++ (p ∷ [])))
+pushed out l p h o =
+    let n : length l + 1 ≡ length (l ++ (p ∷ [])) = sym (length-append l (p ∷ [])) in
+    ap (λ (x : Points). record { count = x .count + 1; places = set (x .places) (x .count) p }) o
+    ∙ (λ i. record { count = n i; places = set-next l unused p (256 - length l) (256 - length (l ++ (p ∷ []))) (omega arith) i })

@@ -1,17 +1,14 @@
 -- Laws of points that change in their places: the loop that changes them, and how such an edit ends. Assumes nothing.
 use Prim.Native.Nat.{ℕ, zero, suc, min, _+_, _-_, _<_}
 use mathlib.Core.Path.{_≡_, refl, sym, ap, _∙_}
-use mathlib.Core.Bool.{Bool, true, false}
+use mathlib.Core.Bool.{Bool, true}
 use mathlib.Core.List.{List, [], _∷_, _++_, map}
 use native.Mathlib.Numerals.{add-one}
 use native.Mathlib.Nat.{le-of-suc-le-suc, not-suc-le-zero}
-use native.Mathlib.Omega.{arith}
-use borrow.Author.Tests.{leb-true, leb-false}
-use lib.Dec.{leb}
-use lib.ListN.{length, take, drop, getD, set, replicate, length-map, drop-of-length-le}
+use lib.ListN.{length, take, drop, getD, set, replicate, length-map}
 use Rattle.points.specs.Point.{unused, anyPoint}
 use Rattle.points.specs.Points.{listOf, holding, validPoints}
-use Rattle.points.proofs.Laws.{take-min}
+use Rattle.points.proofs.Laws.{take-min, drop-min}
 use Rattle.points.proofs.ValidLaws.{listOf-holding, restOf-holding, holding-listOf}
 use Rattle.points.specs.declared.AutomationPoint.{AutomationPoint}
 use Rattle.points.specs.declared.Points.{Points}
@@ -43,14 +40,6 @@ module _ {A : Type 0} where
   map-read f [] (suc i) d = refl
   map-read f (x ∷ l) zero d = refl
   map-read f (x ∷ l) (suc i) d = map-read f l i d
-
-  -- no more places than there are
-  drop-min : (n : ℕ) (l : List A) (k : ℕ) → length l ≡ k → drop (min n k) l ≡ drop n l
-  drop-min n l k h = go (leb n k) refl
-    where
-      go : (b : Bool) → leb n k ≡ b → drop (min n k) l ≡ drop n l
-      go true e = let m : min n k ≡ n = omega (arith, leb-true n k e) in rw m
-      go false e = drop-of-length-le l {i = min n k} (omega (arith, leb-false n k e)) ∙ sym (drop-of-length-le l {i = n} (omega (arith, leb-false n k e)))
 
   pub map-min : (f : A → A) (n : ℕ) (l : List A) (k : ℕ) → length l ≡ k → mapUpTo f (min n k) l ≡ mapUpTo f n l
   map-min f n l k h = λ i. map f (take-min n l k h i) ++ drop-min n l k h i

@@ -18,7 +18,7 @@ use Rattle.lookup.specs.Valid.{valid}
 use Rattle.lookup.specs.Lookup.{valueAt, getValueAt}
 use Rattle.render.specs.Render.{valueOfSample, sampleAt, written, Rendered, declined, mostSamples, runInto, render, sampleCount, toBuffer, iterSamples, nextSample}
 use Rattle.lookup.specs.Runs.{run}
-use Rattle.lookup.proofs.RunLaws.{run-long, run-cut}
+use Rattle.lookup.proofs.RunLaws.{run-long, run-cut, part-count}
 use Rattle.limits.specs.declared.Limits.{Limits}
 use Rattle.render.specs.declared.SampleIterator.{SampleIterator}
 
@@ -51,16 +51,12 @@ module _ (f : ℕ → Float) (first count place : ℕ) (buffer : List Float) whe
 
   -- the part that is lent to the writer, and the buffer when it is back
   module _ (room : place + count ≤ length buffer) where
-    pub part-count : length (take (place + count - place) (drop place buffer)) ≡ count
-    part-count =
-        let e : place + count - place ≡ count = omega arith in
-        rw e (length-take-le count (drop place buffer) (simp length-drop (omega arith)))
-
     pub part-back : (new : List Float) → new ≡ run f first (length (take (place + count - place) (drop place buffer)))
         → take place buffer ++ (new ++ drop (place + count - place) (drop place buffer)) ≡ written place (run f first count) buffer
     part-back new w =
         let e : place + (place + count - place) ≡ place + count = omega arith in
-        ap₂ (λ (l r : List Float). take place buffer ++ (l ++ r)) (w ∙ ap (run f first) part-count) (drop-drop (place + count - place) place buffer ∙ ap (λ (n : ℕ). drop n buffer) e)
+        ap₂ (λ (l r : List Float). take place buffer ++ (l ++ r)) (w ∙ ap (run f first) (part-count place count buffer room))
+        (drop-drop (place + count - place) place buffer ∙ ap (λ (n : ℕ). drop n buffer) e)
         ∙ sym written-is
 
 -- ---- a run in two pieces

@@ -26,7 +26,7 @@ use Rattle.lookup.proofs.RunLaws.{run-same, run-constant}
 use Rattle.render.specs.Writer.{segmentAround, outsideAt, Stretch}
 use Rattle.limits.specs.declared.Limits.{Limits}
 use Rattle.render.specs.declared.Segment.{Segment}
-use Rattle.lookup.proofs.Good.{inside as among}
+use Rattle.points.proofs.Good.{inside as among}
 use Rattle.points.proofs.Fits.{time-fits}
 use Rattle.lookup.specs.Keys.{keysOf, EndsAt}
 use Rattle.lookup.proofs.KeyLaws.{keys-place}

@@ -1,2 +1,2 @@
--- The calls that lists of numbers stand for, and the history theorem for a function that replays them.
+-- The calls that lists of numbers stand for, and what holds after their replay.
 pub mod Replay

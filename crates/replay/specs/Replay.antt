@@ -1,4 +1,4 @@
--- The calls that lists of numbers stand for, and the history theorem over them.
+-- The calls that lists of numbers stand for, and what holds after their replay.
 use Prim.Native.Nat.{ℕ}
 use mathlib.Core.Path.{_≡_}
 use mathlib.Core.Bool.{true, false, cond}

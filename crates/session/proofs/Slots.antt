@@ -87,10 +87,6 @@ module _ (m : List ℕ) (p : ℕ) (w : List ℕ) (words : length w ≡ stateWord
           ∙ getD-drop (p * stateWords + stateWords + (i - (p * stateWords + stateWords))) m 0 0
           ∙ ap (λ (n : ℕ). getD m n 0) (sym k)
 
--- a slot below D lies in the memory
-pub slot-fits : (p n : ℕ) → p < n / stateWords → p * stateWords + stateWords ≤ n
-slot-fits p n h = omega arith
-
 -- numbers less than D apart have different slots
 slots-apart : (k j d : ℕ) → k < j → j < k + d → k % d ≡ j % d → ⊥
 slots-apart k j d h g e =

@@ -5,8 +5,7 @@ use mathlib.Core.Bool.{Bool, true, false, cond, _&&_, and-true, and-false}
 use mathlib.Core.List.{List, [], _++_, append-nil}
 use mathlib.Core.Option.{Option, none, some}
 use native.Mathlib.Omega.{arith}
-use lib.ListN.{length, take, drop, length-drop, drop-of-length-le}
-use lib.Seq.{length-take-le}
+use lib.ListN.{length, drop, drop-of-length-le}
 use lib.Dec.{ltb, leb, eqb}
 use borrow.Author.Tests.{lt-ltb, le-ltb, le-leb, lt-leb, eq-eqb, ne-eqb, leb-true, leb-false, ltb-true, eqb-true}
 use Rattle.numbers.proofs.Tests.{and-left, and-right}
@@ -94,11 +93,6 @@ before-below s k o h e = go (eqb (s .at) 0) refl
     go false z = let f : k ≡ s .at - 1 = e ∙ rw z in let r = o .room in let l : s .at < s .length / 1028 = o .below (omega arith) in omega arith
 
 -- ---- a slot's part of the memory
-
-pub part-words : (from : ℕ) (m : List ℕ) → from + 1028 ≤ length m → length (take (from + 1028 - from) (drop from m)) ≡ 1028
-part-words from m h =
-    let e : from + 1028 - from ≡ 1028 = omega arith in
-    ap (λ (n : ℕ). length (take n (drop from m))) e ∙ length-take-le 1028 (drop from m) (simp length-drop (omega arith))
 
 -- a state over 1,028 words is all of them
 pub part-written : (e : AutomationEnvelope) (part new : List ℕ) → length part ≡ 1028 → new ≡ stateOver e part → new ≡ pack e

@@ -1,12 +1,9 @@
 -- Laws that the edits share: how one ends, and the loop that builds the new points. Assumes nothing.
-use Prim.Native.Nat.{_+_, _-_, _≤_, _<_}
 use mathlib.Core.Path.{_≡_, refl, sym, ap, _∙_}
 use mathlib.Core.Bool.{Bool, true, false}
-use mathlib.Core.List.{List, [], _∷_, _++_}
-use native.Mathlib.Omega.{arith}
-use lib.ListN.{length, set, length-append, length-take}
+use mathlib.Core.List.{List}
+use lib.ListN.{length}
 use Rattle.points.specs.Checks.{gate}
-use Rattle.points.specs.Point.{unused}
 use Rattle.points.specs.Points.{listOf, holding, validPoints}
 use Rattle.points.proofs.ValidLaws.{listOf-holding, holding-listOf}
 use Rattle.points.specs.declared.AutomationPoint.{AutomationPoint}
@@ -14,7 +11,6 @@ use Rattle.points.specs.declared.Points.{Points}
 use Rattle.settle.specs.Settle.{plain, causes, refused, accepted, editPoints}
 use Rattle.settle.specs.Finish.{finished}
 use Rattle.settle.specs.declared.EditedPoints.{EditedPoints}
-use Rattle.settle.proofs.Lists.{set-next}
 use Rattle.settle.proofs.Judging.{one, argument-three}
 
 -- ---- an edit's end
@@ -48,10 +44,6 @@ ends-valid {r} ps new {ok} {ok′} l f o made = f ∙ go (validPoints ps) ok ref
 pub ends : {r : EditedPoints} (ps new : Points) {ok ok′ : Bool} (l : List AutomationPoint) → r ≡ finished ps ok new → ok ≡ ok′ → new ≡ holding l → r ≡ editPoints ps ok′ l
 ends ps new l f o n = ends-valid ps new l f o (λ v a. n)
 
--- no more points than there are places
-pub listOf-few : (ps : Points) → length (ps .places) ≡ 256 → length (listOf ps) ≤ 256
-listOf-few ps len = omega (arith, length-take (ps .count) (ps .places))
-
 -- what `finish` ensures: its two sentences, of which the first gives the second
 pub as-edit : {r : EditedPoints} (ps new : Points) (ok : Bool) → r ≡ finished ps ok new
     → (r ≡ finished ps ok new) × (holding (listOf new) ≡ new → r ≡ editPoints ps ok (listOf new))
@@ -66,12 +58,3 @@ ends-kept g h holds ps new f o len n = ends-valid ps new (h (listOf ps)) f o (λ
 -- one that keeps the points as they are
 pub ends-same : {r : EditedPoints} (ps : Points) {ok ok′ : Bool} → r ≡ finished ps ok ps → ok ≡ ok′ → length (ps .places) ≡ 256 → r ≡ editPoints ps ok′ (listOf ps)
 ends-same ps g o len = ends-kept (λ x. x) (λ l. l) (λ l. refl) ps ps g o len refl
-
--- ---- a loop that builds points anew: one more
-
-pub pushed : (out : Points) (l : List AutomationPoint) (p : AutomationPoint) → length l < 256 → out ≡ holding l
-    → _≡_ {A = Points} (record { count = out .count + 1; places = set (out .places) (out .count) p }) (holding (l ++ (p ∷ [])))
-pushed out l p h o =
-    let n : length l + 1 ≡ length (l ++ (p ∷ [])) = sym (length-append l (p ∷ [])) in
-    ap (λ (x : Points). record { count = x .count + 1; places = set (x .places) (x .count) p }) o
-    ∙ (λ i. record { count = n i; places = set-next l unused p (256 - length l) (256 - length (l ++ (p ∷ []))) (omega arith) i })

@@ -1,4 +1,3 @@
-pub mod Lists
 pub mod Judging
 pub mod Ends
 pub mod Tested

@@ -8,6 +8,7 @@ use borrow.Author.Tests.{eqb-true, le-leb}
 use lib.Dec.{eqb, ltb}
 use lib.ListN.{length, take, getD, set}
 use lib.Seq.{lt-length-set, take-set-le, getD-set-same, getD-set-other}
+use Rattle.points.proofs.ValidLaws.{listOf-few}
 use Rattle.numbers.proofs.Tests.{and-both}
 use Rattle.points.specs.Point.{finitePoint, anyPoint}
 use Rattle.points.specs.Points.{every, risingBy, timeKey, rising, listOf, validPoints}
@@ -18,7 +19,6 @@ use Rattle.points.specs.declared.refusal.Refusal.the-variants.{NotValid, NotFin
 use Rattle.settle.specs.Settle.{plain, refused, accepted}
 use Rattle.settle.specs.Finish.{finished}
 use Rattle.settle.proofs.Judging.{one, argument-three, result-three, six, accepts}
-use Rattle.settle.proofs.Ends.{listOf-few}
 
 -- ---- one more point: the one at i
 

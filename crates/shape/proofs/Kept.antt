@@ -11,6 +11,7 @@ use lib.Ieee.{Float}
 use lib.ListN.{length, take, drop, getD, set, length-take}
 use lib.Seq.{take-suc, getD-take}
 use borrow.Author.Tests.{eqb-true, eq-eqb, ne-eqb, not-true}
+use Rattle.points.proofs.ValidLaws.{pushed}
 use Rattle.numbers.proofs.Tests.{and-left, and-right}
 use Rattle.points.specs.Point.{anyPoint}
 use Rattle.points.specs.Points.{every, timeKey, listOf, holding}
@@ -18,7 +19,6 @@ use Rattle.points.specs.Middles.{middles}
 use Rattle.points.proofs.MiddleLaws.{keep-cons, middles-yes, middles-no}
 use Rattle.points.specs.declared.AutomationPoint.{AutomationPoint}
 use Rattle.points.specs.declared.Points.{Points}
-use Rattle.settle.proofs.Ends.{pushed}
 use Rattle.shape.specs.Neighbours.{differingAfter, withoutRepeats}
 use Rattle.shape.specs.Shape.{keepIf, removeFirst, differs, simplified}
 

@@ -6,8 +6,10 @@ use native.Mathlib.Omega.{arith}
 use lib.Dec.{eqb}
 use lib.Ieee.{Float, binary32, binary64, ofBits, toBits}
 use borrow.Author.Tests.{ltb-true, eqb-true, eqb-false}
+use lib.Ieee.Bits.{toBits-lt, ofBits-toBits}
+use Rattle.numbers.proofs.Tests.{yes}
 use Rattle.numbers.specs.Bounds.{finite}
-use Rattle.numbers.proofs.BitLaws.{bits-lt, bits-back, pattern-back}
+use Rattle.numbers.proofs.BitLaws.{pattern-back}
 use Rattle.curve.specs.Curve.{code, controls, curveOf, known, finiteControls}
 use Rattle.curve.proofs.Laws.{code-lt, code-known, curveOf-code, code-curveOf, plain-controls}
 use Rattle.curve.specs.declared.Controls.{Controls}
@@ -50,16 +52,16 @@ unchecked false n x e f = never e
 limit-read : (p : Limit) → typedLimit p ≡ true → limitOf (limitBits p) ≡ p
 unfolding limitOf
 limit-read limit.None t = refl
-limit-read (limit.Number x) t = ap limit.Number (bits-back binary32 x t)
+limit-read (limit.Number x) t = ap limit.Number (ofBits-toBits binary32 x (yes t))
 
 limit-finite : (p : Limit) → typedLimit p ≡ true → finiteLimit p ≡ true → finiteBits (limitBits p) ≡ true
 unfolding finiteBits
 limit-finite limit.None t f = refl
-limit-finite (limit.Number x) t f = rw (bits-back binary32 x t) f
+limit-finite (limit.Number x) t f = rw (ofBits-toBits binary32 x (yes t)) f
 
 limit-lt : (p : Limit) → typedLimit p ≡ true → Below (16 ^ 8) (limitBits p)
 limit-lt limit.None t = tt
-limit-lt (limit.Number x) t = omega (arith, bits-lt binary32 x t)
+limit-lt (limit.Number x) t = omega (arith, toBits-lt binary32 x (yes t))
 
 limit-back : (o : Optional) → Below (16 ^ 8) o → finiteBits o ≡ true → limitBits (limitOf o) ≡ o
 unfolding limitOf finiteBits
@@ -176,10 +178,10 @@ module _ (p : AutomationPoint) (t : typedPoint p ≡ true) where
   unfolding pointMeaning rawPoint
   point-read f =
       rw (
-        bits-back binary64 (p .time) (point-parts p t .0),
-        bits-back binary32 (p .value) (point-parts p t .2),
-        bits-back binary32 (controls (p .curve) .cp1) (cp1-fits p t),
-        bits-back binary32 (controls (p .curve) .cp2) (cp2-fits p t),
+        ofBits-toBits binary64 (p .time) (yes (point-parts p t .0)),
+        ofBits-toBits binary32 (p .value) (yes (point-parts p t .2)),
+        ofBits-toBits binary32 (controls (p .curve) .cp1) (yes (cp1-fits p t)),
+        ofBits-toBits binary32 (controls (p .curve) .cp2) (yes (cp2-fits p t)),
         finite-time p f,
         finite-value p f,
         code-known (p .curve),
@@ -196,12 +198,12 @@ module _ (p : AutomationPoint) (t : typedPoint p ≡ true) where
   pub point-fine : FinePoint (rawPoint p)
   unfolding rawPoint
   point-fine = record {
-    time = omega (arith, bits-lt binary64 (p .time) (point-parts p t .0));
+    time = omega (arith, toBits-lt binary64 (p .time) (yes (point-parts p t .0)));
     position = position-lt (p .«sample_position») (point-parts p t .1);
-    value = omega (arith, bits-lt binary32 (p .value) (point-parts p t .2));
+    value = omega (arith, toBits-lt binary32 (p .value) (yes (point-parts p t .2)));
     curve = omega (arith, code-lt (p .curve));
-    cp1 = omega (arith, bits-lt binary32 (controls (p .curve) .cp1) (cp1-fits p t));
-    cp2 = omega (arith, bits-lt binary32 (controls (p .curve) .cp2) (cp2-fits p t));
+    cp1 = omega (arith, toBits-lt binary32 (controls (p .curve) .cp1) (yes (cp1-fits p t)));
+    cp2 = omega (arith, toBits-lt binary32 (controls (p .curve) .cp2) (yes (cp2-fits p t)));
     plain = no-bits (p .curve);
   }
 

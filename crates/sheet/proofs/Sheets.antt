@@ -7,6 +7,7 @@ use native.Mathlib.Omega.{arith}
 use borrow.Author.Tests.{le-leb}
 use lib.ListN.{length, drop, replicate, length-append}
 use lib.Seq.{take-append-seam}
+use Rattle.lines.proofs.Reading.{no-line}
 use Rattle.numbers.proofs.Tests.{and-left, and-right, and-both}
 use Rattle.points.proofs.Laws.{rising-front}
 use Rattle.points.specs.Point.{finitePoint, unused}
@@ -36,9 +37,6 @@ use Rattle.envelope.proofs.TypedLists.{listOf-typed}
 use Rattle.envelope.proofs.TypedParts.{parted, target-lt, places-length}
 
 -- ---- a line that was read
-
-pub no-line : {A C : Type 0} {n : ℕ} {a : A} {rest : List ℕ} → refused n ≡ line a rest → C
-no-line e = let z : _≡_ {A = ℕ} 0 1 = cc in absurd (omega arith)
 
 unmeant : {B C : Type 0} (m : List ℕ) (x : Said B) {b : B} {rest : List ℕ} → meant m x ≡ line b rest → (x ≡ gives b → m ≡ rest → C) → C
 unmeant m (refuses n) e f = no-line e

@@ -1,5 +1,5 @@
 -- Laws of the stored state: what was packed reads back, and what reads was packed so. Assumes nothing.
-use Prim.Native.Nat.{ℕ, zero, suc, _+_, _*_, _/_, _%_, _<_}
+use Prim.Native.Nat.{ℕ, zero, suc, _+_, _*_, _/_, _%_, _<_, _≤_}
 use mathlib.Core.Path.{_≡_, refl, sym, ap, _∙_}
 use mathlib.Core.Bool.{Bool, true, false, _&&_, false≢true}
 use mathlib.Core.List.{List, [], _∷_, _++_}
@@ -11,9 +11,8 @@ use lib.Arith.{digits-lt, digits-div, digits-mod}
 use lib.Dec.{ltb, eqb}
 use lib.ListN.{length, getD, drop, length-append}
 use lib.Ieee.{Float, Format, binary32, binary64, ofBits, toBits, fits}
-use lib.Ieee.Bits.{is-true, ofBits-fits}
-use Rattle.numbers.proofs.Tests.{and-left, and-right, and-both}
-use Rattle.numbers.proofs.BitLaws.{bits-lt, bits-back}
+use lib.Ieee.Bits.{is-true, ofBits-fits, toBits-lt, ofBits-toBits}
+use Rattle.numbers.proofs.Tests.{and-left, and-right, and-both, yes}
 use Rattle.curve.specs.Curve.{code, controls, curves, curveOf}
 use Rattle.curve.proofs.Laws.{code-lt, curveOf-code}
 use Rattle.curve.specs.declared.CurveType.the-variants.{Linear}
@@ -29,6 +28,7 @@ use Rattle.envelope.specs.Typed.{typedCurve, typedPosition, typedPoint, typedLi
 use Rattle.envelope.proofs.TypedParts.{point-parts, cp1-fits, cp2-fits, parted, target-lt, places-length, places-typed}
 use Rattle.envelope.specs.declared.AutomationEnvelope.{AutomationEnvelope}
 use Rattle.state.specs.State.{halves, high, low, flag, bit, hasLimit, limitBits, limitOf, hasPosition, positionWord, positionOf, flags, packSettings, packPoint, pointOf, packPoints, pointsOf}
+use Rattle.state.specs.State.{stateWords}
 use Rattle.state.specs.State.{pack, stateOf, ifTest, unpacked}
 use Rattle.state.specs.Promised.{ReadsBack, OneToOne}
 
@@ -52,11 +52,11 @@ flag-back false e = rw e
 
 limit-back : (l : Limit) {b : Bool} {n : ℕ} → typedLimit l ≡ true → b ≡ hasLimit l → n ≡ limitBits l → limitOf b n ≡ l
 limit-back limit.None t e k = rw e
-limit-back (limit.Number x) t e k = rw (e, k) (ap limit.Number (bits-back binary32 x t))
+limit-back (limit.Number x) t e k = rw (e, k) (ap limit.Number (ofBits-toBits binary32 x (yes t)))
 
 limit-lt : (l : Limit) → typedLimit l ≡ true → limitBits l < 0x1_0000_0000
 limit-lt limit.None t = omega arith
-limit-lt (limit.Number x) t = bits-lt binary32 x t
+limit-lt (limit.Number x) t = toBits-lt binary32 x (yes t)
 
 position-back : (p : SamplePosition) {b : Bool} → b ≡ hasPosition p → positionOf b (positionWord p) ≡ p
 position-back position.None e = rw e
@@ -70,8 +70,8 @@ point-back p l t =
     let typings = point-parts p t in
     let cp1 = cp1-fits p t in
     let cp2 = cp2-fits p t in
-    let value-lt : toBits binary32 (p .value) < 0x1_0000_0000 = bits-lt binary32 (p .value) (typings .2) in
-    let cp1-lt : toBits binary32 (controls (p .curve) .cp1) < 0x1_0000_0000 = bits-lt binary32 (controls (p .curve) .cp1) cp1 in
+    let value-lt : toBits binary32 (p .value) < 0x1_0000_0000 = toBits-lt binary32 (p .value) (yes (typings .2)) in
+    let cp1-lt : toBits binary32 (controls (p .curve) .cp1) < 0x1_0000_0000 = toBits-lt binary32 (controls (p .curve) .cp1) (yes cp1) in
     let has = flag (hasPosition (p .«sample_position»)) in
     let tag = code (p .curve) * 2 + has in
     let tag-is : high (halves tag (toBits binary32 (p .value))) ≡ tag = high-halves tag value-lt in
@@ -79,13 +79,13 @@ point-back p l t =
     let odd : tag / 1 % 2 ≡ has = omega arith in
     let half : tag / 2 ≡ code (p .curve) = omega arith in
     λ i. record {
-      time = bits-back binary64 (p .time) (typings .0) i;
+      time = ofBits-toBits binary64 (p .time) (yes (typings .0)) i;
       «sample_position» = position-back (p .«sample_position») (flag-back (hasPosition (p .«sample_position»)) (ap (λ (n : ℕ). n / 1 % 2) tag-is ∙ odd)) i;
-      value = (ap (ofBits binary32) (low-halves tag value-lt) ∙ bits-back binary32 (p .value) (typings .2)) i;
+      value = (ap (ofBits binary32) (low-halves tag value-lt) ∙ ofBits-toBits binary32 (p .value) (yes (typings .2))) i;
       curve = (
           (λ j. curveOf ((ap (λ (n : ℕ). n / 2) tag-is ∙ half) j)
-          ((ap (ofBits binary32) (low-halves (toBits binary32 (controls (p .curve) .cp2)) cp1-lt) ∙ bits-back binary32 (controls (p .curve) .cp1) cp1) j)
-          ((ap (ofBits binary32) (high-halves (toBits binary32 (controls (p .curve) .cp2)) cp1-lt) ∙ bits-back binary32 (controls (p .curve) .cp2) cp2) j))
+          ((ap (ofBits binary32) (low-halves (toBits binary32 (controls (p .curve) .cp2)) cp1-lt) ∙ ofBits-toBits binary32 (controls (p .curve) .cp1) (yes cp1)) j)
+          ((ap (ofBits binary32) (high-halves (toBits binary32 (controls (p .curve) .cp2)) cp1-lt) ∙ ofBits-toBits binary32 (controls (p .curve) .cp2) (yes cp2)) j))
           ∙ curveOf-code (p .curve)) i;
     }
 
@@ -186,10 +186,10 @@ point-words p t =
     let typings = point-parts p t in
     let has = flag (hasPosition (p .«sample_position»)) in
     let tag-lt : code (p .curve) * 2 + has < 0x1_0000_0000 = omega (arith, code-lt (p .curve), flag-lt (hasPosition (p .«sample_position»))) in
-    and-both (lt-ltb (toBits binary64 (p .time)) 0x1_0000_0000_0000_0000 (bits-lt binary64 (p .time) (typings .0)))
+    and-both (lt-ltb (toBits binary64 (p .time)) 0x1_0000_0000_0000_0000 (toBits-lt binary64 (p .time) (yes (typings .0))))
     (and-both (position-word (p .«sample_position») (typings .1))
-    (and-both (halves-word _ _ (bits-lt binary32 (controls (p .curve) .cp2) (cp2-fits p t)) (bits-lt binary32 (controls (p .curve) .cp1) (cp1-fits p t)))
-    (and-both (halves-word _ _ tag-lt (bits-lt binary32 (p .value) (typings .2))) refl)))
+    (and-both (halves-word _ _ (toBits-lt binary32 (controls (p .curve) .cp2) (yes (cp2-fits p t))) (toBits-lt binary32 (controls (p .curve) .cp1) (yes (cp1-fits p t))))
+    (and-both (halves-word _ _ tag-lt (toBits-lt binary32 (p .value) (yes (typings .2)))) refl)))
 
 points-words : (l : List AutomationPoint) → every typedPoint l ≡ true → every word (packPoints l) ≡ true
 unfolding packPoints every
@@ -307,3 +307,9 @@ stateOf-typed w h =
 
 pub unpacked-typed : (w : List ℕ) (e : AutomationEnvelope) → every word w ≡ true → unpacked w ≡ some e → typed e ≡ true
 unpacked-typed w e h u = ap typed (sym (unpacked-is w e u)) ∙ stateOf-typed w h
+
+-- ---- states one after the other
+
+-- one of as many as fit in n words lies in them
+pub slot-fits : (p n : ℕ) → p < n / stateWords → p * stateWords + stateWords ≤ n
+slot-fits p n h = omega arith

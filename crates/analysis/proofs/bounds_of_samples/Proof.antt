@@ -5,13 +5,13 @@ use mathlib.Core.Bool.{true}
 use mathlib.Core.List.{foldl}
 use mathlib.Core.Option.{some}
 use native.Mathlib.Omega.{arith}
+use Rattle.points.proofs.Good.{inside}
 use Rattle.points.specs.Refusal.{gives}
 use Rattle.lookup.specs.Lookup.{sampleKey, valueAtSample, told}
 use Rattle.lookup.proofs.LookupLaws.{valid-count}
 use Rattle.analysis.specs.Analysis.{givenValues}
 use Rattle.lookup.specs.Runs.{run}
 use Rattle.analysis.specs.Ranges.{noValues, widen, valuesAtSamples}
-use Rattle.lookup.proofs.Good.{inside}
 use Rattle.lookup.proofs.KeyLaws.{keys-place}
 use Rattle.analysis.proofs.Ranges.{lookup-turn, sample-early, sample-late, sample-within, stop-within}
 use Rattle.analysis.proofs.bounds_of_samples.Statement.{statement}

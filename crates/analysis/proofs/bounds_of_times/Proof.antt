@@ -5,6 +5,7 @@ use mathlib.Core.Bool.{true}
 use mathlib.Core.List.{foldl}
 use mathlib.Core.Option.{some}
 use native.Mathlib.Omega.{arith}
+use Rattle.points.proofs.Good.{inside}
 use Rattle.numbers.specs.Order.{orderKey}
 use Rattle.points.specs.Points.{timeKey}
 use Rattle.points.specs.Refusal.{gives}
@@ -13,7 +14,6 @@ use Rattle.lookup.proofs.LookupLaws.{valid-count, valid-rising}
 use Rattle.analysis.specs.Analysis.{givenValues, rangeTime}
 use Rattle.lookup.specs.Runs.{run}
 use Rattle.analysis.specs.Ranges.{noValues, widen, valuesAtTimes}
-use Rattle.lookup.proofs.Good.{inside}
 use Rattle.lookup.proofs.KeyLaws.{keys-place}
 use Rattle.analysis.proofs.Ranges.{lookup-turn, time-early, time-late, time-inner}
 use Rattle.analysis.proofs.bounds_of_times.Statement.{statement}

@@ -5,12 +5,12 @@ use mathlib.Core.Bool.{Bool}
 use mathlib.Core.List.{foldl}
 use lib.Dec.{ltb}
 use borrow.Author.Tests.{ltb-true}
+use Rattle.points.proofs.Good.{inside}
 use Rattle.numbers.proofs.Tests.{and-left, and-right}
 use Rattle.points.specs.Points.{listOf}
 use Rattle.lookup.specs.Lookup.{rawAtSample, valueAtSample}
 use Rattle.lookup.proofs.LookupLaws.{sample-none, keys-rise-is}
 use Rattle.analysis.specs.Ranges.{noValues, widen, valuesAtSamples}
-use Rattle.lookup.proofs.Good.{inside}
 use Rattle.analysis.proofs.Ranges.{given-none, silent-gives}
 use borrow.Author.Needs.{needs}
 use Rattle.analysis.proofs.samples_range.Statement.{statement}

@@ -4,13 +4,13 @@ use mathlib.Core.Bool.{Bool}
 use mathlib.Core.List.{foldl}
 use lib.Dec.{ltb}
 use borrow.Author.Tests.{ltb-true}
+use Rattle.points.proofs.Good.{inside}
 use Rattle.numbers.proofs.Tests.{and-left, and-right}
 use Rattle.points.specs.Points.{listOf}
 use Rattle.lookup.specs.Lookup.{rawAt, valueAt}
 use Rattle.lookup.proofs.LookupLaws.{raw-none}
 use Rattle.analysis.specs.Analysis.{rangeTime}
 use Rattle.analysis.specs.Ranges.{noValues, widen, valuesAtTimes}
-use Rattle.lookup.proofs.Good.{inside}
 use Rattle.analysis.proofs.Ranges.{given-none, silent-gives}
 use borrow.Author.Needs.{needs}
 use Rattle.analysis.proofs.times_range.Statement.{statement}

@@ -2,8 +2,8 @@
 use Prim.Native.Nat.{_+_, _-_, _≤_}
 use mathlib.Core.Path.{_≡_, refl}
 use native.Mathlib.Omega.{arith}
+use Rattle.points.proofs.Good.{inside}
 use Rattle.points.proofs.ValidLaws.{valid-count}
-use Rattle.lookup.proofs.Good.{inside}
 use Rattle.combine.specs.Combine.{combinedPoint}
 use Rattle.combine.specs.Walk.{sideWith}
 use Rattle.combine.proofs.Walking.{Step, Done, begun, stepped, made-is, turn-room, turn-full, ended}

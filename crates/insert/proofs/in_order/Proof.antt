@@ -6,9 +6,8 @@ use borrow.Author.Tests.{le-leb}
 use lib.ListN.{length}
 use Rattle.points.specs.declared.AutomationPoint.{AutomationPoint}
 use Rattle.points.specs.Points.{listOf, holding, risingBy}
-use Rattle.points.proofs.ValidLaws.{listOf-holding}
+use Rattle.points.proofs.ValidLaws.{listOf-holding, listOf-few}
 use Rattle.points.proofs.Good.{places}
-use Rattle.settle.proofs.Ends.{listOf-few}
 use Rattle.insert.specs.Insert.{insertAll}
 use Rattle.insert.proofs.Inserting.{sorted-holding, all-few, rising-inserts}
 use borrow.Author.Needs.{needs}

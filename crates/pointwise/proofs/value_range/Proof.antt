@@ -6,9 +6,8 @@ use lib.Ieee.{Float, inf, ofBits, div, neg}
 use lib.ListN.{take, getD}
 use Rattle.numbers.specs.Bounds.{minNum, maxNum}
 use Rattle.points.specs.Point.{anyPoint}
-use Rattle.points.proofs.Laws.{take-min}
+use Rattle.points.proofs.Laws.{take-min, fold-more}
 use Rattle.points.proofs.Good.{places}
-use Rattle.settle.proofs.Lists.{fold-more}
 use Rattle.pointwise.specs.Each.{lowestValue, highestValue}
 use Rattle.pointwise.proofs.value_range.Statement.{statement}
 use Rattle.pointwise.proofs.value_range.Tie as tie

@@ -3,7 +3,8 @@
 use mathlib.Core.Path.{refl, sym}
 use native.Mathlib.Omega.{arith}
 use borrow.Author.Needs.{needs}
-use Rattle.render.proofs.RenderLaws.{answers, too-many, no-room, accepted, none-written, part-count, part-back}
+use Rattle.lookup.proofs.RunLaws.{part-count}
+use Rattle.render.proofs.RenderLaws.{answers, too-many, no-room, accepted, none-written, part-back}
 use Rattle.render.specs.Render.{sampleAt}
 use Rattle.render.proofs.RenderLaws.{answers, too-many, no-room, accepted, none-written, part-back}
 use Rattle.render.proofs.run_into.Statement.{statement}
@@ -31,7 +32,7 @@ write-samples-requires : tie.Need-write-samples-requires
 write-samples-requires c κs =
     let pre = c .before .before .before .before .before .before .before .pre in
     let a = c .before .before .before .before .before .before .before .args in
-    (pre, omega (arith, part-count (sampleAt (a .points) (a .enabled) (a .limits) (a .rate)) (a .first) (a .count) (a .place) (a .out .now) (omega arith)))
+    (pre, omega (arith, part-count (a .place) (a .count) (a .out .now) (omega arith)))
 
 returns : tie.Need-returns
 returns c =

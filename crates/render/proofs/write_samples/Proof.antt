@@ -2,7 +2,7 @@
 -- (`off-run`, `none-run`, `one-run`); with more they are what `write_segments` ensures (`on-run`).
 use mathlib.Core.Path.{_∙_}
 use borrow.Author.Needs.{needs}
-use Rattle.lookup.proofs.Good.{inside}
+use Rattle.points.proofs.Good.{inside}
 use Rattle.render.proofs.Writing.{off-run, on-run, none-run, one-run}
 use Rattle.render.proofs.write_samples.Statement.{statement}
 use Rattle.render.proofs.write_samples.Tie as tie

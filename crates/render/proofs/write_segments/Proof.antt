@@ -60,12 +60,13 @@ found : (c : tie.After-search Inv-loop μ-loop) →
     let args = c .before .before .before .before .before .before .before .before .before .before .before .before .before .before .before .args in
     (0 < c .search .result) × (c .search .result < args .t1 .count) × (args .t1 .count ≤ 256)
 found c =
-    let good = c .before .before .before .before .before .before .before .before .before .before .before .before .before .before .before .good in
-    let pre = c .before .before .before .before .before .before .before .before .before .before .before .before .before .before .before .pre in
+    let entry = c .before .before .before .before .before .before .before .before .before .before .before .before .before .before .before in
+    let good = entry .good in
+    let pre = entry .pre in
     let keys = c .before .before .before .before .before .before .before .before .before .keys in
     let if1 = c .before .before .before .if1 in
     let order-key = c .before .before .order-key in
-    let a = c .before .before .before .before .before .before .before .before .before .before .before .before .before .before .before .args in
+    let a = entry .args in
     let h = c .before .before .before .before .before .before .before .before .loop in
     let p = search-inside (a .t1) _ (good .0) (pre .0) (pre .1) (keys .result) (keys .ensures) (a .rate) (h .k) (if1 .taken) (order-key .result) (c .search .result) (order-key .ensures)
     (c .search .ensures) in

@@ -1,4 +1,4 @@
--- `session::store` meets its contract: `fit_state` leaves `pack envelope` and no more in a part of 1,028 words (`part-words`, `part-written`),
+-- `session::store` meets its contract: `fit_state` leaves `pack envelope` and no more in a part of 1,028 words (`part-count`, `part-written`),
 -- and the words before and after that part stay (`post-is`).
 use mathlib.Core.Path.{ap, _∙_}
 use denote.Ref.{now}
@@ -7,9 +7,10 @@ use mathlib.Core.List.{List, _++_}
 use native.Mathlib.Omega.{arith}
 use lib.ListN.{take}
 use borrow.Rule.Slice.PartMut.{postOf, post-is}
+use Rattle.lookup.proofs.RunLaws.{part-count}
 use Rattle.state.specs.State.{pack}
 use Rattle.session.specs.Session.{stored}
-use Rattle.session.proofs.Ways.{part-words, part-written}
+use Rattle.session.proofs.Ways.{part-written}
 use borrow.Author.Needs.{needs}
 use Rattle.session.proofs.store.Statement.{statement}
 use Rattle.session.proofs.store.Tie as tie
@@ -45,7 +46,7 @@ returns c =
     let entry = c .before .before .before .before .before in
     let a = entry .args in
     ap (λ (l : List ℕ). take (a .slot * 1028) (now (a .memory)) ++ (l ++ postOf (a .slot * 1028) (a .slot * 1028 + 1028 - a .slot * 1028) (now (a .memory))))
-    (part-written (a .envelope) _ _ (part-words (a .slot * 1028) (now (a .memory)) (entry .pre)) (fit-state .ensures))
+    (part-written (a .envelope) _ _ (part-count (a .slot * 1028) 1028 (now (a .memory)) (entry .pre)) (fit-state .ensures))
     ∙ ap (λ (l : List ℕ). take (a .slot * 1028) (now (a .memory)) ++ (pack (a .envelope) ++ l)) (post-is (a .slot * 1028) (a .slot * 1028 + 1028) (now (a .memory)) (omega arith))
 
 pub store-spec : {M : Type 1} → statement M

@@ -4,12 +4,12 @@ use mathlib.Core.List.{[], _∷_}
 use native.Mathlib.Omega.{arith}
 use lib.ListN.{set, take, getD, length-take}
 use lib.Seq.{getD-take, take-suc}
+use Rattle.points.proofs.ValidLaws.{pushed}
 use Rattle.points.specs.declared.AutomationPoint.{AutomationPoint}
 use Rattle.points.specs.declared.Points.{Points}
 use Rattle.points.specs.Point.{anyPoint}
 use Rattle.points.specs.Points.{listOf, holding}
 use Rattle.points.proofs.Good.{places}
-use Rattle.settle.proofs.Ends.{pushed}
 use borrow.Author.Needs.{needs}
 use Rattle.shape.proofs.first_only.Statement.{statement}
 use Rattle.shape.proofs.first_only.Tie as tie

@@ -4,6 +4,7 @@ use mathlib.Core.List.{List, [], _∷_, _++_, append-nil}
 use native.Mathlib.Omega.{arith}
 use lib.ListN.{length, take, getD, length-take}
 use lib.Seq.{getD-take, take-all}
+use Rattle.points.proofs.ValidLaws.{pushed}
 use Rattle.points.specs.declared.AutomationPoint.{AutomationPoint}
 use Rattle.points.specs.declared.Points.{Points}
 use Rattle.points.specs.Point.{anyPoint}
@@ -11,7 +12,6 @@ use Rattle.points.specs.Points.{listOf, holding}
 use Rattle.points.proofs.Good.{places}
 use Rattle.points.specs.Middles.{middles}
 use Rattle.points.proofs.MiddleLaws.{middles-two}
-use Rattle.settle.proofs.Ends.{pushed}
 use Rattle.shape.specs.Shape.{differs}
 use Rattle.shape.proofs.Kept.{simplified-is, simplified-few, middles-push, middles-pass}
 use Rattle.shape.proofs.kept_differing.Statement.{statement}

@@ -3,13 +3,13 @@ use mathlib.Core.Path.{_≡_, sym, ap, _∙_}
 use mathlib.Core.List.{List}
 use native.Mathlib.Omega.{arith}
 use lib.ListN.{length, take, getD}
+use Rattle.points.proofs.ValidLaws.{pushed}
 use Rattle.points.specs.declared.AutomationPoint.{AutomationPoint}
 use Rattle.points.specs.declared.Points.{Points}
 use Rattle.points.specs.Point.{anyPoint}
 use Rattle.points.specs.Points.{holding}
 use Rattle.points.proofs.Laws.{take-min}
 use Rattle.points.proofs.Good.{places}
-use Rattle.settle.proofs.Ends.{pushed}
 use Rattle.shape.specs.Shape.{keepIf, inside}
 use Rattle.shape.proofs.Kept.{keep-yes, keep-no}
 use Rattle.shape.proofs.kept_inside.Statement.{statement}

@@ -5,12 +5,12 @@ use native.Mathlib.Omega.{arith}
 use native.Mathlib.Numerals.{add-one}
 use lib.ListN.{length, drop, getD, length-take}
 use lib.Seq.{getD-take, drop-cons, drop-length}
+use Rattle.points.proofs.ValidLaws.{pushed}
 use Rattle.points.specs.declared.AutomationPoint.{AutomationPoint}
 use Rattle.points.specs.declared.Points.{Points}
 use Rattle.points.specs.Point.{anyPoint}
 use Rattle.points.specs.Points.{listOf, holding}
 use Rattle.points.proofs.Good.{places}
-use Rattle.settle.proofs.Ends.{pushed}
 use Rattle.shape.proofs.turned.Statement.{statement}
 use Rattle.shape.proofs.turned.Tie as tie
 

@@ -3,6 +3,7 @@ use mathlib.Core.Path.{_≡_, refl, sym, ap, _∙_}
 use mathlib.Core.List.{List}
 use native.Mathlib.Omega.{arith}
 use lib.ListN.{length, take, getD}
+use Rattle.points.proofs.ValidLaws.{pushed}
 use Rattle.numbers.proofs.Tests.{and-both}
 use Rattle.points.specs.declared.AutomationPoint.{AutomationPoint}
 use Rattle.points.specs.declared.Points.{Points}
@@ -12,7 +13,6 @@ use Rattle.points.proofs.Laws.{take-min, every-more}
 use Rattle.points.proofs.Good.{places}
 use mathlib.Core.Bool.{not}
 use Rattle.points.specs.Points.{every}
-use Rattle.settle.proofs.Ends.{pushed}
 use Rattle.shape.specs.Shape.{removeFirst, near}
 use Rattle.shape.proofs.Kept.{noneOf, none-here, none-past, remove-here, remove-past}
 use Rattle.shape.proofs.without_first_near.Statement.{statement}

@@ -3,13 +3,13 @@
 use Prim.Native.Nat.{_+_, _-_, _/_}
 use mathlib.Core.Path.{sym, ap, _∙_}
 use native.Mathlib.Omega.{arith}
+use Rattle.points.proofs.Good.{inside}
 use Rattle.points.specs.Point.{anyPoint}
 use Rattle.points.specs.Refusal.{gives}
 use Rattle.points.proofs.ValidLaws.{valid-count}
 use Rattle.points.proofs.SearchLaws.{Halving, halving-start, halving-up, halving-down, halving-place}
 use Rattle.lookup.specs.Lookup.{pointAt, sampleKey}
 use Rattle.lookup.proofs.LookupLaws.{sample-none, sample-one, sample-first, sample-last, sample-around, at-place}
-use Rattle.lookup.proofs.Good.{inside}
 use Rattle.lookup.proofs.sample.raw_at_sample.Statement.{statement}
 use Rattle.lookup.proofs.sample.raw_at_sample.Tie as tie
 

@@ -3,6 +3,7 @@
 use Prim.Native.Nat.{_+_, _-_, _/_}
 use mathlib.Core.Path.{sym, ap, _∙_}
 use native.Mathlib.Omega.{arith}
+use Rattle.points.proofs.Good.{inside}
 use Rattle.numbers.specs.Order.{orderKey}
 use Rattle.points.specs.Point.{anyPoint}
 use Rattle.points.specs.Points.{timeKey}
@@ -11,7 +12,6 @@ use Rattle.points.proofs.ValidLaws.{valid-count, valid-rising}
 use Rattle.points.proofs.SearchLaws.{Halving, halving-start, halving-up, halving-down, halving-place}
 use Rattle.lookup.specs.Lookup.{pointAt}
 use Rattle.lookup.proofs.LookupLaws.{raw-none, raw-one, raw-first, raw-last, raw-around, at-place}
-use Rattle.lookup.proofs.Good.{inside}
 use Rattle.lookup.proofs.time.raw_at.Statement.{statement}
 use Rattle.lookup.proofs.time.raw_at.Tie as tie
 
