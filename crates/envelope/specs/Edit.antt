@@ -33,7 +33,7 @@ use Rattle.envelope.specs.declared.edit.PointsEdit.the-variants.{Offset,
 use Rattle.envelope.specs.declared.edit.Replacement.{Replacement}
 use Rattle.envelope.specs.declared.edit.Replacement.the-variants.{FadeIn, FadeOut, Pulse, Ramp}
 use Rattle.envelope.specs.declared.edit.Edit.{Edit}
-use Rattle.envelope.specs.declared.edit.Edit.the-variants.{OfPoints, Replace, SetEnabled, SetMin, SetMax, SetStep}
+use Rattle.envelope.specs.declared.edit.Edit.the-variants.{OfPoints, Replace, SetEnabled, SetMin, SetMax, SetStep, SetHard}
 use Rattle.envelope.specs.declared.edit.Join.{Join}
 use Rattle.envelope.specs.declared.edit.Join.the-variants.{Merge, Combine}
 
@@ -85,7 +85,7 @@ constructed (FadeOut duration c) = plain (finite duration && finiteControls c) (
 constructed (Pulse fadeIn sustain fadeOut c) = plain (finite fadeIn && finite sustain && finite fadeOut && finiteControls c) (pulseList fadeIn sustain fadeOut c)
 constructed (Ramp duration start end c) = plain (finite duration && finite start && finite end && finiteControls c) (rampList duration start end c)
 
--- any edit; "the setting of enabled, and of minimum, maximum and step (each a number or none)" keeps the points
+-- any edit; "the setting of enabled, and of minimum, maximum and step (each a number or none)", and of hard, "set by an edit as enabled is" (F-1), keeps the points
 unfoldable pub proposal : Edit → List AutomationPoint → Proposal
 unfolding proposed constructed
 proposal (OfPoints d) l = proposed d l
@@ -94,12 +94,13 @@ proposal (SetEnabled on) l = plain true l
 proposal (SetMin limit) l = plain (finiteLimit limit) l
 proposal (SetMax limit) l = plain (finiteLimit limit) l
 proposal (SetStep limit) l = plain (finiteLimit limit) l
+proposal (SetHard on) l = plain true l
 
 -- ---- the envelope that it makes
 
 -- the same envelope with other points
 abbrev pub withPoints : AutomationEnvelope → Points → AutomationEnvelope
-withPoints e ps = record { target = e .target; points = ps; enabled = e .enabled; «min_value» = e .«min_value»; «max_value» = e .«max_value»; «step_size» = e .«step_size» }
+withPoints e ps = record { target = e .target; points = ps; enabled = e .enabled; «min_value» = e .«min_value»; «max_value» = e .«max_value»; «step_size» = e .«step_size»; hard = e .hard }
 
 -- what 000's constructors and its `combine` make: an envelope of `new`, "given the target the envelope has"
 abbrev pub anew : AutomationEnvelope → List AutomationPoint → AutomationEnvelope
@@ -107,7 +108,7 @@ anew e l = withPoints (new (e .target)) (holding l)
 
 -- the same envelope with another switch and other limits
 abbrev pub withSettings : AutomationEnvelope → Bool → Limits → AutomationEnvelope
-withSettings e enabled l = record { target = e .target; points = e .points; enabled = enabled; «min_value» = l .«min_value»; «max_value» = l .«max_value»; «step_size» = l .«step_size» }
+withSettings e enabled l = record { target = e .target; points = e .points; enabled = enabled; «min_value» = l .«min_value»; «max_value» = l .«max_value»; «step_size» = l .«step_size»; hard = l .hard }
 
 -- what an edit makes of e and its list
 unfoldable pub successor : Edit → AutomationEnvelope → List AutomationPoint → AutomationEnvelope
@@ -115,9 +116,10 @@ unfolding new
 successor (OfPoints d) e l = withPoints e (holding l)
 successor (Replace d) e l = anew e l
 successor (SetEnabled on) e l = withSettings e on (limitsOf e)
-successor (SetMin limit) e l = withSettings e (e .enabled) (record { «min_value» = limit; «max_value» = e .«max_value»; «step_size» = e .«step_size» })
-successor (SetMax limit) e l = withSettings e (e .enabled) (record { «min_value» = e .«min_value»; «max_value» = limit; «step_size» = e .«step_size» })
-successor (SetStep limit) e l = withSettings e (e .enabled) (record { «min_value» = e .«min_value»; «max_value» = e .«max_value»; «step_size» = limit })
+successor (SetMin limit) e l = withSettings e (e .enabled) (record { «min_value» = limit; «max_value» = e .«max_value»; «step_size» = e .«step_size»; hard = e .hard })
+successor (SetMax limit) e l = withSettings e (e .enabled) (record { «min_value» = e .«min_value»; «max_value» = limit; «step_size» = e .«step_size»; hard = e .hard })
+successor (SetStep limit) e l = withSettings e (e .enabled) (record { «min_value» = e .«min_value»; «max_value» = e .«max_value»; «step_size» = limit; hard = e .hard })
+successor (SetHard on) e l = withSettings e (e .enabled) (record { «min_value» = e .«min_value»; «max_value» = e .«max_value»; «step_size» = e .«step_size»; hard = on })
 
 -- ---- 01's list of edits, each with 1, argument 3, 4, and the result's 3, 6, 5
 unfoldable pub editOf : Edit → AutomationEnvelope → EditTold

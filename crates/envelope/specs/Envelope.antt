@@ -13,13 +13,13 @@ use Rattle.limits.specs.declared.Limit.the-variants as limit
 use Rattle.limits.specs.declared.Limits.{Limits}
 use Rattle.envelope.specs.declared.AutomationEnvelope.{AutomationEnvelope}
 
--- 000's `new`: enabled, no points, no limits
+-- 000's `new`: enabled, no points, no limits; F-1: hard is "off by default"
 unfoldable pub new : ℕ → AutomationEnvelope
-new target = record { target = target; points = holding []; enabled = true; «min_value» = limit.None; «max_value» = limit.None; «step_size» = limit.None }
+new target = record { target = target; points = holding []; enabled = true; «min_value» = limit.None; «max_value» = limit.None; «step_size» = limit.None; hard = false }
 
--- the minimum, the maximum and the step
+-- the minimum, the maximum, the step, and hard
 abbrev pub limitsOf : AutomationEnvelope → Limits
-limitsOf e = record { «min_value» = e .«min_value»; «max_value» = e .«max_value»; «step_size» = e .«step_size» }
+limitsOf e = record { «min_value» = e .«min_value»; «max_value» = e .«max_value»; «step_size» = e .«step_size»; hard = e .hard }
 
 -- "An envelope is valid if .."
 abbrev pub validEnvelope : AutomationEnvelope → Bool
@@ -37,6 +37,7 @@ abbrev pub sameSettings : AutomationEnvelope → AutomationEnvelope → Bool
 sameSettings e f =
     eqb (e .target) (f .target) && Bool·beq (e .enabled) (f .enabled)
     && sameLimit (e .«min_value») (f .«min_value») && sameLimit (e .«max_value») (f .«max_value») && sameLimit (e .«step_size») (f .«step_size»)
+    && Bool·beq (e .hard) (f .hard)
 
 -- 000's `eq` (exact false) and `eq_exact` (exact true): field by field, and as many points, each like the other's; with refusal 1
 unfoldable pub envelopesEqual : Bool → AutomationEnvelope → AutomationEnvelope → Said Bool

@@ -19,7 +19,7 @@ use Rattle.envelope.specs.declared.edit.PointsEdit.the-variants.{Offset,
 use Rattle.envelope.specs.declared.edit.Replacement.{Replacement}
 use Rattle.envelope.specs.declared.edit.Replacement.the-variants.{FadeIn, FadeOut, Pulse, Ramp}
 use Rattle.envelope.specs.declared.edit.Edit.{Edit}
-use Rattle.envelope.specs.declared.edit.Edit.the-variants.{OfPoints, Replace, SetEnabled, SetMin, SetMax, SetStep}
+use Rattle.envelope.specs.declared.edit.Edit.the-variants.{OfPoints, Replace, SetEnabled, SetMin, SetMax, SetStep, SetHard}
 
 -- the controls are f32
 abbrev pub typedCurve : CurveType → Bool
@@ -86,3 +86,4 @@ typedEdit (SetEnabled on) = true
 typedEdit (SetMin l) = typedLimit l
 typedEdit (SetMax l) = typedLimit l
 typedEdit (SetStep l) = typedLimit l
+typedEdit (SetHard on) = true

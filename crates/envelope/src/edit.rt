@@ -1,7 +1,7 @@
 // 01's edits as data, and what each makes of an envelope.
 ghost use mathlib.Core.Path.{_≡_};
 ghost use Rattle.envelope.specs.Envelope.{new};
-ghost use Rattle.envelope.specs.declared.edit.Edit.the-variants.{OfPoints, Replace, SetEnabled, SetMin, SetMax, SetStep};
+ghost use Rattle.envelope.specs.declared.edit.Edit.the-variants.{OfPoints, Replace, SetEnabled, SetMin, SetMax, SetStep, SetHard};
 ghost use Rattle.envelope.specs.Edit.{toldEdit, pointsEdited, replacedPoints, edited, renewed, setting, editOf, sideOf, joinOf, withPoints, withSettings, refusedEdit};
 ghost use Rattle.envelope.specs.declared.edit.Join.the-variants.{Merge, Combine};
 use crate::AutomationEnvelope;
@@ -54,6 +54,7 @@ pub enum Edit {
     SetMin(Limit),
     SetMax(Limit),
     SetStep(Limit),
+    SetHard(bool),
 }
 
 // The edits that take a second envelope.
@@ -137,6 +138,7 @@ impl AutomationEnvelope {
             min_value,
             max_value,
             step_size,
+            hard: self.hard,
         }
     }
 
@@ -177,6 +179,7 @@ impl AutomationEnvelope {
             min_value: Limit::None,
             max_value: Limit::None,
             step_size: Limit::None,
+            hard: false,
         }
     }
 
@@ -210,6 +213,7 @@ impl AutomationEnvelope {
             min_value,
             max_value,
             step_size,
+            hard: limits.hard,
         }
     }
 
@@ -272,6 +276,7 @@ impl AutomationEnvelope {
             min_value: min,
             max_value,
             step_size,
+            hard: self.hard,
         };
         self.set(min.is_finite(), self.enabled, limits)
     }
@@ -285,6 +290,7 @@ impl AutomationEnvelope {
             min_value,
             max_value: max,
             step_size,
+            hard: self.hard,
         };
         self.set(max.is_finite(), self.enabled, limits)
     }
@@ -298,8 +304,25 @@ impl AutomationEnvelope {
             min_value,
             max_value,
             step_size: step,
+            hard: self.hard,
         };
         self.set(step.is_finite(), self.enabled, limits)
+    }
+
+    // 02's F-1.
+    pub fn set_hard(mut self, hard: bool) -> Edited
+        ensures { λ r. ⌜ toldEdit r ≡ editOf (SetHard hard) self ⌝ }
+    {
+        let min_value = self.min_value;
+        let max_value = self.max_value;
+        let step_size = self.step_size;
+        let limits = Limits {
+            min_value,
+            max_value,
+            step_size,
+            hard,
+        };
+        self.set(true, self.enabled, limits)
     }
 
     // Any of 01's edits.
@@ -313,6 +336,7 @@ impl AutomationEnvelope {
             Edit::SetMin(l) => self.set_min(l),
             Edit::SetMax(l) => self.set_max(l),
             Edit::SetStep(l) => self.set_step(l),
+            Edit::SetHard(on) => self.set_hard(on),
         }
     }
 }

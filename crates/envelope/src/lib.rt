@@ -24,6 +24,8 @@ pub struct AutomationEnvelope {
     pub min_value: Limit,
     pub max_value: Limit,
     pub step_size: Limit,
+    // 02's F-1: whether the bounds hold after the step
+    pub hard: bool,
 }
 
 // What an edit gives: the changed envelope, or the old one with its refusal.
@@ -63,6 +65,7 @@ impl AutomationEnvelope {
             min_value: Limit::None,
             max_value: Limit::None,
             step_size: Limit::None,
+            hard: false,
         }
     }
 
@@ -76,6 +79,7 @@ impl AutomationEnvelope {
             min_value,
             max_value,
             step_size,
+            hard: self.hard,
         }
     }
 
@@ -100,6 +104,7 @@ impl AutomationEnvelope {
             & same_limit(min, other_min)
             & same_limit(max, other_max)
             & same_limit(step, other_step)
+            & (self.hard == other.hard)
     }
 
     fn equal(self, other: AutomationEnvelope, exact: bool) -> Compared

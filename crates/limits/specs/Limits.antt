@@ -1,6 +1,6 @@
--- 01, "Lookup": the constraints.
+-- 01, "Lookup": the constraints, and 02's F-1.
 use mathlib.Core.Bool.{Bool, true, cond, _&&_}
-use lib.Ieee.{Float, binary32, lt, ofBits}
+use lib.Ieee.{Float, binary32, lt, le, ofBits}
 use Rattle.numbers.specs.Whole.{nearestMultiple}
 use Rattle.numbers.specs.Bounds.{finite, maxNum, minNum}
 use Rattle.limits.specs.declared.Limit.{Limit}
@@ -31,6 +31,14 @@ abbrev pub toStep : Limit → Float → Float
 toStep limit.None v = v
 toStep (limit.Number s) v = cond (lt (ofBits binary32 0) s) (nearestMultiple binary32 s v) v
 
--- "Then constraints: .." "The step comes last and may pass a bound."
+-- both bounds, each where it is set
+abbrev pub bounded : Limits → Float → Float
+bounded l v = atMost (l .«max_value») (atLeast (l .«min_value») v)
+
+-- "Then constraints: .." "The step comes last and may pass a bound." F-1: "With hard on, the minimum and maximum are applied again after the step."
 unfoldable pub constrained : Limits → Float → Float
-constrained l v = toStep (l .«step_size») (atMost (l .«max_value») (atLeast (l .«min_value») v))
+constrained l v = let stepped = toStep (l .«step_size») (bounded l v) in cond (l .hard) (bounded l stepped) stepped
+
+-- a value "lies between them"
+abbrev pub liesBetween : Float → Float → Float → Bool
+liesBetween low high v = le low v && le v high

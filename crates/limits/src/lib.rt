@@ -1,6 +1,7 @@
-// The limits of an envelope's values: a minimum, a maximum and a step, each a number or none. Source: envelope.rs (000).
+// The limits of an envelope's values: a minimum, a maximum and a step, each a number or none, and whether the bounds hold after the
+// step. Source: envelope.rs (000) and 02's F-1.
 ghost use mathlib.Core.Path.{_≡_};
-ghost use Rattle.limits.specs.Limits.{finiteLimit, finiteLimits, atLeast, atMost, toStep, constrained};
+ghost use Rattle.limits.specs.Limits.{finiteLimit, finiteLimits, atLeast, atMost, toStep, bounded, constrained};
 
 // 000's Option<f32>: a minimum, a maximum or a step.
 pub enum Limit {
@@ -12,6 +13,7 @@ pub struct Limits {
     pub min_value: Limit,
     pub max_value: Limit,
     pub step_size: Limit,
+    pub hard: bool,
 }
 
 impl Limit {
@@ -68,13 +70,25 @@ impl Limits {
         min.is_finite() & max.is_finite() & step.is_finite()
     }
 
-    // 000's apply_constraints: the minimum, the maximum, then the step.
-    pub fn apply_constraints(self, v: f32) -> f32
-        ensures { λ r. ⌜ r ≡ constrained self v ⌝ }
+    // The minimum, then the maximum.
+    fn bound(self, v: f32) -> f32
+        ensures { λ r. ⌜ r ≡ bounded self v ⌝ }
     {
         let min = self.min_value;
         let max = self.max_value;
+        max.at_most(min.at_least(v))
+    }
+
+    // 000's apply_constraints: the bounds, then the step; with hard on, the bounds again.
+    pub fn apply_constraints(self, v: f32) -> f32
+        ensures { λ r. ⌜ r ≡ constrained self v ⌝ }
+    {
         let step = self.step_size;
-        step.to_step(max.at_most(min.at_least(v)))
+        let stepped = step.to_step(self.bound(v));
+        if self.hard {
+            self.bound(stepped)
+        } else {
+            stepped
+        }
     }
 }

@@ -63,7 +63,7 @@ rise c = pointWith t0 f0 c ∷ pointWith t4 f1 c ∷ []
 
 -- a maximum and a step, and no minimum
 abbrev pub limits : Limit → Limit → Limits
-limits max step = record { «min_value» = limit.None; «max_value» = max; «step_size» = step }
+limits max step = record { «min_value» = limit.None; «max_value» = max; «step_size» = step; hard = false }
 
 abbrev pub free : Limits
 free = limits limit.None limit.None

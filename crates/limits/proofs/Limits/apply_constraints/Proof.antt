@@ -1,12 +1,31 @@
--- `limits::Limits::apply_constraints` meets its contract: by definition of `constrained`: minimum, maximum, step, each as its call ensures it.
-use Rattle.limits.specs.Limits.{constrained}
+-- `limits::Limits::apply_constraints` meets its contract: by definition of `constrained`: bounds, step, and the bounds again where hard is on.
+use mathlib.Core.Path.{ap, _∙_}
+use borrow.Author.Needs.{needs}
+use Rattle.limits.specs.Limits.{toStep, bounded, constrained}
 use Rattle.limits.proofs.Limits.apply_constraints.Statement.{statement}
 use Rattle.limits.proofs.Limits.apply_constraints.Tie as tie
 
+bound-requires : tie.Need-bound-requires
+bound-requires c κs = search needs
+
+to-step-requires : tie.Need-to-step-requires
+to-step-requires c κs = search needs
+
+bound-requires-2 : tie.Need-bound-requires-2
+bound-requires-2 c κs = search needs
+
 returns : tie.Need-returns
 unfolding constrained
-returns c = cc
+returns c =
+    let l = c .before .before .before .before .args .self in
+    rw (c .before .if1 .taken)
+    (c .bound2 .ensures ∙ ap (bounded l) (c .before .before .to-step .ensures ∙ ap (toStep (l .«step_size»)) (c .before .before .before .bound .ensures)))
 
--- the three calls ask for nothing, in whatever order they come
+returns-2 : tie.Need-returns-2
+unfolding constrained
+returns-2 c =
+    let l = c .before .before .before .args .self in
+    rw (c .if1 .left) (c .before .to-step .ensures ∙ ap (toStep (l .«step_size»)) (c .before .before .bound .ensures))
+
 pub apply-constraints-spec : {M : Type 1} → statement M
-apply-constraints-spec = tie.close (tie.spec (λ c κs. tt) (λ c κs. tt) (λ c κs. tt) returns)
+apply-constraints-spec = tie.close (tie.spec bound-requires to-step-requires bound-requires-2 returns returns-2)
