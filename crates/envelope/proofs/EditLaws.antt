@@ -16,7 +16,7 @@ use Rattle.envelope.specs.Edit.{EditTold, declined, outcome, proposal, s
 use Rattle.envelope.proofs.ValidParts.{valid-parts, limits-finite}
 use Rattle.envelope.specs.declared.AutomationEnvelope.{AutomationEnvelope}
 use Rattle.envelope.specs.declared.edit.Edit.{Edit}
-use Rattle.envelope.specs.declared.edit.Edit.the-variants.{OfPoints, Replace, SetEnabled, SetMin, SetMax, SetStep}
+use Rattle.envelope.specs.declared.edit.Edit.the-variants.{OfPoints, Replace, SetEnabled, SetMin, SetMax, SetStep, SetHard}
 
 -- ---- what comes of an edit
 
@@ -59,6 +59,7 @@ successor-valid (SetEnabled on) e q = q .given
 successor-valid (SetMin l) e q = let h = valid-parts e (q .given) in and-both (and-both (and-both (q .arguments) (h .1)) (h .2)) (h .3)
 successor-valid (SetMax l) e q = let h = valid-parts e (q .given) in and-both (and-both (and-both (h .0) (q .arguments)) (h .2)) (h .3)
 successor-valid (SetStep l) e q = let h = valid-parts e (q .given) in and-both (and-both (and-both (h .0) (h .1)) (q .arguments)) (h .3)
+successor-valid (SetHard on) e q = q .given
 
 successor-target : (d : Edit) (e : AutomationEnvelope) → successor d e (proposal d (listOf (e .points)) .list) .target ≡ e .target
 unfolding successor
@@ -68,6 +69,7 @@ successor-target (SetEnabled on) e = refl
 successor-target (SetMin l) e = refl
 successor-target (SetMax l) e = refl
 successor-target (SetStep l) e = refl
+successor-target (SetHard on) e = refl
 
 pub edit-fair : EditsFair
 unfolding editOf

@@ -33,7 +33,7 @@ use Rattle.envelope.specs.declared.edit.PointsEdit.the-variants.{Offset,
 use Rattle.envelope.specs.declared.edit.Replacement.{Replacement}
 use Rattle.envelope.specs.declared.edit.Replacement.the-variants.{FadeIn, FadeOut, Pulse, Ramp}
 use Rattle.envelope.specs.declared.edit.Edit.{Edit}
-use Rattle.envelope.specs.declared.edit.Edit.the-variants.{OfPoints, Replace, SetEnabled, SetMin, SetMax, SetStep}
+use Rattle.envelope.specs.declared.edit.Edit.the-variants.{OfPoints, Replace, SetEnabled, SetMin, SetMax, SetStep, SetHard}
 
 -- ---- the lists that the edits make
 
@@ -126,6 +126,7 @@ successor-typed (SetEnabled on) e t u q = let p = parted e t in withSettings-typ
 successor-typed (SetMin l) e t u q = let p = parted e t in withSettings-typed e (e .enabled) _ t u (p .greatest) (p .step)
 successor-typed (SetMax l) e t u q = let p = parted e t in withSettings-typed e (e .enabled) _ t (p .least) u (p .step)
 successor-typed (SetStep l) e t u q = let p = parted e t in withSettings-typed e (e .enabled) _ t (p .least) (p .greatest) u
+successor-typed (SetHard on) e t u q = let p = parted e t in withSettings-typed e (e .enabled) _ t (p .least) (p .greatest) (p .step)
 
 pub edit-typed : (d : Edit) (e : AutomationEnvelope) → typed e ≡ true → typedEdit d ≡ true → typed (editOf d e .envelope) ≡ true
 unfolding editOf

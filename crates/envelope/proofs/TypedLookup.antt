@@ -16,7 +16,7 @@ use Rattle.points.specs.Points.{every, timeKey, listOf}
 use Rattle.points.specs.Search.{placeBy}
 use Rattle.points.specs.declared.AutomationPoint.{AutomationPoint}
 use Rattle.points.specs.declared.Points.{Points}
-use Rattle.limits.specs.Limits.{atLeast, atMost, toStep, constrained}
+use Rattle.limits.specs.Limits.{toStep, atLeast, atMost, bounded, constrained}
 use Rattle.lookup.specs.Lookup.{pointAt, lastPoint, surrounded, between, rawAt, foundAt, heard, valueAt}
 use Rattle.limits.specs.declared.Limit.{Limit}
 use Rattle.limits.specs.declared.Limit.the-variants as limit
@@ -90,9 +90,14 @@ rawAt-fits (p ∷ (q ∷ l)) time h =
 -- ---- what is heard
 
 module _ (limits : Limits) (least : typedLimit (limits .«min_value») ≡ true) (greatest : typedLimit (limits .«max_value») ≡ true) where
+  bounded-fits : (v : Float) → T (fits binary32 v) → T (fits binary32 (bounded limits v))
+  bounded-fits v h = atMost-fits (limits .«max_value») _ greatest (atLeast-fits (limits .«min_value») v least h)
+
   constrained-fits : (v : Float) → T (fits binary32 v) → T (fits binary32 (constrained limits v))
   unfolding constrained
-  constrained-fits v h = toStep-fits (limits .«step_size») _ (atMost-fits (limits .«max_value») _ greatest (atLeast-fits (limits .«min_value») v least h))
+  constrained-fits v h =
+      let stepped = toStep-fits (limits .«step_size») (bounded limits v) (bounded-fits v h) in
+      cond-fits binary32 (limits .hard) _ _ (bounded-fits _ stepped) stepped
 
   heard-fits : (enabled : Bool) (raw : Option Float) → FitsIf raw → FitsIf (heard enabled limits raw)
   heard-fits false raw h = tt

@@ -1,4 +1,4 @@
--- 01's "Proved examples": "These are one table in the specs, established together". P1 to P14, on envelopes; those of lookups and ranges are what the crates below establish.
+-- 01's "Proved examples": "These are one table in the specs, established together". P1 to P14 and F-1's sibling of P7, on envelopes; those of lookups and ranges are what the crates below establish.
 use mathlib.Core.Path.{_≡_, refl}
 use mathlib.Core.List.{List, [], _∷_}
 use mathlib.Core.Option.{none, some}
@@ -19,12 +19,13 @@ use Rattle.points.specs.Refusal.{refuses, gives}
 use Rattle.points.specs.Search.{placeBy}
 use Rattle.points.specs.declared.AutomationPoint.{AutomationPoint}
 use Rattle.lookup.specs.Examples as lookups
-use Rattle.lookup.specs.Examples.{minusZero, at, rise, limits, t0, t1, t2, t10, t20}
+use Rattle.lookup.specs.Examples.{minusZero, at, rise, limits, hardened, t0, t1, t2, t10, t20}
 use Rattle.limits.specs.Limits.{constrained}
 use Rattle.lookup.specs.Lookup.{surrounded, fraction, foundAt, foundAtSample, getValueAt, getValueAtSample}
 use Rattle.lookup.specs.Runs.{run}
 use Rattle.limits.specs.declared.Limit.{Limit}
 use Rattle.limits.specs.declared.Limit.the-variants as limit
+use Rattle.limits.specs.declared.Limits.{Limits}
 use Rattle.analysis.specs.Examples as ranges
 use Rattle.analysis.specs.Analysis.{givenValues, rangeOf, rawInside, getRange}
 use Rattle.envelope.specs.Envelope.{new}
@@ -46,15 +47,19 @@ withList l = withPoints (new 0) (holding l)
 abbrev riseOf : CurveType → AutomationEnvelope
 riseOf c = withList (rise c)
 
--- one point at time 0, with a maximum and a step
-abbrev limited : Limit → Limit → Float → AutomationEnvelope
-limited max step v =
+-- one point at time 0, with limits
+abbrev pointWithin : Limits → Float → AutomationEnvelope
+pointWithin l v =
     let e = withList (at t0 v ∷ []) in
-    withSettings e (e .enabled) (limits max step)
+    withSettings e (e .enabled) l
+
+-- with a maximum and a step
+abbrev limited : Limit → Limit → Float → AutomationEnvelope
+limited max step v = pointWithin (limits max step) v
 
 -- ---- the table
 
--- P1 to P14
+-- P1 to P14, and F-1's
 pub record Table : Type 0 where
   -- "P1 empty: silent."
   pub p1 : valueAtOf (new 0) t1 ≡ gives none
@@ -70,6 +75,8 @@ pub record Table : Type 0 where
   pub p6 : valueAtOf (riseOf (Bezier f1 f1)) t2 ≡ gives (some (f32 0x3F60_0000))
   -- "P7 maximum 1, step 0.625, value 1: 1.25."
   pub p7 : valueAtOf (limited (limit.Number f1) (limit.Number (f32 0x3F20_0000)) f1) t0 ≡ gives (some (f32 0x3FA0_0000))
+  -- F-1: "P7's sibling with hard (1.0)"
+  pub p7-hard : valueAtOf (pointWithin (hardened (limits (limit.Number f1) (limit.Number (f32 0x3F20_0000)))) f1) t0 ≡ gives (some f1)
   -- "P8 step 1, value −2.5: −3."
   pub p8 : valueAtOf (limited limit.None (limit.Number f1) (f32 0xC020_0000)) t0 ≡ gives (some (f32 0xC040_0000))
   -- "P9 alone, −0.0 stays; as the middle of three, at its time, 0.0."
@@ -98,6 +105,7 @@ table =
       p5 = refl;
       p6 = refl;
       p7 = lookups.p7;
+      p7-hard = lookups.p7-hard;
       p8 = lookups.p8;
       p9-alone = lookups.p9-alone;
       p9-middle = lookups.p9-middle;

@@ -3,9 +3,9 @@ use Prim.Native.Nat.{ℕ, zero, suc, _+_, _-_, _≤_, _<_, suc-le-suc, zero-le}
 use mathlib.Core.Path.{_≡_, refl, sym, ap, ap₂, _∙_}
 use mathlib.Core.List.{List, [], _∷_, _++_, append-assoc, append-nil}
 use native.Mathlib.Numerals.{add-one}
-use native.Mathlib.Nat.{add-suc, suc-add, add-zero, zero-add}
+use native.Mathlib.Nat.{add-suc, suc-add, add-zero, zero-add, le-of-suc-le-suc, not-suc-le-zero}
 use native.Mathlib.Omega.{arith}
-use lib.ListN.{length, take, drop, set, replicate, length-append, length-drop, drop-of-length-le}
+use lib.ListN.{length, getD, take, drop, set, replicate, length-append, length-drop, drop-of-length-le}
 use lib.Seq.{drop-length, take-all, length-take-le, drop-cons, drop-drop, drop-at, take-at, set-at, append-snoc}
 use Rattle.lookup.specs.Runs.{run}
 
@@ -22,6 +22,13 @@ module _ {A : Type 0} (f : ℕ → A) where
   run-cut a (suc n) m =
       ap (run f a) (suc-add n m)
       ∙ ap (λ (l : List A). f a ∷ l) (run-cut (suc a) n m ∙ ap (λ (k : ℕ). run f (suc a) n ++ run f k m) (suc-add a n ∙ sym (add-suc a n)))
+
+  -- each value at its place
+  pub run-at : (a n i : ℕ) (rest : List A) (d : A) → i < n → getD (run f a n ++ rest) i d ≡ f (a + i)
+  unfolding run
+  run-at a zero i rest d h = absurd (not-suc-le-zero h)
+  run-at a (suc n) zero rest d h = ap f (sym (add-zero a))
+  run-at a (suc n) (suc i) rest d h = run-at (suc a) n i rest d (le-of-suc-le-suc h) ∙ ap f (suc-add a i ∙ sym (add-suc a i))
 
   pub run-one : (a : ℕ) → run f a 1 ≡ f a ∷ []
   unfolding run

@@ -1,7 +1,7 @@
 -- 01's "Proved examples", the part that is the lookups': P1, P2 and P7 to P10. Every point is Linear and has no position; every envelope is enabled.
 use Prim.Native.Nat.{ℕ}
 use mathlib.Core.Path.{_≡_, refl}
-use mathlib.Core.Bool.{true}
+use mathlib.Core.Bool.{true, false}
 use mathlib.Core.List.{List, [], _∷_}
 use mathlib.Core.Option.{Option, none, some}
 use lib.Ieee.{Float, binary64, ofBits, toBits, toUnsigned, round, add, sub, mul, div, lt, le, isNan}
@@ -65,6 +65,10 @@ rise c = pointWith t0 f0 c ∷ pointWith t4 f1 c ∷ []
 abbrev pub limits : Limit → Limit → Limits
 limits max step = record { «min_value» = limit.None; «max_value» = max; «step_size» = step; hard = false }
 
+-- the same limits with hard on
+abbrev pub hardened : Limits → Limits
+hardened l = record { «min_value» = l .«min_value»; «max_value» = l .«max_value»; «step_size» = l .«step_size»; hard = true }
+
 abbrev pub free : Limits
 free = limits limit.None limit.None
 
@@ -90,6 +94,11 @@ p2 = refl
 pub p7 : byTime (at t0 f1 ∷ []) (limits (limit.Number f1) (limit.Number (f32 0x3F20_0000))) t0 ≡ gives (some (f32 0x3FA0_0000))
 unfolding getValueAt validPoints every risingBy foundAt constrained finite finiteControls controls code ofBits minNum roundAway round isNan mul div lt
 p7 = refl
+
+-- F-1: "P7's sibling with hard (1.0)"
+pub p7-hard : byTime (at t0 f1 ∷ []) (hardened (limits (limit.Number f1) (limit.Number (f32 0x3F20_0000)))) t0 ≡ gives (some f1)
+unfolding getValueAt validPoints every risingBy foundAt constrained finite finiteControls controls code ofBits minNum roundAway round isNan mul div lt
+p7-hard = refl
 
 -- "P8 step 1, value −2.5: −3."
 pub p8 : byTime (at t0 (f32 0xC020_0000) ∷ []) (limits limit.None (limit.Number f1)) t0 ≡ gives (some (f32 0xC040_0000))

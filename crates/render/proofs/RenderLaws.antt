@@ -7,18 +7,19 @@ use mathlib.Core.Option.{none}
 use native.Mathlib.Nat.{add-zero}
 use native.Mathlib.Omega.{arith}
 use lib.Dec.{leb}
-use lib.ListN.{length, take, drop, take-append-drop, length-append, length-drop}
-use lib.Seq.{length-take-le, take-at, drop-append-add, drop-drop}
+use lib.ListN.{length, getD, take, drop, take-append-drop, length-append, length-drop}
+use lib.Seq.{length-take-le, take-at, drop-append-add, drop-drop, getD-append-add}
 use lib.Ieee.{Float}
 use borrow.Author.Tests.{le-leb, lt-leb, lt-ltb, le-ltb, leb-true, leb-false}
 use Rattle.numbers.specs.Bounds.{finite}
+use Rattle.points.proofs.CheckLaws.{never}
 use Rattle.points.specs.Refusal.{Said, refuses, gives}
 use Rattle.points.specs.declared.Points.{Points}
 use Rattle.lookup.specs.Valid.{valid}
 use Rattle.lookup.specs.Lookup.{valueAt, getValueAt}
 use Rattle.render.specs.Render.{valueOfSample, sampleAt, written, Rendered, declined, mostSamples, runInto, render, sampleCount, toBuffer, iterSamples, nextSample}
 use Rattle.lookup.specs.Runs.{run}
-use Rattle.lookup.proofs.RunLaws.{run-long, run-cut, part-count}
+use Rattle.lookup.proofs.RunLaws.{run-long, run-cut, run-at, part-count}
 use Rattle.limits.specs.declared.Limits.{Limits}
 use Rattle.render.specs.declared.SampleIterator.{SampleIterator}
 
@@ -43,6 +44,28 @@ module _ (f : ℕ → Float) (first count place : ℕ) (buffer : List Float) whe
 
   pub written-is : written place (run f first count) buffer ≡ take place buffer ++ (run f first count ++ drop (place + count) buffer)
   written-is = ap (λ (n : ℕ). take place buffer ++ (run f first count ++ drop (place + n) buffer)) (run-long f first count)
+
+  -- each sample at its place
+  written-at : count ≤ length buffer - place → (i : ℕ) (d : Float) → i < count → getD (written place (run f first count) buffer) (place + i) d ≡ f (first + i)
+  written-at room i d h =
+      let long = length-take-le place buffer (omega arith) in
+      ap (λ (j : ℕ). getD (written place (run f first count) buffer) (j + i) d) (sym long)
+      ∙ getD-append-add (take place buffer) (run f first count ++ drop (place + length (run f first count)) buffer) i d
+      ∙ run-at f first count i _ d h
+
+  -- and so in what a run that isn't refused leaves
+  pub ran : runInto f first count place buffer .said ≡ gives tt → (i : ℕ) (d : Float) → i < count → getD (runInto f first count place buffer .buffer) (place + i) d ≡ f (first + i)
+  unfolding runInto
+  ran = go (leb (first + count) mostSamples) (leb count (length buffer - place)) refl
+    where
+      go : (b c : Bool) → leb count (length buffer - place) ≡ c
+          → cond b (cond c (record { said = gives tt; buffer = written place (run f first count) buffer }) (declined 8 buffer)) (declined 13 buffer) .said ≡ gives tt
+          → (i : ℕ) (d : Float) → i < count
+          → getD (cond b (cond c (record { said = gives tt; buffer = written place (run f first count) buffer }) (declined 8 buffer)) (declined 13 buffer) .buffer) (place + i) d
+          ≡ f (first + i)
+      go true true k h i d s = written-at (leb-true count (length buffer - place) k) i d s
+      go true false k h i d s = never h
+      go false c k h i d s = never h
 
   -- no samples: nothing changes
   pub none-written : count ≡ 0 → written place (run f first count) buffer ≡ buffer

@@ -1,4 +1,4 @@
--- `envelope::AutomationEnvelope::edit` meets its contract: each of the six variants goes to its method, whose contract is `editOf` of that variant.
+-- `envelope::AutomationEnvelope::edit` meets its contract: each of the seven variants goes to its method, whose contract is `editOf` of that variant.
 use Rattle.envelope.specs.Edit.{editOf}
 use borrow.Author.Needs.{needs}
 use Rattle.envelope.proofs.AutomationEnvelope.edit.Statement.{statement}
@@ -40,6 +40,12 @@ enum-known-e-6 c = search needs
 set-step-requires : tie.Need-set-step-requires
 set-step-requires c κs = search needs
 
+enum-known-e-7 : tie.Need-enum-known-e-7
+enum-known-e-7 c = search needs
+
+set-hard-requires : tie.Need-set-hard-requires
+set-hard-requires c κs = search needs
+
 returns : tie.Need-returns
 unfolding editOf
 returns c = rw (c .before .before .e .given .1) (c .edit-points .ensures)
@@ -64,6 +70,10 @@ returns-6 : tie.Need-returns-6
 unfolding editOf
 returns-6 c = rw (c .before .before .e6 .given .1) (c .set-step .ensures)
 
+returns-7 : tie.Need-returns-7
+unfolding editOf
+returns-7 c = rw (c .before .before .e7 .given .1) (c .set-hard .ensures)
+
 pub edit-spec : {M : Type 1} → statement M
 edit-spec =
     tie.close
@@ -80,9 +90,12 @@ edit-spec =
     set-max-requires
     enum-known-e-6
     set-step-requires
+    enum-known-e-7
+    set-hard-requires
     returns
     returns-2
     returns-3
     returns-4
     returns-5
-    returns-6)
+    returns-6
+    returns-7)

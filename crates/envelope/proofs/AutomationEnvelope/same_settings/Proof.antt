@@ -1,5 +1,5 @@
 -- `envelope::AutomationEnvelope::same_settings` meets its contract: `same_limit` answers `sameLimit` for each pair of limits,
--- and with the tests of target and switch the conjunction is `sameSettings` by definition.
+-- and with the tests of target, switch and hard the conjunction is `sameSettings` by definition.
 use borrow.Author.Needs.{needs}
 use Rattle.envelope.proofs.AutomationEnvelope.same_settings.Statement.{statement}
 use Rattle.envelope.proofs.AutomationEnvelope.same_settings.Tie as tie
