@@ -114,7 +114,7 @@ hard-between e low high held =
       bySample = by-sample e low high held;
       walked = walked e low high held;
       rendered = λ rate first count place buffer h i s v found. ap (liesBetween low high) (placed e low high held rate first count place buffer h i s)
-      ∙ sample-between e low high held rate (first + i) v found;
+          ∙ sample-between e low high held rate (first + i) v found;
       buffered = λ rate duration place buffer h i s v found. ap (liesBetween low high) (placed-buffer e low high held rate duration place buffer h i s ∙ ap (samplesOf e rate) (zero-add i))
-      ∙ sample-between e low high held rate i v found;
+          ∙ sample-between e low high held rate i v found;
     }
