@@ -6,7 +6,7 @@ use mathlib.Core.List.{List, [], _∷_, _++_}
 use mathlib.Core.Option.{some, Option·some-injective, Option·none-ne-some}
 use native.Mathlib.Nat.{mod-eq-of-lt}
 use native.Mathlib.Omega.{arith}
-use borrow.Author.Tests.{lt-ltb, eqb-true, eq-eqb}
+use borrow.Author.Tests.{lt-ltb, eqb-true, eq-eqb, ne-eqb}
 use lib.Arith.{digits-lt, digits-div, digits-mod}
 use lib.Dec.{ltb, eqb}
 use lib.ListN.{length, getD, drop, length-append}
@@ -23,6 +23,7 @@ use Rattle.points.specs.declared.SamplePosition.{SamplePosition}
 use Rattle.points.specs.declared.SamplePosition.the-variants as position
 use Rattle.limits.specs.declared.Limit.{Limit}
 use Rattle.limits.specs.declared.Limit.the-variants as limit
+use Rattle.limits.specs.declared.Limits.{Limits}
 use Rattle.envelope.specs.Envelope.{limitsOf, validEnvelope}
 use Rattle.envelope.specs.Typed.{typedCurve, typedPosition, typedPoint, typedLimit, typed}
 use Rattle.envelope.proofs.TypedParts.{point-parts, cp1-fits, cp2-fits, parted, target-lt, places-length, places-typed}
@@ -106,27 +107,28 @@ after-settings : (e : AutomationEnvelope) (l : List ℕ) → drop 4 (packSetting
 unfolding packSettings
 after-settings e l = refl
 
--- four flags in one number
-module _ (a b c d : Bool) where
-  four : ℕ
-  four = flag a + 2 * flag b + 4 * flag c + 8 * flag d
+-- five flags in one number
+module _ (a b c d e : Bool) where
+  five : ℕ
+  five = flag a + 2 * flag b + 4 * flag c + 8 * flag d + 16 * flag e
 
-  bits-of-four : (four / 1 % 2 ≡ flag a) × (four / 2 % 2 ≡ flag b) × (four / 4 % 2 ≡ flag c) × (four / 8 % 2 ≡ flag d)
-  unfolding four
-  bits-of-four =
+  bits-of-five : (five / 1 % 2 ≡ flag a) × (five / 2 % 2 ≡ flag b) × (five / 4 % 2 ≡ flag c) × (five / 8 % 2 ≡ flag d) × (five / 16 % 2 ≡ flag e)
+  unfolding five
+  bits-of-five =
       let ha = flag-lt a in
       let hb = flag-lt b in
       let hc = flag-lt c in
       let hd = flag-lt d in
-      (omega arith, omega arith, omega arith, omega arith)
+      let he = flag-lt e in
+      (omega arith, omega arith, omega arith, omega arith, omega arith)
 
 pub stateOf-pack : ReadsBack
-unfolding stateOf pack packSettings four
+unfolding stateOf pack packSettings five
 stateOf-pack e t =
     let s = parted e t in
     let min-lt : limitBits (e .«min_value») < 0x1_0000_0000 = limit-lt (e .«min_value») (s .least) in
     let flags-are : high (halves (flags (e .enabled) (limitsOf e)) (e .target)) ≡ flags (e .enabled) (limitsOf e) = high-halves (flags (e .enabled) (limitsOf e)) (target-lt e t) in
-    let bits = bits-of-four (e .enabled) (hasLimit (e .«min_value»)) (hasLimit (e .«max_value»)) (hasLimit (e .«step_size»)) in
+    let bits = bits-of-five (e .enabled) (hasLimit (e .«min_value»)) (hasLimit (e .«max_value»)) (hasLimit (e .«step_size»)) (e .hard) in
     λ i. record {
       target = low-halves (flags (e .enabled) (limitsOf e)) (target-lt e t) i;
       points = record {
@@ -140,11 +142,22 @@ stateOf-pack e t =
       «min_value» = limit-back (e .«min_value») (s .least) (flag-back _ (ap (λ (n : ℕ). n / 2 % 2) flags-are ∙ bits .1)) (low-halves (limitBits (e .«max_value»)) min-lt) i;
       «max_value» = limit-back (e .«max_value») (s .greatest) (flag-back _ (ap (λ (n : ℕ). n / 4 % 2) flags-are ∙ bits .2)) (high-halves (limitBits (e .«max_value»)) min-lt) i;
       «step_size» = limit-back (e .«step_size») (s .step) (flag-back _ (ap (λ (n : ℕ). n / 8 % 2) flags-are ∙ bits .3)) (mod-eq-of-lt (limit-lt (e .«step_size») (s .step))) i;
+      hard = flag-back (e .hard) (ap (λ (n : ℕ). n / 16 % 2) flags-are ∙ bits .4) i;
     }
 
 -- "packed one-to-one": the same words, the same envelope
 pub pack-one : OneToOne
 pack-one e f t u h = sym (stateOf-pack e t) ∙ ap stateOf h ∙ stateOf-pack f u
+
+-- with hard off the flags are those that stood before F-1
+pub soft-flags : (enabled : Bool) (l : Limits) → l .hard ≡ false
+    → flags enabled l ≡ flag enabled + 2 * flag (hasLimit (l .«min_value»)) + 4 * flag (hasLimit (l .«max_value»)) + 8 * flag (hasLimit (l .«step_size»))
+soft-flags enabled l h = let none : flag (l .hard) ≡ 0 = ap flag h in omega arith
+
+-- and words with none of the flags from 16 on read as hard off
+pub soft-read : (w : List ℕ) → high (getD w 0 0) < 16 → stateOf w .hard ≡ false
+unfolding stateOf
+soft-read w h = ne-eqb (high (getD w 0 0) / 16 % 2) 1 (λ e. omega arith)
 
 -- ---- "1,028 words"
 
@@ -203,7 +216,7 @@ unfolding packSettings every
 settings-words e t n =
     let s = parted e t in
     let flags-lt : flags (e .enabled) (limitsOf e) < 0x1_0000_0000 = omega
-    (arith, flag-lt (e .enabled), flag-lt (hasLimit (e .«min_value»)), flag-lt (hasLimit (e .«max_value»)), flag-lt (hasLimit (e .«step_size»))) in
+    (arith, flag-lt (e .enabled), flag-lt (hasLimit (e .«min_value»)), flag-lt (hasLimit (e .«max_value»)), flag-lt (hasLimit (e .«step_size»)), flag-lt (e .hard)) in
     let step-lt : limitBits (e .«step_size») < 0x1_0000_0000 = limit-lt (e .«step_size») (s .step) in
     and-both (halves-word _ _ flags-lt (target-lt e t))
     (and-both n

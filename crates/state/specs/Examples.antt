@@ -1,6 +1,6 @@
 -- The example of docs/STATE.md.
 use mathlib.Core.Path.{_≡_, refl}
-use mathlib.Core.Bool.{true}
+use mathlib.Core.Bool.{true, false}
 use mathlib.Core.List.{[], _∷_}
 use lib.ListN.{drop, replicate}
 use lib.Ieee.{binary32, binary64, ofBits, toBits}
@@ -27,6 +27,7 @@ envelope =
       «min_value» = limit.Number (ofBits binary32 0xBF80_0000);
       «max_value» = limit.None;
       «step_size» = limit.Number (ofBits binary32 0x3F00_0000);
+      hard = false;
     }
 
 -- the four words of settings

@@ -80,9 +80,10 @@ positionOf has n = cond has (position.At n) position.None
 
 -- ---- "4 of settings": the flags and the target; the count; the maximum and the minimum; the step
 
--- the flags: enabled, and whether there is a minimum, a maximum, a step
+-- the flags: enabled, and whether there is a minimum, a maximum, a step; F-1's hard
 abbrev pub flags : Bool → Limits → ℕ
-flags enabled l = flag enabled + 2 * flag (hasLimit (l .«min_value»)) + 4 * flag (hasLimit (l .«max_value»)) + 8 * flag (hasLimit (l .«step_size»))
+flags enabled l =
+    flag enabled + 2 * flag (hasLimit (l .«min_value»)) + 4 * flag (hasLimit (l .«max_value»)) + 8 * flag (hasLimit (l .«step_size»)) + 16 * flag (l .hard)
 
 -- the maximum above the minimum
 abbrev pub boundsWord : Limits → ℕ
@@ -140,6 +141,7 @@ stateOf w = record {
   «min_value» = limitOf (bit 2 (high (getD w 0 0))) (low (getD w 2 0));
   «max_value» = limitOf (bit 4 (high (getD w 0 0))) (high (getD w 2 0));
   «step_size» = limitOf (bit 8 (high (getD w 0 0))) (low (getD w 3 0));
+  hard = bit 16 (high (getD w 0 0));
 }
 
 -- x where the test holds

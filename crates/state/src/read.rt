@@ -142,6 +142,7 @@ fn with_places(words: &[u64], places: [AutomationPoint; 256]) -> AutomationEnvel
         min_value: limit_of(bit(2, flags), low(bounds)),
         max_value: limit_of(bit(4, flags), high(bounds)),
         step_size: limit_of(bit(8, flags), low(words[3])),
+        hard: bit(16, flags),
     }
 }
 

@@ -77,7 +77,11 @@ pub(crate) fn flags_word(target: u32, enabled: bool, limits: Limits) -> u64
     let max = limits.max_value;
     let step = limits.step_size;
     halves(
-        flag(enabled) + 2 * limit_flag(min) + 4 * limit_flag(max) + 8 * limit_flag(step),
+        flag(enabled)
+            + 2 * limit_flag(min)
+            + 4 * limit_flag(max)
+            + 8 * limit_flag(step)
+            + 16 * flag(limits.hard),
         target,
     )
 }

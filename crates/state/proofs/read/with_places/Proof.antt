@@ -54,21 +54,24 @@ low-requires-3 c κs = search needs
 limit-of-requires-3 : tie.Need-limit-of-requires-3
 limit-of-requires-3 c κs = search needs
 
+bit-requires-5 : tie.Need-bit-requires-5
+bit-requires-5 c κs = search needs
+
 returns : tie.Need-returns
 unfolding stateOf
 returns c =
-    let entry = c .before .before .before .before .before .before .before .before .before .before .before .before .before .before .before .before .before in
+    let entry = c .before .before .before .before .before .before .before .before .before .before .before .before .before .before .before .before .before .before in
     let args = entry .args in
-    let high = c .before .before .before .before .before .before .before .before .before .before .before .before .before .before .high in
-    let low = c .before .before .before .before .before .before .before .before .before .before .before .low in
-    let bit′ = c .before .before .before .before .before .before .before .before .before .before .bit in
-    let bit2 = c .before .before .before .before .before .before .before .before .before .bit2 in
-    let low2 = c .before .before .before .before .before .before .before .before .low2 in
-    let limit-of = c .before .before .before .before .before .before .before .limit-of in
-    let bit3 = c .before .before .before .before .before .before .bit3 in
-    let high2 = c .before .before .before .before .before .high2 in
-    let limit-of2 = c .before .before .before .before .limit-of2 in
-    let bit4 = c .before .before .before .bit4 in
+    let high = c .before .before .before .before .before .before .before .before .before .before .before .before .before .before .before .high in
+    let low = c .before .before .before .before .before .before .before .before .before .before .before .before .low in
+    let bit′ = c .before .before .before .before .before .before .before .before .before .before .before .bit in
+    let bit2 = c .before .before .before .before .before .before .before .before .before .before .bit2 in
+    let low2 = c .before .before .before .before .before .before .before .before .before .low2 in
+    let limit-of = c .before .before .before .before .before .before .before .before .limit-of in
+    let bit3 = c .before .before .before .before .before .before .before .bit3 in
+    let high2 = c .before .before .before .before .before .before .high2 in
+    let limit-of2 = c .before .before .before .before .before .limit-of2 in
+    let bit4 = c .before .before .before .before .bit4 in
     let flags = high .ensures in
     λ i. record {
       target = low .ensures i;
@@ -76,7 +79,8 @@ returns c =
       enabled = (bit′ .ensures ∙ ap (bit 1) flags) i;
       «min_value» = (limit-of .ensures ∙ (λ j. limitOf ((bit2 .ensures ∙ ap (bit 2) flags) j) (low2 .ensures j))) i;
       «max_value» = (limit-of2 .ensures ∙ (λ j. limitOf ((bit3 .ensures ∙ ap (bit 4) flags) j) (high2 .ensures j))) i;
-      «step_size» = (c .limit-of3 .ensures ∙ (λ j. limitOf ((bit4 .ensures ∙ ap (bit 8) flags) j) (c .before .low3 .ensures j))) i;
+      «step_size» = (c .before .limit-of3 .ensures ∙ (λ j. limitOf ((bit4 .ensures ∙ ap (bit 8) flags) j) (c .before .before .low3 .ensures j))) i;
+      hard = (c .bit5 .ensures ∙ ap (bit 16) flags) i;
     }
 
 pub with-places-spec : {M : Type 1} → statement M
@@ -99,4 +103,5 @@ with-places-spec =
     shared-slice-read-low
     low-requires-3
     limit-of-requires-3
+    bit-requires-5
     returns)
