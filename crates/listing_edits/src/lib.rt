@@ -53,11 +53,15 @@ fn add_point(s: &[u8], at: usize) -> EditField {
 }
 
 // B.
-fn set_enabled(s: &[u8], at: usize) -> EditField {
+fn with_switch(s: &[u8], name: Name, at: usize) -> EditField {
     let SwitchField::Is(on, next) = switch_at(s, at) else {
         return EditField::None;
     };
-    EditField::Is(Edit::SetEnabled(on), next)
+    match name.among(s, b"set_enabled set_hard ") {
+        0 => EditField::Is(Edit::SetEnabled(on), next),
+        1 => EditField::Is(Edit::SetHard(on), next),
+        _ => EditField::None,
+    }
 }
 
 // O.
@@ -184,19 +188,24 @@ fn ramp(s: &[u8], at: usize) -> EditField {
 
 // The edits whose arguments no other has.
 fn with_others(s: &[u8], name: Name, at: usize) -> EditField {
-    match name.among(
-        s,
-        b"reverse add_point set_enabled trim apply_fades pulse ramp ",
-    ) {
+    match name.among(s, b"reverse add_point trim apply_fades pulse ramp ") {
         0 => of_points(PointsEdit::Reverse, at),
         1 => add_point(s, at),
-        2 => set_enabled(s, at),
-        3 => trim(s, at),
-        4 => apply_fades(s, at),
-        5 => pulse(s, at),
-        6 => ramp(s, at),
+        2 => trim(s, at),
+        3 => apply_fades(s, at),
+        4 => pulse(s, at),
+        5 => ramp(s, at),
         _ => EditField::None,
     }
+}
+
+// The edits of a setting.
+fn with_setting(s: &[u8], name: Name, at: usize) -> EditField {
+    let switch = with_switch(s, name, at);
+    let EditField::None = switch else {
+        return switch;
+    };
+    with_limit(s, name, at)
 }
 
 // The edits with one kind of number.
@@ -218,9 +227,9 @@ pub fn edit_at(s: &[u8], name: Name, at: usize) -> EditField {
     let EditField::None = other else {
         return other;
     };
-    let limit = with_limit(s, name, at);
-    let EditField::None = limit else {
-        return limit;
+    let setting = with_setting(s, name, at);
+    let EditField::None = setting else {
+        return setting;
     };
     let numbers = with_numbers(s, name, at);
     let EditField::None = numbers else {

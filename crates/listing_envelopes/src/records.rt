@@ -1,4 +1,4 @@
-// Envelopes in a line: `{ TARGET ENABLED MIN MAX STEP N POINT*N }`; `-` is none.
+// Envelopes in a line: `{ TARGET ENABLED MIN MAX STEP HARD N POINT*N }`; `-` is none.
 use envelope::AutomationEnvelope;
 use listing::text::Place;
 use listing::text::Word;
@@ -57,6 +57,7 @@ pub fn envelope_at(s: &[u8], at: usize) -> EnvelopeField {
             min_value,
             max_value,
             step_size,
+            hard: limits.hard,
         },
         end: closed(s, end),
     }

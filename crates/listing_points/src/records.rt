@@ -165,6 +165,7 @@ pub fn limit_at(s: &[u8], at: usize) -> LimitField {
     LimitField::Is(Limit::Number(x), next)
 }
 
+// The minimum, the maximum, the step, and hard.
 pub fn limits_at(s: &[u8], at: usize) -> LimitsField {
     let LimitField::Is(min_value, second) = limit_at(s, at) else {
         return LimitsField::Bad;
@@ -172,7 +173,10 @@ pub fn limits_at(s: &[u8], at: usize) -> LimitsField {
     let LimitField::Is(max_value, third) = limit_at(s, second) else {
         return LimitsField::Bad;
     };
-    let LimitField::Is(step_size, next) = limit_at(s, third) else {
+    let LimitField::Is(step_size, fourth) = limit_at(s, third) else {
+        return LimitsField::Bad;
+    };
+    let SwitchField::Is(hard, next) = switch_at(s, fourth) else {
         return LimitsField::Bad;
     };
     LimitsField::Are(
@@ -180,6 +184,7 @@ pub fn limits_at(s: &[u8], at: usize) -> LimitsField {
             min_value,
             max_value,
             step_size,
+            hard,
         },
         next,
     )
@@ -298,6 +303,16 @@ fn says_limit(s: &[u8], at: usize, limit: Limit) -> Place {
     }
 }
 
+fn says_switch(s: &[u8], at: usize, on: bool) -> Place {
+    let SwitchField::Is(said, next) = switch_at(s, at) else {
+        return Place::Nowhere;
+    };
+    if said == on {
+        return Place::At(next);
+    }
+    Place::Nowhere
+}
+
 pub fn says_limits(s: &[u8], at: usize, limits: Limits) -> Place {
     let min = limits.min_value;
     let max = limits.max_value;
@@ -308,7 +323,10 @@ pub fn says_limits(s: &[u8], at: usize, limits: Limits) -> Place {
     let Place::At(third) = says_limit(s, second, max) else {
         return Place::Nowhere;
     };
-    says_limit(s, third, step)
+    let Place::At(fourth) = says_limit(s, third, step) else {
+        return Place::Nowhere;
+    };
+    says_switch(s, fourth, limits.hard)
 }
 
 pub fn says_head(s: &[u8], at: usize, target: u32, enabled: bool) -> Place {
