@@ -131,6 +131,7 @@ impl AutomationEnvelope {
         let min_value = self.min_value;
         let max_value = self.max_value;
         let step_size = self.step_size;
+        let hard = self.hard;
         AutomationEnvelope {
             target: self.target,
             points,
@@ -138,7 +139,7 @@ impl AutomationEnvelope {
             min_value,
             max_value,
             step_size,
-            hard: self.hard,
+            hard,
         }
     }
 
@@ -310,8 +311,8 @@ impl AutomationEnvelope {
     }
 
     // 02's F-1.
-    pub fn set_hard(mut self, hard: bool) -> Edited
-        ensures { λ r. ⌜ toldEdit r ≡ editOf (SetHard hard) self ⌝ }
+    pub fn set_hard(mut self, on: bool) -> Edited
+        ensures { λ r. ⌜ toldEdit r ≡ editOf (SetHard on) self ⌝ }
     {
         let min_value = self.min_value;
         let max_value = self.max_value;
@@ -320,7 +321,7 @@ impl AutomationEnvelope {
             min_value,
             max_value,
             step_size,
-            hard,
+            hard: on,
         };
         self.set(true, self.enabled, limits)
     }

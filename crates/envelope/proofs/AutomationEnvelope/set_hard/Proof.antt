@@ -1,5 +1,5 @@
 -- `envelope::AutomationEnvelope::set_hard` meets its contract: `set` is asked with `true`, for this edit has no argument to refuse,
--- and its `setting` is `editOf (SetHard hard)` by definition.
+-- and its `setting` is `editOf (SetHard on)` by definition.
 use Rattle.envelope.specs.Edit.{editOf}
 use borrow.Author.Needs.{needs}
 use Rattle.envelope.proofs.AutomationEnvelope.set_hard.Statement.{statement}
