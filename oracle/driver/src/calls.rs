@@ -2,7 +2,7 @@
 use crate::domain::{refused_after, refused_before, stride, valid};
 use crate::forms::signature;
 use crate::reader::read_sheet;
-use crate::records::{of_points, Envelope};
+use crate::records::{of_points, Envelope, RustEnvelope};
 use crate::rules::{self, bare, hold, same, Marked};
 use crate::text::{self, double, marked, single, word, Arg};
 use std::panic::{catch_unwind, AssertUnwindSafe};
@@ -65,31 +65,24 @@ fn answer(op: &str, a: &[Arg], raw: bool) -> Answer {
     }
 }
 
-/// An edit or a combination.
+/// An edit or a combination. A replacement and a combination have `hard` off, every other edit keeps it. A
+/// combination's values are here those without `hard`.
 fn edit(op: &str, a: &[Arg]) -> Envelope {
     use Arg::*;
     let [E(e), rest @ ..] = a else {
         panic!("driver: {op}")
     };
-    match (op, rest) {
-        ("fade_in", [D(t), C(c)]) => return Envelope::fade_in(e.target, *t, *c),
-        ("fade_out", [D(t), C(c)]) => return Envelope::fade_out(e.target, *t, *c),
-        ("pulse", [D(s), D(t), D(u), C(c)]) => return Envelope::pulse(e.target, *s, *t, *u, *c),
-        ("ramp", [D(t), F(x), F(y), C(c)]) => return Envelope::ramp(e.target, *t, *x, *y, *c),
-        ("blend", [E(o), F(x)]) => return e.blend(o, *x),
-        ("add", [E(o)]) => return e.add(o),
-        ("multiply", [E(o)]) => return e.multiply(o),
-        ("min", [E(o)]) => return e.min(o),
-        ("max", [E(o)]) => return e.max(o),
-        ("subtract", [E(o)]) => return e.subtract(o),
-        _ => {}
+    if let Some(made) = made(op, &e.rust, rest) {
+        return Envelope::soft(made);
     }
-    let mut r = e.clone();
+    let mut hard = e.hard;
+    let mut r = e.rust.clone();
     match (op, rest) {
         ("set_enabled", [B(b)]) => r.enabled = *b,
         ("set_min", [O(x)]) => r.min_value = *x,
         ("set_max", [O(x)]) => r.max_value = *x,
         ("set_step", [O(x)]) => r.step_size = *x,
+        ("set_hard", [B(b)]) => hard = *b,
         ("remove_point_at", [D(t)]) => drop(r.remove_point_at(*t)),
         _ => {
             let _ = match (op, rest) {
@@ -110,16 +103,35 @@ fn edit(op: &str, a: &[Arg]) -> Envelope {
                 ("apply_fades", [D(s), D(t), C(c)]) => r.apply_fades(*s, *t, *c),
                 ("apply_gate", [F(x)]) => r.apply_gate(*x),
                 ("apply_compression", [F(x), F(y)]) => r.apply_compression(*x, *y),
-                ("merge", [E(o), D(t)]) => r.merge(o, *t),
-                ("merge_points", [L(l), D(t)]) => r.merge(&of_points(l), *t),
+                ("merge", [E(o), D(t)]) => r.merge(&o.rust, *t),
+                ("merge_points", [L(l), D(t)]) => r.merge(&of_points(l).rust, *t),
                 _ => panic!("driver: {op}"),
             };
         }
     }
-    r
+    Envelope { rust: r, hard }
 }
 
-/// The result with 01's signs at the zeros that the Rust leaves open, and which those are.
+/// What a replacement or a combination makes.
+fn made(op: &str, e: &RustEnvelope, rest: &[Arg]) -> Option<RustEnvelope> {
+    use Arg::*;
+    Some(match (op, rest) {
+        ("fade_in", [D(t), C(c)]) => RustEnvelope::fade_in(e.target, *t, *c),
+        ("fade_out", [D(t), C(c)]) => RustEnvelope::fade_out(e.target, *t, *c),
+        ("pulse", [D(s), D(t), D(u), C(c)]) => RustEnvelope::pulse(e.target, *s, *t, *u, *c),
+        ("ramp", [D(t), F(x), F(y), C(c)]) => RustEnvelope::ramp(e.target, *t, *x, *y, *c),
+        ("blend", [E(o), F(x)]) => e.blend(&o.rust, *x),
+        ("add", [E(o)]) => e.add(&o.rust),
+        ("multiply", [E(o)]) => e.multiply(&o.rust),
+        ("min", [E(o)]) => e.min(&o.rust),
+        ("max", [E(o)]) => e.max(&o.rust),
+        ("subtract", [E(o)]) => e.subtract(&o.rust),
+        _ => return None,
+    })
+}
+
+/// The result with 01's signs at the zeros that the Rust leaves open, and which those are. A combination of
+/// which either side is `hard` has its values by the rule alone.
 fn settled(op: &str, a: &[Arg], got: Envelope) -> (Envelope, Vec<bool>) {
     use Arg::*;
     let values = match (op, a) {
@@ -131,19 +143,27 @@ fn settled(op: &str, a: &[Arg], got: Envelope) -> (Envelope, Vec<bool>) {
     let Some(values) = values else {
         return (got.clone(), vec![]);
     };
-    hold(values.len() == got.points.len(), "the number of points");
+    let hard = |x: &Arg| matches!(x, E(e) if e.hard);
+    let by_rule = op != "normalize" && a.iter().any(hard);
+    hold(values.len() == got.rust.points.len(), "the number of points");
     let mut r = got;
-    for (p, v) in r.points.iter_mut().zip(&values) {
-        hold(same(p.value, *v), op);
+    for (p, v) in r.rust.points.iter_mut().zip(&values) {
+        hold(by_rule || same(p.value, *v), op);
         p.value = v.0;
     }
     (r, values.iter().map(|v| v.1).collect())
 }
 
-/// What a combination gives at each time of either envelope.
+/// What a combination gives at each time of either envelope, each looked up with its own `hard`.
 fn combined(e: &Envelope, o: &Envelope, op: &str, f: f32) -> Vec<Marked> {
     let (bare_e, bare_o, f) = (bare(e), bare(o), f.clamp(0.0, 1.0));
-    let mut times: Vec<f64> = e.points.iter().chain(&o.points).map(|p| p.time).collect();
+    let mut times: Vec<f64> = e
+        .rust
+        .points
+        .iter()
+        .chain(&o.rust.points)
+        .map(|p| p.time)
+        .collect();
     times.sort_by(f64::total_cmp);
     times.dedup_by_key(|t| t.to_bits());
     let value = |t: f64| {
@@ -165,7 +185,7 @@ fn combined(e: &Envelope, o: &Envelope, op: &str, f: f32) -> Vec<Marked> {
 /// What normalize gives, where it changes something.
 fn normalized(e: &Envelope, lo: f32, hi: f32) -> Option<Vec<Marked>> {
     let (mut least, mut most, mut open) = (f32::INFINITY, f32::NEG_INFINITY, false);
-    for p in &e.points {
+    for p in &e.rust.points {
         let (low, open_low) = rules::min(least, p.value);
         let (high, open_high) = rules::max(most, p.value);
         (least, most) = (low, high);
@@ -174,7 +194,7 @@ fn normalized(e: &Envelope, lo: f32, hi: f32) -> Option<Vec<Marked>> {
     let range = most - least;
     let value = |v: f32| lo + (v - least) / range * (hi - lo);
     (range > 0.0).then(|| {
-        let values = e.points.iter().map(|p| value(p.value));
+        let values = e.rust.points.iter().map(|p| value(p.value));
         values.map(|v| (v, open && v == 0.0)).collect()
     })
 }
@@ -196,6 +216,11 @@ impl Range {
     fn meet(&mut self, v: Marked) {
         self.least = met(rules::min, self.least, v);
         self.most = met(rules::max, self.most, v);
+    }
+
+    /// By the rule alone: none if the least isn't finite.
+    fn found(&self) -> Option<(f32, f32)> {
+        self.least.0.is_finite().then_some((self.least.0, self.most.0))
     }
 
     fn text(&self, got: Option<(f32, f32)>) -> String {
@@ -232,23 +257,51 @@ fn range(e: &Envelope, from: f64, to: f64) -> String {
             r.meet(v);
         }
     }
-    for p in e.points.iter().filter(|p| p.time >= from && p.time <= to) {
+    for p in e.rust.points.iter().filter(|p| p.time >= from && p.time <= to) {
         r.meet((p.value, false));
     }
-    r.text(e.get_range(from, to))
+    r.text(if e.hard {
+        r.found()
+    } else {
+        e.rust.get_range(from, to)
+    })
 }
 
 fn range_samples(e: &Envelope, from: u64, to: u64) -> String {
-    let got = e.get_range_samples(from, to);
     let (bare, mut r) = (bare(e), Range::new());
-    if !e.points.is_empty() {
+    if !e.rust.points.is_empty() {
         for k in (from..=to).step_by(stride(from, to) as usize) {
             if let Some(v) = rules::value_at_sample(e, &bare, k) {
                 r.meet(v);
             }
         }
     }
-    r.text(got)
+    r.text(if e.hard {
+        r.found()
+    } else {
+        e.rust.get_range_samples(from, to)
+    })
+}
+
+/// 0 under two points, else from 0.001 before the time to 0.001 after it; held against the Rust's where the
+/// envelope isn't hard.
+fn slope(e: &Envelope, time: f64) -> Option<Marked> {
+    let (bare, delta) = (bare(e), 0.001);
+    let at = |t: f64| rules::value_at(e, &bare, t);
+    let rise = |((v, open), (w, other)): (Marked, Marked)| ((w - v) / (2.0 * delta) as f32, open || other);
+    let by_rule = if e.rust.points.len() < 2 {
+        Some((0.0, false))
+    } else {
+        at(time - delta).zip(at(time + delta)).map(rise)
+    };
+    if e.hard {
+        return by_rule;
+    }
+    let rust = e.rust.get_slope_at(time);
+    hold(rust.is_some() == by_rule.is_some(), "a slope that is none");
+    let (v, open) = by_rule?;
+    hold(same(rust?, (v, open)), "a slope");
+    Some((rust?, open))
 }
 
 /// A buffer of `len` places that held 4B000000 + i, with samples written from a place on.
@@ -265,7 +318,7 @@ fn buffer(len: u64, place: u64, samples: impl Iterator<Item = Marked>) -> String
 }
 
 fn walk(e: &Envelope, rate: f64, duration: f64, calls: u64) -> String {
-    let mut samples = e.iter_samples(rate, duration);
+    let mut samples = e.rust.iter_samples(rate, duration);
     let (count, bare) = (samples.len(), bare(e));
     let mut s = format!("walk {count}");
     for _ in 0..calls {
@@ -291,15 +344,11 @@ fn lookup(op: &str, a: &[Arg]) -> String {
     match (op, a) {
         ("value_at", [E(e), D(t)]) => some(rules::value_at(e, &bare(e), *t)),
         ("value_at_sample", [E(e), U(s)]) => some(rules::value_at_sample(e, &bare(e), *s)),
-        ("slope_at", [E(e), D(t)]) => {
-            let open = |t: f64| rules::value_at(e, &bare(e), t).is_some_and(|x| x.1);
-            let either = e.points.len() >= 2 && (open(t - 0.001) || open(t + 0.001));
-            some(e.get_slope_at(*t).map(|v| (v, either)))
-        }
+        ("slope_at", [E(e), D(t)]) => some(slope(e, *t)),
         ("range", [E(e), D(s), D(t)]) => range(e, *s, *t),
         ("range_samples", [E(e), U(s), U(t)]) => range_samples(e, *s, *t),
-        ("peaks", [E(e), ..]) => list(e.find_peaks()),
-        ("valleys", [E(e), ..]) => list(e.find_valleys()),
+        ("peaks", [E(e), ..]) => list(e.rust.find_peaks()),
+        ("valleys", [E(e), ..]) => list(e.rust.find_valleys()),
         ("render", [E(e), D(rate), N(first), N(count), N(place), N(len)]) => {
             let time = |i: u64| (first + i) as f64 / rate;
             let value = |i| rules::value_at(e, &bare(e), time(i)).unwrap_or((0.0, false));
@@ -308,18 +357,15 @@ fn lookup(op: &str, a: &[Arg]) -> String {
         ("to_buffer", [E(e), D(rate), D(duration), N(place), N(len)]) => {
             let value = |(i, rust): (usize, &f32)| {
                 let v = rules::value_at(e, &bare(e), i as f64 / rate).unwrap_or((0.0, false));
-                hold(same(*rust, v), op);
+                hold(e.hard || same(*rust, v), op);
                 v
             };
-            buffer(
-                *len,
-                *place,
-                e.to_buffer(*rate, *duration).iter().enumerate().map(value),
-            )
+            let samples = e.rust.to_buffer(*rate, *duration);
+            buffer(*len, *place, samples.iter().enumerate().map(value))
         }
         ("walk", [E(e), D(rate), D(duration), N(calls)]) => walk(e, *rate, *duration, *calls),
-        ("eq", [E(e), E(f)]) => truth(e == f),
-        ("eq_exact", [E(e), E(f)]) => truth(e.eq_exact(f)),
+        ("eq", [E(e), E(f)]) => truth(e.rust == f.rust && e.hard == f.hard),
+        ("eq_exact", [E(e), E(f)]) => truth(e.rust.eq_exact(&f.rust) && e.hard == f.hard),
         ("point_eq", [P(p), P(q)]) => truth(p == q),
         ("point_eq_exact", [P(p), P(q)]) => truth(p.eq_exact(q)),
         ("valid", [E(e)]) => truth(valid(e)),

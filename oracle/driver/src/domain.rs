@@ -15,18 +15,19 @@ fn finite_point(p: &AutomationPoint) -> bool {
 }
 
 fn finite(e: &Envelope) -> bool {
-    let settings = [e.min_value, e.max_value, e.step_size];
-    settings.iter().flatten().all(|x| x.is_finite()) && e.points.iter().all(finite_point)
+    let settings = [e.rust.min_value, e.rust.max_value, e.rust.step_size];
+    settings.iter().flatten().all(|x| x.is_finite()) && e.rust.points.iter().all(finite_point)
 }
 
 fn rises(e: &Envelope) -> bool {
-    e.points
+    e.rust
+        .points
         .windows(2)
         .all(|w| w[0].time.total_cmp(&w[1].time).is_lt())
 }
 
 pub fn valid(e: &Envelope) -> bool {
-    e.points.len() <= 256 && finite(e) && rises(e)
+    e.rust.points.len() <= 256 && finite(e) && rises(e)
 }
 
 /// A point's key in the lookup by sample.
@@ -35,7 +36,7 @@ pub fn key(p: &AutomationPoint) -> u64 {
 }
 
 fn keys_rise(e: &Envelope) -> bool {
-    e.points.len() < 2 || !e.enabled || e.points.windows(2).all(|w| key(&w[0]) < key(&w[1]))
+    e.rust.points.len() < 2 || !e.rust.enabled || e.rust.points.windows(2).all(|w| key(&w[0]) < key(&w[1]))
 }
 
 /// The step of get_range_samples.
@@ -98,8 +99,8 @@ fn refused_by_size(op: &str, a: &[Arg]) -> Option<u32> {
             over(n as u128).or(lacks(n, *place, *len))
         }
         ("walk", [_, D(rate), D(duration), _]) => over((duration * rate) as u64 as u128),
-        ("peaks", [E(e), N(x), N(y)]) => lacks(e.find_peaks().len() as u64, 0, *x.min(y)),
-        ("valleys", [E(e), N(x), N(y)]) => lacks(e.find_valleys().len() as u64, 0, *x.min(y)),
+        ("peaks", [E(e), N(x), N(y)]) => lacks(e.rust.find_peaks().len() as u64, 0, *x.min(y)),
+        ("valleys", [E(e), N(x), N(y)]) => lacks(e.rust.find_valleys().len() as u64, 0, *x.min(y)),
         ("sheet", [E(e), N(len)]) => lacks(sheet(e).len() as u64, 0, *len),
         _ => None,
     }
@@ -120,7 +121,7 @@ pub fn refused_after(e: &Envelope) -> Option<u32> {
         Some(3)
     } else if !rises(e) {
         Some(6)
-    } else if e.points.len() > 256 {
+    } else if e.rust.points.len() > 256 {
         Some(5)
     } else {
         None

@@ -22,7 +22,7 @@ pub fn arguments(r: &mut Random, op: &str) -> Vec<Arg> {
             'B' => Arg::B(r.once_in(2)),
             'C' => Arg::C(r.curve()),
             _ => {
-                let near = point_of(r, &first).map(|i| first.points[i].clone());
+                let near = point_of(r, &first).map(|i| first.rust.points[i].clone());
                 Arg::P(r.point(near.as_ref(), None))
             }
         };
@@ -54,7 +54,7 @@ fn points_of_first(r: &mut Random) -> u64 {
 
 /// One of the points, where there are some; more often than not.
 fn point_of(r: &mut Random, e: &Envelope) -> Option<usize> {
-    let n = e.points.len() as u64;
+    let n = e.rust.points.len() as u64;
     if n == 0 || r.once_in(3) {
         return None;
     }
@@ -63,13 +63,13 @@ fn point_of(r: &mut Random, e: &Envelope) -> Option<usize> {
 
 /// The second envelope. Beside one of many points it often has many too.
 fn other(r: &mut Random, op: &str, first: &Envelope) -> Envelope {
-    if first.points.len() > 100 && r.once_in(2) {
+    if first.rust.points.len() > 100 && r.once_in(2) {
         return other_of_many(r, first);
     }
-    if !first.points.is_empty() && r.once_in(4) {
+    if !first.rust.points.is_empty() && r.once_in(4) {
         let mut e = r.envelope_of(points_of_first);
-        for p in &mut e.points {
-            let same = r.one_of(&first.points).time;
+        for p in &mut e.rust.points {
+            let same = r.one_of(&first.rust.points).time;
             p.time = if r.once_in(6) { -same } else { same };
         }
         sort(&mut e);
@@ -81,19 +81,19 @@ fn other(r: &mut Random, op: &str, first: &Envelope) -> Envelope {
 /// The same times with other values; none of them, up to 512 together or just 256 or 257; or any.
 fn other_of_many(r: &mut Random, first: &Envelope) -> Envelope {
     let mut e = first.clone();
-    let left = 256 - first.points.len();
+    let left = 256 - first.rust.points.len();
     match r.below(4) {
         0 => {
-            for p in &mut e.points {
+            for p in &mut e.rust.points {
                 p.value = r.single();
             }
         }
         1 | 2 => {
-            for p in &mut e.points {
+            for p in &mut e.rust.points {
                 p.time += 1000.0;
             }
             let most = r.one_of(&[left, left + 1, 256]);
-            e.points.truncate(most);
+            e.rust.points.truncate(most);
             sort(&mut e);
         }
         _ => return r.envelope_of(|r| r.one_of(&[256, 256, 255, 130])),
@@ -109,8 +109,8 @@ fn list(r: &mut Random, op: &str, first: &Envelope) -> Vec<AutomationPoint> {
         0 => (0..256 + r.one_of(&[0, 1, 2, 44]))
             .map(|k| AutomationPoint::new(k as f64, r.single()))
             .collect(),
-        1..=3 => r.spoiled(e).points,
-        _ => e.points,
+        1..=3 => r.spoiled(e).rust.points,
+        _ => e.rust.points,
     }
 }
 
@@ -137,7 +137,7 @@ fn double(r: &mut Random, op: &str, a: &[Arg]) -> f64 {
         return r.one_of(&NOT_FINITE);
     }
     let e = first(a);
-    let at = point_of(r, e).map(|i| e.points[i].time);
+    let at = point_of(r, e).map(|i| e.rust.points[i].time);
     let x = match (op, a) {
         ("remove_point_at", _) => beside(r, at),
         ("shift", _) => offset(r, at),
@@ -185,7 +185,7 @@ fn offset(r: &mut Random, at: Option<f64>) -> f64 {
 
 /// From a point of the other to one of the first, or any offset.
 fn offset_of(r: &mut Random, at: Option<f64>, other: &Envelope) -> f64 {
-    let from = point_of(r, other).map(|i| other.points[i].time);
+    let from = point_of(r, other).map(|i| other.rust.points[i].time);
     match (at, from) {
         (Some(t), Some(f)) if r.once_in(2) => t - f,
         _ => offset(r, at),
@@ -233,7 +233,7 @@ fn grid(r: &mut Random, at: Option<f64>) -> f64 {
 
 /// At most 0, the span of the points or of some, or any other.
 fn duration(r: &mut Random, e: &Envelope) -> f64 {
-    let ends = match (e.points.first(), e.points.last()) {
+    let ends = match (e.rust.points.first(), e.rust.points.last()) {
         (Some(p), Some(q)) => Some((p.time, q.time)),
         _ => None,
     };
@@ -253,7 +253,7 @@ fn single(r: &mut Random, op: &str, a: &[Arg]) -> f32 {
         return r.one_of(&NOT_FINITE) as f32;
     }
     let e = first(a);
-    let value = point_of(r, e).map(|i| e.points[i].value);
+    let value = point_of(r, e).map(|i| e.rust.points[i].value);
     let x = match (op, a) {
         ("simplify", _) => tolerance(r, e),
         ("scale", _) | ("apply_compression", [_, Arg::F(_)]) => ratio(r),
@@ -301,10 +301,10 @@ fn ratio(r: &mut Random) -> f32 {
 
 /// How far a point lies from the curve between its neighbours, or about that far.
 fn tolerance(r: &mut Random, e: &Envelope) -> f32 {
-    let n = e.points.len() as u64;
+    let n = e.rust.points.len() as u64;
     if n > 2 && !r.once_in(3) {
         let i = 1 + r.below(n - 2) as usize;
-        let [p, q, s] = &e.points[i - 1..=i + 1] else {
+        let [p, q, s] = &e.rust.points[i - 1..=i + 1] else {
             panic!("driver: three points");
         };
         let t = ((q.time - p.time) / (s.time - p.time)) as f32;

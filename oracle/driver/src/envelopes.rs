@@ -1,6 +1,6 @@
 //! Random envelopes, points, times and samples, with their edge cases: both zeros, spans that are
 //! subnormal or whose width overflows, neighbouring numbers, limits that cross, steps of each sign,
-//! keys that tie, and envelopes that are not valid.
+//! limits that a step passes, with `hard` on and off, keys that tie, and envelopes that are not valid.
 use crate::domain::key;
 use crate::edges::{bits, near, near_double, sign};
 use crate::random::Random;
@@ -114,15 +114,15 @@ impl Random {
     pub fn envelope_of(&mut self, number_of_points: fn(&mut Random) -> u64) -> Envelope {
         let target = self.one_of(&[0, 1, 2, 3, 4, 4_294_967_295]);
         let mut e = Envelope::new(target);
-        e.enabled = !self.once_in(12);
+        e.rust.enabled = !self.once_in(12);
         let count = number_of_points(self);
         let (times, values) = (self.times(count), self.values());
         for _ in 0..4 * count {
-            if e.points.len() as u64 == count {
+            if e.rust.points.len() as u64 == count {
                 break;
             }
             let (time, value, curve) = (self.time_of(times), self.value_of(values), self.curve());
-            e.add_point(AutomationPoint {
+            e.rust.add_point(AutomationPoint {
                 time,
                 sample_position: None,
                 value,
@@ -131,6 +131,13 @@ impl Random {
         }
         self.positions(&mut e);
         self.limits(&mut e);
+        // hard in half of all, and mostly where it matters
+        if self.below(5) < 2 {
+            self.stops(&mut e);
+            e.hard = !self.once_in(4);
+        } else {
+            e.hard = self.once_in(3);
+        }
         e
     }
 
@@ -141,7 +148,7 @@ impl Random {
     fn positions(&mut self, e: &mut Envelope) {
         let which = self.below(10);
         let mut position = self.below(100);
-        for p in &mut e.points {
+        for p in &mut e.rust.points {
             match which {
                 0 | 1 => {}
                 2..=4 => p.time = p.time.abs() + 0.0,
@@ -176,9 +183,9 @@ impl Random {
     // ---- limits
 
     fn limits(&mut self, e: &mut Envelope) {
-        let value = |r: &mut Random| match e.points[..] {
+        let value = |r: &mut Random| match e.rust.points[..] {
             [] => r.single(),
-            _ => r.one_of(&e.points).value,
+            _ => r.one_of(&e.rust.points).value,
         };
         let (min, max) = match self.below(12) {
             0..=5 => (None, None),
@@ -195,7 +202,7 @@ impl Random {
         } else {
             None
         };
-        (e.min_value, e.max_value, e.step_size) = (min, max, step);
+        (e.rust.min_value, e.rust.max_value, e.rust.step_size) = (min, max, step);
     }
 
     /// A step: above 0, at it, below it; also one that has v halfway between two of its steps.
@@ -221,31 +228,104 @@ impl Random {
         }
     }
 
+    /// Limits about the values, and a step that mostly passes one of them: what `hard` is for.
+    fn stops(&mut self, e: &mut Envelope) {
+        let (v, w) = (self.stop(e), self.stop(e));
+        let (low, high) = (v.min(w), v.max(w));
+        let (min, max) = match self.below(12) {
+            0..=3 => (Some(low), Some(high)),
+            4 | 5 => (Some(low), None),
+            6 | 7 => (None, Some(high)),
+            8 => (Some(high), Some(low)),
+            9 => (Some(v), Some(v)),
+            _ => {
+                let zeros = [0.0, -0.0].map(Some);
+                let (zero, other) = (self.one_of(&zeros), self.one_of(&zeros));
+                self.one_of(&[(zero, Some(high.abs())), (Some(-low.abs()), zero), (zero, other)])
+            }
+        };
+        let lowest = min.map(|m| (m, m < 0.0));
+        let highest = max.map(|m| (m, m > 0.0));
+        let bounds: Vec<(f32, bool)> = lowest.into_iter().chain(highest).collect();
+        let (bound, outwards) = self.one_of(&bounds);
+        let step = self.passing(bound, outwards);
+        (e.rust.min_value, e.rust.max_value, e.rust.step_size) = (min, max, Some(step));
+    }
+
+    /// A limit: a value of a point, one beside it or near it, one between two, or any other.
+    fn stop(&mut self, e: &Envelope) -> f32 {
+        let n = e.rust.points.len() as u64;
+        if n == 0 {
+            return self.single();
+        }
+        let (p, q) = (self.one_of(&e.rust.points), self.one_of(&e.rust.points));
+        let x = match self.below(6) {
+            0 => p.value,
+            1 => near(self, p.value, 2),
+            2 => p.value + (self.unit() as f32 - 0.5),
+            3 | 4 => {
+                let u = self.unit() as f32;
+                p.value * (1.0 - u) + q.value * u
+            }
+            _ => self.single(),
+        };
+        if x.is_finite() {
+            x
+        } else {
+            p.value
+        }
+    }
+
+    /// A step, above 0, that doesn't divide a bound, and mostly passes it away from 0, or towards 0: the bound
+    /// lies halfway between two of its steps or beside that, past the half, short of it, below a step. Or one so
+    /// small that a quotient overflows, a large one, a plain one.
+    fn passing(&mut self, bound: f32, away: bool) -> f32 {
+        let away = away != self.once_in(5);
+        let whole = self.one_of(&[0, 0, 0, 0, 1, 1, 2, 3, 7, 40]) as f32;
+        let part = match self.below(6) {
+            0 => 0.5,
+            _ if away => 0.5 + self.unit() as f32 / 2.0,
+            _ => self.unit() as f32 / 2.0,
+        };
+        let x = match self.below(12) {
+            0 => f32::from_bits(1 + self.below(16) as u32),
+            1 => self.unit() as f32 * f32::MAX,
+            2 | 3 => self.one_of(&[0.1, 0.25, 0.625, 1.0, 3.0]),
+            4 => near(self, bound / (whole + part), 1).abs(),
+            _ => (bound / (whole + part)).abs(),
+        };
+        if x.is_finite() && x > 0.0 {
+            x
+        } else {
+            0.625
+        }
+    }
+
     // ---- envelopes that are not valid
 
     /// An envelope that is not valid: a number that is not finite, times that fall or are the same,
     /// or more than 256 points.
     pub fn spoiled(&mut self, mut e: Envelope) -> Envelope {
         let number = self.one_of(&NOT_FINITE);
-        let n = e.points.len() as u64;
+        let n = e.rust.points.len() as u64;
         let i = if n == 0 { 0 } else { self.below(n) as usize };
         match self.below(11) {
-            0 => e.min_value = Some(number as f32),
-            1 => e.max_value = Some(number as f32),
+            0 => e.rust.min_value = Some(number as f32),
+            1 => e.rust.max_value = Some(number as f32),
             2 if self.once_in(4) => {
                 let (most, curve) = (257 + self.one_of(&[0, 0, 0, 1, 40]), self.curve());
-                e.points = (0..most)
+                e.rust.points = (0..most)
                     .map(|k| AutomationPoint::with_curve(k as f64, 1.0, curve))
                     .collect();
             }
-            3 if n > 0 => e.points[i].time = number,
-            4 if n > 0 => e.points[i].value = number as f32,
-            5 if n > 0 => e.points[i].curve = CurveType::Bezier(number as f32, self.single()),
-            6 if n > 0 => e.points[i].curve = CurveType::Bezier(self.single(), number as f32),
-            7 if i > 0 => e.points.swap(i - 1, i),
-            8 if i > 0 => e.points[i].time = e.points[i - 1].time,
-            9 if i > 0 => (e.points[i - 1].time, e.points[i].time) = (0.0, -0.0),
-            _ => e.step_size = Some(number as f32),
+            3 if n > 0 => e.rust.points[i].time = number,
+            4 if n > 0 => e.rust.points[i].value = number as f32,
+            5 if n > 0 => e.rust.points[i].curve = CurveType::Bezier(number as f32, self.single()),
+            6 if n > 0 => e.rust.points[i].curve = CurveType::Bezier(self.single(), number as f32),
+            7 if i > 0 => e.rust.points.swap(i - 1, i),
+            8 if i > 0 => e.rust.points[i].time = e.rust.points[i - 1].time,
+            9 if i > 0 => (e.rust.points[i - 1].time, e.rust.points[i].time) = (0.0, -0.0),
+            _ => e.rust.step_size = Some(number as f32),
         }
         e
     }
@@ -259,10 +339,10 @@ impl Random {
             return self.altered(first);
         }
         let mut e = self.envelope();
-        if self.once_in(3) && !first.points.is_empty() {
-            for p in &mut e.points {
+        if self.once_in(3) && !first.rust.points.is_empty() {
+            for p in &mut e.rust.points {
                 if self.once_in(2) {
-                    p.time = self.one_of(&first.points).time;
+                    p.time = self.one_of(&first.rust.points).time;
                 }
             }
             sort(&mut e);
@@ -273,24 +353,25 @@ impl Random {
     /// The envelope with at most one thing changed, often by very little.
     fn altered(&mut self, first: &Envelope) -> Envelope {
         let mut e = first.clone();
-        let n = e.points.len() as u64;
+        let n = e.rust.points.len() as u64;
         let i = if n == 0 { 0 } else { self.below(n) as usize };
         let other = self.single();
         let limit = |x: Option<f32>| x.map_or(Some(other), |v| if v == 0.0 { Some(-v) } else { None });
-        match self.below(16) {
-            0 => e.target = e.target.wrapping_add(1),
-            1 => e.enabled = !e.enabled,
-            2 => e.min_value = limit(e.min_value),
-            3 => e.max_value = limit(e.max_value),
-            4 => e.step_size = limit(e.step_size),
-            5 => drop(e.points.pop()),
-            6..=14 if n > 0 => {
-                let p = self.like(&first.points[i]);
+        match self.below(17) {
+            0 => e.rust.target = e.rust.target.wrapping_add(1),
+            1 => e.rust.enabled = !e.rust.enabled,
+            2 => e.rust.min_value = limit(e.rust.min_value),
+            3 => e.rust.max_value = limit(e.rust.max_value),
+            4 => e.rust.step_size = limit(e.rust.step_size),
+            5 => e.hard = !e.hard,
+            6 => drop(e.rust.points.pop()),
+            7..=15 if n > 0 => {
+                let p = self.like(&first.rust.points[i]);
                 match self.below(4) {
-                    0 => e.points[i].time = p.time,
-                    1 => e.points[i].value = p.value,
-                    2 => e.points[i].curve = p.curve,
-                    _ => e.points[i].sample_position = Some(4),
+                    0 => e.rust.points[i].time = p.time,
+                    1 => e.rust.points[i].value = p.value,
+                    2 => e.rust.points[i].curve = p.curve,
+                    _ => e.rust.points[i].sample_position = Some(4),
                 }
                 sort(&mut e);
             }
@@ -378,14 +459,14 @@ impl Random {
 
     /// Two neighbouring points.
     fn neighbours(&mut self, e: &Envelope) -> Option<[AutomationPoint; 2]> {
-        let pairs = (e.points.len() as u64).checked_sub(1).filter(|n| *n > 0)?;
+        let pairs = (e.rust.points.len() as u64).checked_sub(1).filter(|n| *n > 0)?;
         let i = self.below(pairs) as usize;
-        Some([e.points[i].clone(), e.points[i + 1].clone()])
+        Some([e.rust.points[i].clone(), e.rust.points[i + 1].clone()])
     }
 
     /// A time of a lookup, which is free: mostly at a point, beside one or between two.
     pub fn lookup_time(&mut self, e: &Envelope) -> f64 {
-        if self.once_in(if e.points.len() == 1 { 4 } else { 20 }) {
+        if self.once_in(if e.rust.points.len() == 1 { 4 } else { 20 }) {
             return self.one_of(&NOT_FINITE);
         }
         let Some([p, q]) = self.neighbours(e) else {
@@ -416,7 +497,7 @@ impl Random {
             0 | 1 => a.saturating_add(self.below(3)).saturating_sub(1),
             2 | 3 => b.saturating_add(self.below(3)).saturating_sub(1),
             4..=7 if a < b => a + self.below(b - a),
-            8 if key(&e.points[0]) > 0 => self.below(key(&e.points[0])),
+            8 if key(&e.rust.points[0]) > 0 => self.below(key(&e.rust.points[0])),
             _ => self.word(),
         }
     }
@@ -483,6 +564,6 @@ impl Random {
 
 /// In order of time, without times that are bit for bit the same.
 pub fn sort(e: &mut Envelope) {
-    e.points.sort_by(|a, b| a.time.total_cmp(&b.time));
-    e.points.dedup_by_key(|p| p.time.to_bits());
+    e.rust.points.sort_by(|a, b| a.time.total_cmp(&b.time));
+    e.rust.points.dedup_by_key(|p| p.time.to_bits());
 }

@@ -3,7 +3,7 @@
 //! stands in calls.rs and domain.rs, a session's in session.rs.
 
 /// How many requests have landed.
-pub const LANDED: u32 = 0;
+pub const LANDED: u32 = 1;
 
 /// Of a form that no request takes away.
 const EVER: u32 = u32::MAX;
@@ -56,6 +56,7 @@ const OPERATIONS: &[Operation] = &[
     ("set_min", "EO", 'e', 0),
     ("set_max", "EO", 'e', 0),
     ("set_step", "EO", 'e', 0),
+    ("set_hard", "EB", 'e', 1),
     ("fade_in", "EDC", 'e', 0),
     ("fade_out", "EDC", 'e', 0),
     ("pulse", "EDDDC", 'e', 0),

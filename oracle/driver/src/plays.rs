@@ -9,8 +9,8 @@ use crate::text::{double, sheet, shown, single};
 use std::io::{Result, Write};
 use std::path::Path;
 
-pub const EXAMPLE: &str = "target enabled min max step
-0 1 - - -
+pub const EXAMPLE: &str = "target enabled min max step hard
+0 1 - - - 0
 time position value curve cp1 cp2
 0000000000000000 - 00000000 00 - -
 4010000000000000 - 3F800000 00 - -
@@ -51,11 +51,12 @@ fn input(e: &Envelope, rate: f64, duration: f64) -> Vec<u8> {
     .into_bytes()
 }
 
-/// Places in the example with a digit: the target, enabled, and digits of a time, a value, a curve and
+/// Places in the example with a digit: the target, enabled, hard, and digits of a time, a value, a curve and
 /// the rate.
-const DIGITS: [usize; 6] = [28, 30, 72, 91, 101, 156];
-/// Other places: a space, a line's end, a position's `-`, a control's.
-const OTHERS: [usize; 4] = [29, 37, 89, 103];
+const DIGITS: [usize; 7] = [33, 35, 43, 79, 98, 108, 163];
+/// Other places: the names' last space and letter, a space, the one before hard, a line's end, a position's
+/// `-`, a control's.
+const OTHERS: [usize; 7] = [27, 31, 34, 42, 44, 96, 110];
 
 /// 01's example, what is left of it after each byte, each byte at these places, and a line for each
 /// cause of a refusal.
@@ -132,18 +133,18 @@ pub fn causes() -> Vec<Vec<u8>> {
 /// Long lines, at the front and in the place of a point.
 fn long() -> [Vec<u8>; 2] {
     let line = vec![b'0'; 1 << 20];
-    [line.clone(), [&EXAMPLE.as_bytes()[..72], &line].concat()]
+    [line.clone(), [&EXAMPLE.as_bytes()[..79], &line].concat()]
 }
 
 /// An envelope of so many points, of every curve.
 pub fn envelope(r: &mut Random, count: u64) -> Envelope {
     let mut e = Envelope::new(r.below(1 << 32) as u32);
-    e.enabled = !r.once_in(16);
+    e.rust.enabled = !r.once_in(16);
     let mut time = (r.unit() - 0.5) * 2.0;
     for _ in 0..count {
         let value = (r.unit() as f32 - 0.25) * 100.0;
         let position = r.once_in(3).then(|| r.below(1 << 20));
-        e.points.push(AutomationPoint {
+        e.rust.points.push(AutomationPoint {
             time,
             sample_position: position,
             value,
@@ -152,20 +153,21 @@ pub fn envelope(r: &mut Random, count: u64) -> Envelope {
         time += r.unit() + 0.001;
     }
     if r.once_in(3) {
-        e.min_value = Some(r.unit() as f32 * 20.0);
+        e.rust.min_value = Some(r.unit() as f32 * 20.0);
     }
     if r.once_in(3) {
-        e.max_value = Some(r.unit() as f32 * 60.0);
+        e.rust.max_value = Some(r.unit() as f32 * 60.0);
     }
-    if r.once_in(3) {
-        e.step_size = Some(r.unit() as f32 * 5.0 - 0.5);
+    if r.once_in(2) {
+        e.rust.step_size = Some(r.unit() as f32 * 5.0 - 0.5);
     }
+    e.hard = r.once_in(2);
     e
 }
 
 /// An input of so many samples, from time 0 to after the last point.
 pub fn over_all(e: &Envelope, samples: u64) -> Vec<u8> {
-    let end = e.points.last().map_or(0.0, |p| p.time).abs() + 1.0;
+    let end = e.rust.points.last().map_or(0.0, |p| p.time).abs() + 1.0;
     input(e, samples as f64 / end, end)
 }
 
@@ -197,8 +199,9 @@ fn random(r: &mut Random) -> Vec<u8> {
 /// A sheet of exactly so many points, and what follows them.
 pub fn full_with(r: &mut Random, points: u64, rest: &str) -> Vec<u8> {
     let mut e = Envelope::new(7);
+    e.hard = r.once_in(2);
     for i in 0..points {
-        e.points.push(AutomationPoint {
+        e.rust.points.push(AutomationPoint {
             time: i as f64,
             sample_position: Some(i),
             value: r.unit() as f32,

@@ -127,8 +127,8 @@ impl Random {
     fn count(&mut self, op: &str, before: &[Arg]) -> u64 {
         use Arg::*;
         match (op, before) {
-            ("peaks", [E(e), ..]) => self.length(e.find_peaks().len() as u64),
-            ("valleys", [E(e), ..]) => self.length(e.find_valleys().len() as u64),
+            ("peaks", [E(e), ..]) => self.length(e.rust.find_peaks().len() as u64),
+            ("valleys", [E(e), ..]) => self.length(e.rust.find_valleys().len() as u64),
             ("sheet", [E(e)]) => self.length(sheet(e).len() as u64),
             ("render", [_, D(_)]) | ("render", [_, D(_), N(_)]) if self.once_in(16) => self.large(),
             ("render", [E(e), D(rate)]) => self.first_sample(e, *rate, MOST),
@@ -193,7 +193,7 @@ impl Random {
             _ => None,
         };
         let near = match first {
-            Some(e) if !e.points.is_empty() && self.once_in(2) => Some(self.one_of(&e.points)),
+            Some(e) if !e.rust.points.is_empty() && self.once_in(2) => Some(self.one_of(&e.rust.points)),
             _ => None,
         };
         match (kind, first) {

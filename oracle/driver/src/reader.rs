@@ -66,6 +66,14 @@ fn target(field: &[u8]) -> Result<u32, u32> {
     std::str::from_utf8(field).unwrap().parse().map_err(|_| 9)
 }
 
+fn switch(field: &[u8]) -> Result<bool, u32> {
+    match field {
+        b"0" => Ok(false),
+        b"1" => Ok(true),
+        _ => Err(9),
+    }
+}
+
 fn double(bits: u64) -> Result<f64, u32> {
     Some(f64::from_bits(bits)).filter(|x| x.is_finite()).ok_or(3)
 }
@@ -81,17 +89,15 @@ fn limit(bits: Option<u64>) -> Result<Option<f32>, u32> {
 }
 
 fn settings(l: &mut Lines) -> Result<Envelope, u32> {
-    let [target_field, enabled, min, max, step] = l.fields()?;
+    let [target_field, enabled, min, max, step, hard] = l.fields()?;
     let mut e = Envelope::new(target(target_field)?);
-    e.enabled = match enabled {
-        b"0" => false,
-        b"1" => true,
-        _ => return Err(9),
-    };
+    e.rust.enabled = switch(enabled)?;
     let limits = [optional(min, 8)?, optional(max, 8)?, optional(step, 8)?];
-    e.min_value = limit(limits[0])?;
-    e.max_value = limit(limits[1])?;
-    e.step_size = limit(limits[2])?;
+    e.hard = switch(hard)?;
+    // the line has its form: what is left is 3
+    e.rust.min_value = limit(limits[0])?;
+    e.rust.max_value = limit(limits[1])?;
+    e.rust.step_size = limit(limits[2])?;
     Ok(e)
 }
 
@@ -112,7 +118,11 @@ fn point(l: &mut Lines, e: &Envelope) -> Result<AutomationPoint, u32> {
         return Err(2);
     }
     let curve = curve_of(code, single(controls[0])?, single(controls[1])?).unwrap();
-    if e.points.last().is_some_and(|p| p.time.total_cmp(&time).is_ge()) {
+    if e.rust
+        .points
+        .last()
+        .is_some_and(|p| p.time.total_cmp(&time).is_ge())
+    {
         return Err(6);
     }
     Ok(AutomationPoint {
@@ -125,16 +135,16 @@ fn point(l: &mut Lines, e: &Envelope) -> Result<AutomationPoint, u32> {
 
 /// A sheet. `end` says whether the points end before the bytes that are left.
 fn sheet(l: &mut Lines, end: fn(&[u8]) -> bool) -> Result<Envelope, u32> {
-    l.names("target enabled min max step")?;
+    l.names("target enabled min max step hard")?;
     let mut e = settings(l)?;
     l.names("time position value curve cp1 cp2")?;
     while !end(l.left) {
-        if e.points.len() == 256 && !l.left.is_empty() {
+        if e.rust.points.len() == 256 && !l.left.is_empty() {
             l.number += 1;
             return Err(5);
         }
         let p = point(l, &e)?;
-        e.points.push(p);
+        e.rust.points.push(p);
     }
     Ok(e)
 }

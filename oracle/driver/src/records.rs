@@ -1,13 +1,33 @@
-//! The Rust's records, and the numbers of its curves.
+//! The Rust's records, the driver's envelope, and the numbers of the curves.
 pub use source::curve::CurveType;
 pub use source::envelope::{AutomationEnvelope, AutomationPoint};
 
-pub type Envelope = AutomationEnvelope<u32>;
+pub type RustEnvelope = AutomationEnvelope<u32>;
+
+/// An envelope: the Rust's, and beside it the setting `hard` of request F-1, for which that has no room.
+/// What the Rust answers is asked of `rust` by name, so that no answer leaves `hard` out unseen.
+#[derive(Clone, Debug)]
+pub struct Envelope {
+    pub rust: RustEnvelope,
+    pub hard: bool,
+}
+
+impl Envelope {
+    /// As the Rust's, with `hard` off.
+    pub fn new(target: u32) -> Self {
+        Envelope::soft(RustEnvelope::new(target))
+    }
+
+    /// One that the Rust made, with `hard` off.
+    pub fn soft(rust: RustEnvelope) -> Self {
+        Envelope { rust, hard: false }
+    }
+}
 
 /// An envelope that has these points, and nothing else set.
 pub fn of_points(points: &[AutomationPoint]) -> Envelope {
     let mut e = Envelope::new(0);
-    e.points = points.to_vec();
+    e.rust.points = points.to_vec();
     e
 }
 

@@ -1,7 +1,7 @@
 //! Where Rust leaves the sign of a zero open, document 01 fixes it: max and min keep the first of
 //! two equal zeros. The functions here compute an answer by 01's rule, hold it against the Rust's,
-//! and say beside it whether it is such a zero.
-use crate::records::Envelope;
+//! and say beside it whether it is such a zero. With `hard` on, request F-1's rule goes on from there.
+use crate::records::{Envelope, RustEnvelope};
 
 /// A value, and whether it is a zero whose sign the Rust leaves open.
 pub type Marked = (f32, bool);
@@ -29,9 +29,9 @@ pub fn same(rust: f32, (v, open): Marked) -> bool {
     rust.to_bits() == v.to_bits() || (rust.is_nan() && v.is_nan()) || (open && rust == 0.0 && v == 0.0)
 }
 
-/// 01's constraints on a raw value, written from the paper.
-fn constrained(e: &Envelope, raw: f32) -> Marked {
-    let (mut v, mut open) = (raw, false);
+/// The limits that are set: max with the minimum, then min with the maximum.
+fn limited(e: &RustEnvelope, value: f32) -> Marked {
+    let (mut v, mut open) = (value, false);
     if let Some(m) = e.min_value {
         let (w, o) = max(v, m);
         v = w;
@@ -43,7 +43,12 @@ fn constrained(e: &Envelope, raw: f32) -> Marked {
         open |= o;
     }
     // a later bound may have replaced the open zero
-    open &= v == 0.0;
+    (v, open && v == 0.0)
+}
+
+/// 01's constraints on a raw value, written from the paper: the limits, then the step.
+fn constrained(e: &RustEnvelope, raw: f32) -> Marked {
+    let (mut v, open) = limited(e, raw);
     if let Some(s) = e.step_size {
         if s > 0.0 {
             v = libm::roundf(v / s) * s;
@@ -52,9 +57,9 @@ fn constrained(e: &Envelope, raw: f32) -> Marked {
     (v, open && v == 0.0)
 }
 
-/// The envelope without its limits and step.
-pub fn bare(e: &Envelope) -> Envelope {
-    let mut b = e.clone();
+/// The Rust's envelope without its limits and step: its lookups give the raw values.
+pub fn bare(e: &Envelope) -> RustEnvelope {
+    let mut b = e.rust.clone();
     b.min_value = None;
     b.max_value = None;
     b.step_size = None;
@@ -62,23 +67,33 @@ pub fn bare(e: &Envelope) -> Envelope {
 }
 
 /// The lookup by time. `bare` is the envelope without its limits.
-pub fn value_at(e: &Envelope, bare: &Envelope, time: f64) -> Option<Marked> {
-    agreed(e, e.get_value_at(time), bare.get_value_at(time))
+pub fn value_at(e: &Envelope, bare: &RustEnvelope, time: f64) -> Option<Marked> {
+    agreed(e, e.rust.get_value_at(time), bare.get_value_at(time))
 }
 
 /// The lookup by sample.
-pub fn value_at_sample(e: &Envelope, bare: &Envelope, sample: u64) -> Option<Marked> {
-    agreed(e, e.get_value_at_sample(sample), bare.get_value_at_sample(sample))
+pub fn value_at_sample(e: &Envelope, bare: &RustEnvelope, sample: u64) -> Option<Marked> {
+    agreed(
+        e,
+        e.rust.get_value_at_sample(sample),
+        bare.get_value_at_sample(sample),
+    )
 }
 
+/// The value by 01's rule, held against the Rust's. With `hard` on the limits are applied to it again; no
+/// Rust has part in that, so the rule decides the sign of a zero and none is open.
 fn agreed(e: &Envelope, rust: Option<f32>, raw: Option<f32>) -> Option<Marked> {
     hold(
         rust.is_some() == raw.is_some(),
         "limits that make a lookup silent",
     );
-    let v = constrained(e, raw?);
+    let v = constrained(&e.rust, raw?);
     hold(same(rust?, v), "the constraints");
-    Some(v)
+    Some(if e.hard {
+        (limited(&e.rust, v.0).0, false)
+    } else {
+        v
+    })
 }
 
 /// Ends the run where the Rust and 01's rule, as it stands here, give different answers: no list

@@ -5,11 +5,17 @@ use crate::records::{AutomationPoint, Envelope};
 use crate::text;
 
 /// Lines in the place of the first names.
-pub const NAMES: [&str; 4] = [
+pub const NAMES: [&str; 10] = [
     "",
-    "Target enabled min max step",
-    "target enabled min max step ",
+    "Target enabled min max step hard",
+    "target enabled min max step hard ",
+    "target enabled min max step hard step",
     "target enabled min max",
+    "target enabled min max step",
+    "target enabled min max step ",
+    "target enabled min max step  hard",
+    "target enabled min max step Hard",
+    "target enabled min max hard step",
 ];
 /// Lines in the place of the names of a point.
 pub const POINT_NAMES: [&str; 3] = [
@@ -18,27 +24,64 @@ pub const POINT_NAMES: [&str; 3] = [
     "time position value curve cp1 cp3",
 ];
 /// Lines of settings.
-pub const SETTINGS: [&str; 20] = [
-    "00 1 - - -",
-    "4294967295 1 - - -",
-    "4294967296 1 - - -",
-    "99999999999999999999 1 - - -",
-    " 1 - - -",
-    "0 2 - - -",
-    "-1 1 - - -",
-    "0 - - - -",
-    "0 1 3f800000 - -",
-    "0 1 3F8000000 - -",
-    "0 1 3F800000 3F800000 3F80000",
-    "0 1 C0000000 3F800000 3E800000",
+pub const SETTINGS: [&str; 54] = [
+    "00 1 - - - 0",
+    "4294967295 1 - - - 0",
+    "4294967296 1 - - - 0",
+    "99999999999999999999 1 - - - 0",
+    " 1 - - - 0",
+    "0 2 - - - 0",
+    "-1 1 - - - 0",
+    "0 - - - - 0",
+    "0 1 3f800000 - - 0",
+    "0 1 3F8000000 - - 0",
+    "0 1 3F800000 3F800000 3F80000 0",
+    "0 1 C0000000 3F800000 3E800000 0",
+    "0 1 7F800000 - - 0",
+    "0 1 - FF800000 - 0",
+    "0 1 - - 7FC00000 0",
+    "0 1 - - 3F800000 0 -",
+    "0 1 7F800000 - x 0",
+    "0 2 7F800000 - - 0",
+    "0 1 - - 0",
+    "0 0 - - - 0",
+    // hard on, and a step that passes a maximum or a minimum, with hard off and on
+    "0 1 - - - 1",
+    "0 0 - - - 1",
+    "0 1 - 3F000000 3F200000 0",
+    "0 1 - 3F000000 3F200000 1",
+    "0 1 3E800000 - 3F800000 0",
+    "0 1 3E800000 - 3F800000 1",
+    "0 1 3F000000 3E800000 3F200000 0",
+    "0 1 3F000000 3E800000 3F200000 1",
+    "4294967295 0 3F800000 3F800000 3F800000 1",
+    // without it, and with what is no 0 or 1
+    "0 1 - - -",
+    "0 1 - - - ",
+    "0 1 - - - -",
+    "0 1 - - - 2",
+    "0 1 - - - 3",
+    "0 1 - - - 9",
+    "0 1 - - - 00",
+    "0 1 - - - 01",
+    "0 1 - - - 10",
+    "0 1 - - - x",
+    "0 1 - - -  1",
+    "0 1 - - - 1 ",
+    "0 1 - - - 1\r",
+    "0 1 - - - 1 0",
+    "0 1 - - - 00000000",
+    "0 1 1 - - -",
+    // its 9 comes before a limit's 3
     "0 1 7F800000 - -",
-    "0 1 - FF800000 -",
-    "0 1 - - 7FC00000",
-    "0 1 - - 3F800000 -",
-    "0 1 7F800000 - x",
-    "0 2 7F800000 - -",
-    "0 1 - -",
-    "0 0 - - -",
+    "0 1 7F800000 - - 2",
+    "0 1 - FF800000 - -",
+    "0 1 - - 7FC00000 00",
+    "0 1 7F800000 FF800000 7FC00000 x",
+    "0 1 - - 7F800000 1 ",
+    "0 1 7F800000 - - 1",
+    "0 1 - FF800000 - 1",
+    "0 1 - - 7FC00000 1",
 ];
 /// Lines of a point.
 pub const POINTS: [&str; 35] = [
@@ -86,7 +129,7 @@ const REST: [&str; 7] = [
     " ",
     "rate duration\n",
     "rate duration\n3FF0000000000000 4008000000000000\n",
-    "target enabled min max step\n",
+    "target enabled min max step hard\n",
 ];
 
 /// A byte changed, taken out or put in, or a line taken out, put twice or moved.
@@ -138,7 +181,7 @@ pub fn sheet(r: &mut Random) -> Vec<u8> {
         6 | 7 => return spoiled(r, s.into_bytes()),
         8 | 9 => s += r.one_of(&REST),
         10 => {
-            let k = 1 + r.below(3 + e.points.len() as u64);
+            let k = 1 + r.below(3 + e.rust.points.len() as u64);
             let line = match k {
                 1 => r.one_of(&NAMES),
                 2 => r.one_of(&SETTINGS),
@@ -148,10 +191,10 @@ pub fn sheet(r: &mut Random) -> Vec<u8> {
             s = with_line(&s, k as usize, line);
         }
         11 => s = with_line(&s, 2, &settings_line(r)),
-        _ if e.points.is_empty() => s += &(point_line(r, None) + "\n"),
+        _ if e.rust.points.is_empty() => s += &(point_line(r, None) + "\n"),
         _ => {
-            let i = r.below(e.points.len() as u64) as usize;
-            let last = i.checked_sub(1).map(|i| e.points[i].time);
+            let i = r.below(e.rust.points.len() as u64) as usize;
+            let last = i.checked_sub(1).map(|i| e.rust.points[i].time);
             s = with_line(&s, 4 + i, &point_line(r, last));
         }
     }
@@ -168,6 +211,7 @@ fn with_line(text: &str, k: usize, line: &str) -> String {
 /// About 256 points, and what may follow; now and then the last line has a cause of a refusal.
 fn full(r: &mut Random) -> String {
     let mut e = Envelope::new(7);
+    e.hard = r.once_in(2);
     let count = r.one_of(&[255, 256, 256, 256, 256, 257]);
     let long = r.once_in(4);
     for i in 0..count {
@@ -176,7 +220,7 @@ fn full(r: &mut Random) -> String {
             p.sample_position = Some(i);
             p.curve = r.curve();
         }
-        e.points.push(p);
+        e.rust.points.push(p);
     }
     let mut s = text::sheet(&e);
     match r.below(4) {
@@ -243,7 +287,22 @@ fn settings_line(r: &mut Random) -> String {
         s += " ";
         s += &if r.once_in(2) { "-".into() } else { single_field(r) };
     }
+    s += &hard_field(r);
     s + more(r)
+}
+
+/// The space before the last setting, and the setting: now and then one of them isn't there, or it is no 0
+/// or 1.
+fn hard_field(r: &mut Random) -> String {
+    match r.below(24) {
+        0 => String::new(),
+        1 => r.one_of(&[" ", "  0", "  1", "0", "1", " 0 1"]).into(),
+        2 => r
+            .one_of(&[" -", " 00", " 01", " 10", " 11", " x", " -1", " 00000000"])
+            .into(),
+        3 => format!(" {}", 2 + r.below(8)),
+        k => format!(" {}", k % 2),
+    }
 }
 
 /// What stands after a line's last field: mostly nothing.

@@ -35,19 +35,20 @@ fn point(p: &AutomationPoint) -> [u64; 4] {
 /// The state of an envelope.
 pub fn packed(e: &Envelope) -> Vec<u64> {
     let flags = [
-        e.enabled,
-        e.min_value.is_some(),
-        e.max_value.is_some(),
-        e.step_size.is_some(),
+        e.rust.enabled,
+        e.rust.min_value.is_some(),
+        e.rust.max_value.is_some(),
+        e.rust.step_size.is_some(),
+        e.hard,
     ];
     let flags = (0..).zip(flags).map(|(k, set)| (set as u32) << k).sum();
     let mut words = vec![
-        halves(flags, e.target),
-        e.points.len() as u64,
-        halves(bits(e.max_value), bits(e.min_value)),
-        halves(0, bits(e.step_size)),
+        halves(flags, e.rust.target),
+        e.rust.points.len() as u64,
+        halves(bits(e.rust.max_value), bits(e.rust.min_value)),
+        halves(0, bits(e.rust.step_size)),
     ];
-    words.extend(e.points.iter().flat_map(point));
+    words.extend(e.rust.points.iter().flat_map(point));
     words.resize(STATE, 0);
     words
 }

@@ -130,11 +130,16 @@ impl<'a> Words<'a> {
             return Err(format!("not an envelope: {s}"));
         }
         let mut e = Envelope::new(self.decimal()? as u32);
-        e.enabled = self.word()? == "1";
-        e.min_value = self.optional()?;
-        e.max_value = self.optional()?;
-        e.step_size = self.optional()?;
-        e.points = self.points()?;
+        e.rust.enabled = self.word()? == "1";
+        e.rust.min_value = self.optional()?;
+        e.rust.max_value = self.optional()?;
+        e.rust.step_size = self.optional()?;
+        e.hard = match self.word()? {
+            "0" => false,
+            "1" => true,
+            other => return Err(format!("not 0 or 1: {other}")),
+        };
+        e.rust.points = self.points()?;
         if self.word()? != "}" {
             return Err("no }".into());
         }
@@ -222,8 +227,13 @@ fn point(p: &AutomationPoint, open: bool) -> String {
 }
 
 fn settings(e: &Envelope) -> String {
-    let limits = [e.min_value, e.max_value, e.step_size].map(optional).join(" ");
-    format!("{} {} {}", e.target, e.enabled as u8, limits)
+    let limits = [e.rust.min_value, e.rust.max_value, e.rust.step_size]
+        .map(optional)
+        .join(" ");
+    format!(
+        "{} {} {limits} {}",
+        e.rust.target, e.rust.enabled as u8, e.hard as u8
+    )
 }
 
 /// Points and their number, with the values marked that `open` says.
@@ -238,16 +248,16 @@ fn points(list: &[AutomationPoint], open: &[bool]) -> String {
 
 /// An envelope, with the values marked that `open` says.
 pub fn envelope(e: &Envelope, open: &[bool]) -> String {
-    format!("{{ {} {} }}", settings(e), points(&e.points, open))
+    format!("{{ {} {} }}", settings(e), points(&e.rust.points, open))
 }
 
 /// The envelope's sheet, as document 01 has it.
 pub fn sheet(e: &Envelope) -> String {
     let mut s = format!(
-        "target enabled min max step\n{}\ntime position value curve cp1 cp2\n",
+        "target enabled min max step hard\n{}\ntime position value curve cp1 cp2\n",
         settings(e)
     );
-    for p in &e.points {
+    for p in &e.rust.points {
         s += &point(p, false);
         s += "\n";
     }

@@ -154,6 +154,14 @@ pub fn malformed(call: &str, right: &str) -> Vec<String> {
     all
 }
 
+/// The call with each of its envelopes lacking `hard`, their sixth field.
+fn without_hard(call: &str) -> Vec<String> {
+    let words: Vec<&str> = call.split(' ').collect();
+    let lacking = |k: usize| [&words[..k + 6], &words[k + 7..]].concat().join(" ");
+    let braces = (1..words.len()).filter(|&k| words[k] == "{");
+    braces.map(lacking).collect()
+}
+
 /// The call with each opening brace, and each word after the envelopes, as a letter. A switch and a sheet's bytes
 /// are read all the same.
 fn unread(op: &str, call: &str) -> Vec<String> {
@@ -190,18 +198,19 @@ fn kind_of(right: &str) -> (String, bool, bool) {
 
 /// How much an envelope lacks to show all its fields.
 fn envelope_lacks(e: &Envelope) -> usize {
-    let limits = [e.min_value, e.max_value, e.step_size];
+    let limits = [e.rust.min_value, e.rust.max_value, e.rust.step_size];
     let lacks = [
-        !(2..=3).contains(&e.points.len()),
-        !e.points.iter().any(|p| controls(&p.curve).is_some()),
-        !e.points.iter().any(|p| p.sample_position.is_some()),
+        !(2..=3).contains(&e.rust.points.len()),
+        !e.rust.points.iter().any(|p| controls(&p.curve).is_some()),
+        !e.rust.points.iter().any(|p| p.sample_position.is_some()),
         limits.iter().flatten().count() == 0,
         limits.iter().flatten().count() == 3,
-        e.points.windows(2).all(|w| w[0].value == w[1].value),
+        e.rust.points.windows(2).all(|w| w[0].value == w[1].value),
+        !e.hard,
     ];
     lacks
         .iter()
-        .zip([4, 2, 2, 1, 1, 1])
+        .zip([4, 2, 2, 1, 1, 1, 1])
         .map(|(l, weight)| *l as usize * weight)
         .sum()
 }
@@ -277,6 +286,28 @@ pub fn lines_of(cases: &[Case]) -> Vec<String> {
     all
 }
 
+/// Lines with the answer that is right if `hard` of one envelope is turned: for each envelope of the call,
+/// on and off, the shortest whose answers differ.
+fn hard_turned(r: &mut Random, op: &str) -> Vec<String> {
+    let mut best: BTreeMap<(usize, bool), String> = BTreeMap::new();
+    for _ in 0..DRAWN {
+        let a = r.call(op);
+        let right = call(op, &a, false).text;
+        for (k, x) in a.iter().enumerate() {
+            let Arg::E(e) = x else { continue };
+            let (mut turned, hard) = (a.clone(), !e.hard);
+            turned[k] = Arg::E(Envelope { hard, ..e.clone() });
+            let wrong = call(op, &turned, false).text;
+            let line = format!("{op}{} => {wrong}", arguments(&a));
+            let shorter = |other: &String| line.len() < other.len();
+            if !printed::same(&right, &wrong) && best.get(&(k, e.hard)).is_none_or(shorter) {
+                best.insert((k, e.hard), line);
+            }
+        }
+    }
+    best.into_values().filter(|line| line.len() <= LONGEST).collect()
+}
+
 fn of_operation(r: &mut Random, op: &str) -> Vec<String> {
     let cases = chosen(|| {
         let a = r.call(op);
@@ -286,7 +317,11 @@ fn of_operation(r: &mut Random, op: &str) -> Vec<String> {
     let mut all = lines_of(&cases);
     let Case { call, right } = &cases[0];
     all.extend(malformed(call, right));
-    all.extend(unread(op, call).iter().map(|call| format!("{call} => {right}")));
+    let no_calls = [unread(op, call), without_hard(call)].concat();
+    all.extend(no_calls.iter().map(|call| format!("{call} => {right}")));
+    if signature(op).is_some_and(|(kinds, _)| kinds.contains('E')) {
+        all.extend(hard_turned(r, op));
+    }
     let name = another_letter(op);
     assert!(signature(&name).is_none());
     all.push(format!("{name}{} => {right}", &call[op.len()..]));
@@ -317,17 +352,19 @@ fn replaced(op: &str, a: &[Arg], part: &str, other: &str) -> String {
 
 /// Lines wrong in one thing each that no rule above comes to: a byte that is no digit, where a careless reading takes it
 /// for one; a byte that is no space; none for a number; a target past 32 bits; another curve with the same
-/// last digit; one control for the other; a byte of a sheet.
+/// last digit; one control for the other; an envelope or a sheet without `hard`, or with one that is no 0
+/// or 1; a byte of a sheet.
 fn replaced_parts() -> Vec<String> {
     let mut e = Envelope::new(7);
-    e.step_size = Some(0.375);
-    e.points
+    e.rust.step_size = Some(0.375);
+    e.rust
+        .points
         .push(point(0.0, Some(1), 1.0, CurveType::Bezier(0.25, 0.75)));
     let mut plain = e.clone();
-    plain.points[0].curve = curve_of(11, 0.0, 0.0).unwrap();
+    plain.rust.points[0].curve = curve_of(11, 0.0, 0.0).unwrap();
     let kept = |e: &Envelope| vec![Arg::E(e.clone()), Arg::B(true)];
     let mut free = e.clone();
-    free.step_size = None;
+    free.rust.step_size = None;
     let walk = [Arg::E(free), Arg::D(1.0), Arg::D(1.0), Arg::N(1)];
     let sheet = [Arg::E(Envelope::new(7)), Arg::N(200)];
     let digits = ["3f8", "3G8", "3.8", "3:8", "3@8", "3/8"];
@@ -341,6 +378,19 @@ fn replaced_parts() -> Vec<String> {
     all.push(replaced("set_enabled", &kept(&e), "3F400000", "3E800000"));
     all.push(replaced("set_enabled", &kept(&e), "{ 7", "{ 4294967303"));
     all.push(replaced("set_enabled", &kept(&plain), " 11 ", " 01 "));
+    for other in ["", " 1", " 2", " -", " 00", " x", " 0 0"] {
+        all.push(replaced(
+            "set_enabled",
+            &kept(&e),
+            "3EC00000 0",
+            &format!("3EC00000{other}"),
+        ));
+    }
+    let hard = [Arg::E(e.clone()), Arg::B(true)];
+    for other in ["", " 0", " 2", " -", " 01", " 11", " x", " 1 1"] {
+        let part = format!("3EC00000{other}");
+        all.push(replaced("set_hard", &hard, "3EC00000 1", &part));
+    }
     all.push(replaced("walk", &walk, "3F800000/", "-/"));
     all.push(replaced("walk", &walk, "3F800000/", "3F800000|"));
     for (part, other) in [
@@ -349,13 +399,20 @@ fn replaced_parts() -> Vec<String> {
         (" enabled", "|enabled"),
         ("|", " "),
         ("cp2|", "cp2x"),
+        (" hard|", "|"),
+        (" hard|", " harc|"),
+        ("- 0|", "-|"),
+        ("- 0|", "- 1|"),
+        ("- 0|", "- 2|"),
+        ("- 0|", "- -|"),
     ] {
         all.push(replaced("sheet", &sheet, part, other));
     }
     all
 }
 
-/// Lines whose call can't be run: curves that are none, bytes that are none, and more than the replay has room for.
+/// Lines whose call can't be run: curves that are none, bytes that are none, `hard` that is no 0 or 1, and
+/// more than the replay has room for.
 fn not_run() -> Vec<String> {
     let e = || Arg::E(Envelope::new(7));
     let one_more = Arg::N(1025);
@@ -393,6 +450,17 @@ fn not_run() -> Vec<String> {
         let other = arguments(&linear).replacen("00", code, 1);
         all.push(format!("interpolate{other} => {right}"));
     }
+    // the answer with `hard` on: another word is not taken for a 1
+    let mut stop = Envelope::new(7);
+    (stop.rust.max_value, stop.rust.step_size, stop.hard) = (Some(1.0), Some(0.625), true);
+    stop.rust.points.push(point(0.0, None, 1.0, CurveType::Linear));
+    let stop = [Arg::E(stop), Arg::D(0.0)];
+    let right = call("value_at", &stop, false).text;
+    assert!(right == "ok some 3F800000", "{right}");
+    for other in ["2", "x", "-", "00"] {
+        let other = arguments(&stop).replacen("3F200000 1", &format!("3F200000 {other}"), 1);
+        all.push(format!("value_at{other} => {right}"));
+    }
     all.push("read_sheet".into());
     all.push("read_sheet \\G0 => refuse 9 1".into());
     all.push("read_sheet \\0G => refuse 9 1".into());
@@ -403,7 +471,7 @@ fn not_run() -> Vec<String> {
 fn long_answers() -> Vec<String> {
     let mut e = Envelope::new(7);
     let sawtooth = |k| point(k as f64, None, (k % 2) as f32, CurveType::Linear);
-    e.points.extend((0..256).map(sawtooth));
+    e.rust.points.extend((0..256).map(sawtooth));
     let e = || Arg::E(e.clone());
     let whole = [0, 1024, 0, 1024].map(Arg::N);
     let calls = [

@@ -84,12 +84,13 @@ impl<W: Write> Script<'_, W> {
     /// Edits and steps, each field of their answers.
     fn edits_and_steps(&mut self) -> Result<()> {
         let mut second = Envelope::new(1);
-        second.points.push(point(3.0, None, 0.25, CurveType::SCurve));
+        second.rust.points.push(point(3.0, None, 0.25, CurveType::SCurve));
         let merge = edit("merge", &[Arg::E(second.clone()), Arg::D(0.5)]);
         let third = add(point(2.0, Some(96000), 1.0, CurveType::Back));
         self.all(&[OPEN])?;
         self.start()?;
         self.all(&[&third, "back"])?;
+        self.all(&[&edit("set_hard", &[Arg::B(true)]), "back"])?;
         self.all(&[&merge, "back"])?;
         self.all(&["forward", "back"])?;
         self.all(&["len 3100 forward", "len 3100 back"])?;
@@ -113,7 +114,10 @@ impl<W: Write> Script<'_, W> {
         self.wrong("open 0 20480", 0)?;
         self.wrong(&edit("set_enabled", &[Arg::B(false)]), 0)?;
         self.all(&["words 1028 1028"])?;
-        self.all(&["slot 0"])
+        self.all(&["slot 0"])?;
+        self.wrong(&edit("set_hard", &[Arg::B(true)]), 0)?;
+        self.wrong(&edit("set_enabled", &[Arg::B(true)]), 0)?;
+        self.all(&["slot 2"])
     }
 
     /// A refusal of each number that a session has.
@@ -127,7 +131,7 @@ impl<W: Write> Script<'_, W> {
             self.all(&[call])?;
         }
         let mut bad = Envelope::new(1);
-        bad.step_size = Some(f32::NAN);
+        bad.rust.step_size = Some(f32::NAN);
         self.all(&[&edit("add", &[Arg::E(bad.clone())])])?;
         self.all(&[&format!("len 5 {}", edit("add", &[Arg::E(bad)]))])?;
         self.all(&[&edit("scale", &[Arg::F(f32::INFINITY)])])?;
