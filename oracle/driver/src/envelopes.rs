@@ -5,6 +5,7 @@ use crate::domain::key;
 use crate::edges::{bits, near, near_double, sign};
 use crate::random::Random;
 use crate::records::{controls, AutomationPoint, CurveType, Envelope};
+use crate::text::Arg;
 
 /// What an envelope's times have in common.
 #[derive(Clone, Copy)]
@@ -228,9 +229,15 @@ impl Random {
         }
     }
 
-    /// Limits about the values, and a step that mostly passes one of them: what `hard` is for.
+    /// Limits about the values, and a step that mostly passes one of them: what `hard` is for. Now and then
+    /// the values between two points are NaN.
     fn stops(&mut self, e: &mut Envelope) {
-        let (v, w) = (self.stop(e), self.stop(e));
+        let (v, w) = if self.once_in(6) {
+            self.widen(e);
+            (self.single(), self.single())
+        } else {
+            (self.stop(e), self.stop(e))
+        };
         let (low, high) = (v.min(w), v.max(w));
         let (min, max) = match self.below(12) {
             0..=3 => (Some(low), Some(high)),
@@ -244,12 +251,34 @@ impl Random {
                 self.one_of(&[(zero, Some(high.abs())), (Some(-low.abs()), zero), (zero, other)])
             }
         };
-        let lowest = min.map(|m| (m, m < 0.0));
-        let highest = max.map(|m| (m, m > 0.0));
-        let bounds: Vec<(f32, bool)> = lowest.into_iter().chain(highest).collect();
-        let (bound, outwards) = self.one_of(&bounds);
-        let step = self.passing(bound, outwards);
-        (e.rust.min_value, e.rust.max_value, e.rust.step_size) = (min, max, Some(step));
+        (e.rust.min_value, e.rust.max_value) = (min, max);
+        e.rust.step_size = self.passing(e);
+    }
+
+    /// Values so far apart that their differences are infinite; times 0, as Stepped curves have it up to the
+    /// next point, that is a NaN.
+    fn widen(&mut self, e: &mut Envelope) {
+        let mut side = sign(self) as f32;
+        for p in &mut e.rust.points {
+            side = -side;
+            p.value = side * f32::MAX * (1.0 - self.unit() as f32 / 4.0);
+            p.curve = if self.once_in(4) {
+                self.curve()
+            } else {
+                CurveType::Stepped
+            };
+        }
+    }
+
+    /// The edit that an envelope lacks for a step that passes a limit and is held: a limit, then a step, then
+    /// `hard`, which is also turned off again.
+    pub fn stop_edit(&mut self, e: &Envelope) -> (&'static str, Vec<Arg>) {
+        let stop = Arg::O(Some(self.stop(e)));
+        match (self.passing(e), e.rust.step_size) {
+            (None, _) => (self.one_of(&["set_min", "set_max"]), vec![stop]),
+            (step, None) => ("set_step", vec![Arg::O(step)]),
+            _ => ("set_hard", vec![Arg::B(!e.hard || self.once_in(2))]),
+        }
     }
 
     /// A limit: a value of a point, one beside it or near it, one between two, or any other.
@@ -276,10 +305,18 @@ impl Random {
         }
     }
 
-    /// A step, above 0, that doesn't divide a bound, and mostly passes it away from 0, or towards 0: the bound
-    /// lies halfway between two of its steps or beside that, past the half, short of it, below a step. Or one so
-    /// small that a quotient overflows, a large one, a plain one.
-    fn passing(&mut self, bound: f32, away: bool) -> f32 {
+    /// A step, above 0, that doesn't divide one of the limits, if there is any, and mostly passes it: the
+    /// limit lies halfway between two of its steps or beside that, past the half, short of it, below a step.
+    /// Or one so small that a quotient overflows, a large one, a plain one.
+    fn passing(&mut self, e: &Envelope) -> Option<f32> {
+        // a step passes a limit away from 0 or towards it
+        let lowest = e.rust.min_value.map(|m| (m, m < 0.0));
+        let highest = e.rust.max_value.map(|m| (m, m > 0.0));
+        let limits: Vec<(f32, bool)> = lowest.into_iter().chain(highest).collect();
+        if limits.is_empty() {
+            return None;
+        }
+        let (limit, away) = self.one_of(&limits);
         let away = away != self.once_in(5);
         let whole = self.one_of(&[0, 0, 0, 0, 1, 1, 2, 3, 7, 40]) as f32;
         let part = match self.below(6) {
@@ -291,14 +328,10 @@ impl Random {
             0 => f32::from_bits(1 + self.below(16) as u32),
             1 => self.unit() as f32 * f32::MAX,
             2 | 3 => self.one_of(&[0.1, 0.25, 0.625, 1.0, 3.0]),
-            4 => near(self, bound / (whole + part), 1).abs(),
-            _ => (bound / (whole + part)).abs(),
+            4 => near(self, limit / (whole + part), 1).abs(),
+            _ => (limit / (whole + part)).abs(),
         };
-        if x.is_finite() && x > 0.0 {
-            x
-        } else {
-            0.625
-        }
+        Some(if x.is_finite() && x > 0.0 { x } else { 0.625 })
     }
 
     // ---- envelopes that are not valid

@@ -2,7 +2,7 @@
 //! that document 01 fixes.
 use crate::random::Random;
 use crate::reader::read_play;
-use crate::records::{AutomationPoint, Envelope};
+use crate::records::{AutomationPoint, CurveType, Envelope};
 use crate::rules::{bare, value_at};
 use crate::sheets::{spoiled, NAMES, POINTS, POINT_NAMES, SETTINGS};
 use crate::text::{double, sheet, shown, single};
@@ -239,12 +239,36 @@ fn around(r: &mut Random, counts: std::ops::RangeInclusive<u64>) -> Vec<Vec<u8>>
     all
 }
 
-/// Writes n.in and n.out, from 1 on: the fixed inputs, those around 256 points, and so many random ones.
+/// The longest input that plays, 16,541 bytes, of whose samples `hard` decides some; with something after it,
+/// and cut short.
+fn longest(r: &mut Random) -> Vec<Vec<u8>> {
+    let mut e = Envelope::new(u32::MAX);
+    (e.rust.min_value, e.rust.max_value) = (Some(0.25), Some(0.75));
+    (e.rust.step_size, e.hard) = (Some(0.5), true);
+    e.rust.points.extend((0..256).map(|i| AutomationPoint {
+        time: i as f64,
+        sample_position: Some(i),
+        value: r.unit() as f32,
+        curve: CurveType::Bezier(r.unit() as f32, r.unit() as f32),
+    }));
+    let whole = input(&e, 1.0, 20.0);
+    assert!(whole.len() == 16_541);
+    let mut all: Vec<Vec<u8>> = ["", "x", "\n", "xx"]
+        .iter()
+        .map(|rest| [&whole[..], rest.as_bytes()].concat())
+        .collect();
+    all.extend([1, 2, 34, 35, 36].map(|cut| whole[..whole.len() - cut].to_vec()));
+    all
+}
+
+/// Writes n.in and n.out, from 1 on: the fixed inputs, those around 256 points, the longest, and so many
+/// random ones.
 pub fn write(folder: &Path, seed: u64, count: u64) -> Result<()> {
     let mut r = Random(seed);
     let mut all = fixed(&[DIGITS.as_slice(), &OTHERS].concat());
     all.extend(long());
     all.extend(around(&mut r, 255..=258));
+    all.extend(longest(&mut r));
     for _ in 0..count {
         let input = random(&mut r);
         if r.once_in(3) {
@@ -279,11 +303,12 @@ pub fn expected(output: &str) -> String {
     format!("# {:016X} {:016X}", bytes.len(), sum(bytes))
 }
 
-/// Writes lines `input => output`: the fixed inputs with each byte at a digit's place, and those around
-/// 256 points.
+/// Writes lines `input => output`: the fixed inputs with each byte at a digit's place, those around 256
+/// points, and the longest.
 pub fn fixed_list(out: &mut impl Write, seed: u64) -> Result<()> {
-    let mut all = fixed(&DIGITS);
-    all.extend(around(&mut Random(seed), 256..=257));
+    let (mut r, mut all) = (Random(seed), fixed(&DIGITS));
+    all.extend(around(&mut r, 256..=257));
+    all.extend(longest(&mut r));
     lines(out, all)
 }
 

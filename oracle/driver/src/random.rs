@@ -265,7 +265,10 @@ impl Random {
     }
 
     /// An edit of a session without its first envelope: its name and arguments.
-    fn session_edit(&mut self) -> (&'static str, Vec<Arg>) {
+    fn session_edit(&mut self, e: &Envelope) -> (&'static str, Vec<Arg>) {
+        if self.once_in(4) {
+            return self.stop_edit(e);
+        }
         let op = if self.once_in(8) {
             "add_point"
         } else {
@@ -295,7 +298,7 @@ impl Random {
 
     /// A call of a session, and the words that follow its name. What can't be asked now is an edit.
     pub fn session_call(&mut self, s: &Session) -> (String, Vec<Arg>) {
-        let (op, a) = self.session_edit();
+        let (op, a) = self.session_edit(&s.envelope());
         let edit = (format!("edit {op}"), a.clone());
         match self.session_word() {
             "edit" => edit,

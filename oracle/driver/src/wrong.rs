@@ -298,14 +298,21 @@ fn hard_turned(r: &mut Random, op: &str) -> Vec<String> {
             let (mut turned, hard) = (a.clone(), !e.hard);
             turned[k] = Arg::E(Envelope { hard, ..e.clone() });
             let wrong = call(op, &turned, false).text;
+            // not in a mark alone, with which no answer is compared
+            if printed::same(&right.replace('~', ""), &wrong) {
+                continue;
+            }
             let line = format!("{op}{} => {wrong}", arguments(&a));
-            let shorter = |other: &String| line.len() < other.len();
-            if !printed::same(&right, &wrong) && best.get(&(k, e.hard)).is_none_or(shorter) {
+            if best
+                .get(&(k, e.hard))
+                .is_none_or(|other| line.len() < other.len())
+            {
                 best.insert((k, e.hard), line);
             }
         }
     }
-    best.into_values().filter(|line| line.len() <= LONGEST).collect()
+    let lines: BTreeSet<String> = best.into_values().collect();
+    lines.into_iter().filter(|line| line.len() <= LONGEST).collect()
 }
 
 fn of_operation(r: &mut Random, op: &str) -> Vec<String> {

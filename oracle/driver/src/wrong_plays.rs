@@ -1,5 +1,6 @@
 //! Wrong lines of a list of plays: each field of an output wrong by itself, an output where a refusal is
-//! due and the other way round, another refusal, and outputs that are cut short or too long.
+//! due and the other way round, another refusal, outputs that are cut short or too long, and outputs with
+//! `hard` the other way.
 use crate::plays::{causes, envelope, expected, full_with, output, over_all, EXAMPLE};
 use crate::printed::{of_play, Verdict};
 use crate::random::Random;
@@ -56,6 +57,16 @@ fn inputs(r: &mut Random) -> Vec<Vec<u8>> {
     all
 }
 
+/// The example with a step that passes a maximum, `hard` off and on, each with the other's output.
+fn hard_turned() -> [String; 2] {
+    let with = |hard: &str| EXAMPLE.replace("0 1 - - - 0", &format!("0 1 - 3F000000 3F200000 {hard}"));
+    let line = |a: &str, b: &str| {
+        let wrong = expected(&output(with(b).as_bytes()));
+        format!("{} => {wrong}", shown(with(a).as_bytes()))
+    };
+    [line("0", "1"), line("1", "0")]
+}
+
 /// Writes the wrong lines of a list of plays. One of the lines is too long.
 pub fn write(out: &mut impl Write, seed: u64) -> Result<()> {
     let mut r = Random(seed);
@@ -70,6 +81,7 @@ pub fn write(out: &mut impl Write, seed: u64) -> Result<()> {
         all.push(format!("{input} =>{right}"));
         all.push(format!("{input} = {right}"));
     }
+    all.extend(hard_turned());
     // inputs that are no bytes: a careless reading takes each for one byte or none, which is refused so
     for bad in ["\\G0", "\\0G", "\\"] {
         all.push(format!("{bad} => refusal line|9 1|"));
