@@ -1,4 +1,4 @@
--- 01's "Proved examples", the part that is the ranges': P12.
+-- 01's "Proved examples", the part that is the ranges': P12. And that hard leaves the raw values of points raw.
 use mathlib.Core.Path.{_≡_, refl}
 use mathlib.Core.Bool.{true}
 use mathlib.Core.List.{[], _∷_}
@@ -11,7 +11,7 @@ use Rattle.points.specs.Points.{holding, every, risingBy, validPoints}
 use Rattle.points.specs.Refusal.{gives}
 use Rattle.limits.specs.Limits.{constrained}
 use Rattle.lookup.specs.Lookup.{foundAt}
-use Rattle.lookup.specs.Examples.{at, limits, t0, t1}
+use Rattle.lookup.specs.Examples.{at, limits, hardened, t0, t1}
 use Rattle.lookup.specs.Runs.{run}
 use Rattle.limits.specs.declared.Limit.the-variants as limit
 use Rattle.analysis.specs.Analysis.{givenValues, rangeOf, rawInside, getRange}
@@ -20,3 +20,8 @@ use Rattle.analysis.specs.Analysis.{givenValues, rangeOf, rawInside, get
 pub p12 : getRange (holding (at t0 f2 ∷ [])) true (limits (limit.Number f1) limit.None) t0 t1 ≡ gives (some (f1, f2))
 unfolding getRange rangeOf givenValues rawInside run validPoints every risingBy foundAt constrained finite finiteControls controls code ofBits minNum maxNum isNan lt le
 p12 = refl
+
+-- the same with hard on: F-1 is of "every value found by lookup", and the point's own value is raw
+pub p12-hard : getRange (holding (at t0 f2 ∷ [])) true (hardened (limits (limit.Number f1) limit.None)) t0 t1 ≡ gives (some (f1, f2))
+unfolding getRange rangeOf givenValues rawInside run validPoints every risingBy foundAt constrained finite finiteControls controls code ofBits minNum maxNum isNan lt le
+p12-hard = refl

@@ -1,22 +1,24 @@
 -- What is promised beyond the functions' contracts: statements alone, each proved by the law that its comment names.
 use Prim.Native.Nat.{ℕ, _+_, _<_}
 use mathlib.Core.Path.{_≡_}
-use mathlib.Core.Bool.{true}
+use mathlib.Core.Bool.{Bool, true}
 use mathlib.Core.List.{List}
-use mathlib.Core.Option.{some}
+use mathlib.Core.Option.{none, some}
 use lib.ListN.{getD}
-use lib.Ieee.{Float, nan}
+use lib.Ieee.{Float, nan, binary32, ofBits}
 use Rattle.points.specs.Refusal.{gives, refuses}
+use Rattle.points.specs.declared.AutomationPoint.{AutomationPoint}
 use Rattle.limits.specs.Limits.{liesBetween}
 use Rattle.limits.specs.Promised.{Holding}
 use Rattle.render.specs.Render.{sampleTime, sampleCount}
 use Rattle.render.specs.declared.SampleIterator.{SampleIterator}
 use Rattle.envelope.specs.Envelope.{limitsOf, validEnvelope}
-use Rattle.envelope.specs.Calls.{valueAtOf, valueAtSampleOf, renderOf, toBufferOf, nextSampleOf}
-use Rattle.envelope.specs.Edit.{EditTold, editOf, joinOf}
+use Rattle.envelope.specs.Calls.{valueAtOf, valueAtSampleOf, samplesOf, renderOf, toBufferOf, nextSampleOf, findMiddlesOf}
+use Rattle.envelope.specs.Edit.{EditTold, withSettings, editOf, joinOf}
 use Rattle.envelope.specs.declared.AutomationEnvelope.{AutomationEnvelope}
 use Rattle.envelope.specs.declared.edit.Edit.{Edit}
 use Rattle.envelope.specs.declared.edit.Join.{Join}
+use Rattle.envelope.specs.declared.edit.Join.the-variants.{Merge}
 
 -- an edit of e came to t: accepted it leaves a valid envelope; "A refusal returns its number .. and changes nothing"; the target stays, "given the target the envelope has"
 pub record Fair (e : AutomationEnvelope) (t : EditTold) : Type 0 where
@@ -49,3 +51,32 @@ pub record Between (e : AutomationEnvelope) (low high : Float) : Type 0 where
 -- 02, F-1: "With both set, minimum at most maximum, every value found by lookup then lies between them" (`hard-between`, proofs/HardLaws)
 abbrev pub HardBetween : Type 0
 HardBetween = (e : AutomationEnvelope) (low high : Float) → Holding (limitsOf e) low high → Between e low high
+
+-- the same envelope with hard on or off
+abbrev pub hardAs : Bool → AutomationEnvelope → AutomationEnvelope
+hardAs on e = withSettings e (e .enabled) (record { «min_value» = e .«min_value»; «max_value» = e .«max_value»; «step_size» = e .«step_size»; hard = on })
+
+-- two edits say the same and leave the same points
+abbrev pub Alike : EditTold → EditTold → Type 0
+Alike a b = (a .said ≡ b .said) × (a .envelope .points ≡ b .envelope .points)
+
+-- F-1 speaks of values found by lookup. What else there is stays as it is with hard on or off:
+pub record Aside (e : AutomationEnvelope) (on : Bool) : Type 0 where
+  -- validity
+  pub valid : validEnvelope (hardAs on e) ≡ validEnvelope e
+  -- silence, and the 0.0 of a silent sample, wherever the limits lie
+  pub silent : (time : Float) → valueAtOf e time ≡ gives none → valueAtOf (hardAs on e) time ≡ gives none
+  pub silentSample : (sample : ℕ) → valueAtSampleOf e sample ≡ gives none → valueAtSampleOf (hardAs on e) sample ≡ gives none
+  pub silentZero : (rate : Float) (i : ℕ) → valueAtOf e (sampleTime rate i) ≡ gives none → samplesOf (hardAs on e) rate i ≡ ofBits binary32 0
+  -- a lookup's refusals
+  pub refused : (sample n : ℕ) → valueAtSampleOf e sample ≡ refuses n → valueAtSampleOf (hardAs on e) sample ≡ refuses n
+  -- peaks and valleys
+  pub middles : (q : AutomationPoint → AutomationPoint → AutomationPoint → Bool) (times values : List Float) → findMiddlesOf q (hardAs on e) times values ≡ findMiddlesOf q e times values
+  -- what an edit says, and the points that it leaves; and those of merge, into the envelope and out of it
+  pub edits : (d : Edit) → Alike (editOf d (hardAs on e)) (editOf d e)
+  pub merges : (offset : Float) (other : AutomationEnvelope) → Alike (joinOf (Merge offset) (hardAs on e) other) (joinOf (Merge offset) e other)
+  pub merged : (offset : Float) (other : AutomationEnvelope) → joinOf (Merge offset) other (hardAs on e) ≡ joinOf (Merge offset) other e
+
+-- so of every envelope (`hard-aside`, proofs/HardLaws)
+abbrev pub HardAside : Type 0
+HardAside = (e : AutomationEnvelope) (on : Bool) → Aside e on

@@ -1,7 +1,7 @@
 -- What hard means for a value: off, the step comes last; on, with both limits set and minimum at most maximum, it lies between them. Assumes nothing.
 -- The larger of anything and the minimum is a number not below it, a NaN giving the minimum; the smaller of that and the maximum is still not below the minimum.
 use mathlib.Core.Path.{_≡_, refl, sym, ap, _∙_}
-use mathlib.Core.Bool.{Bool, true, false, not, cond, _&&_, false≢true}
+use mathlib.Core.Bool.{Bool, true, false, not, cond, false≢true}
 use lib.Ieee.{Float, lt, le, isNan}
 use Rattle.numbers.specs.Bounds.{maxNum, minNum}
 use Rattle.numbers.proofs.Compare.{le-not, le-self, le-left, le-right}
