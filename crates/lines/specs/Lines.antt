@@ -43,17 +43,18 @@ abbrev pub check : {A : Type 0} → Bool → ℕ → Said A → Said A
 check true n x = x
 check false n x = refuses n
 
--- ---- "target enabled min max step"
+-- ---- "target enabled min max step", and "a column after step in the sheet (named hard, 0 or 1; a sheet without it gives 9 ..)" (F-1)
 
--- "Enabled: 0 or 1": one digit of base 2
+-- "Enabled: 0 or 1": one digit of base 2, and so is hard
 unfoldable pub settingsForm : List ℕ → Got RawSettings
 settingsForm l =
     then (targetForm l) (λ target l1.
     then (numberForm 2 1 space l1) (λ enabled l2.
     then (optionalForm 8 space l2) (λ min l3.
     then (optionalForm 8 space l3) (λ max l4.
-    then (optionalForm 8 newline l4) (λ step l5.
-    got (record { target = target; enabled = enabled; min = min; max = max; step = step }) l5)))))
+    then (optionalForm 8 space l4) (λ step l5.
+    then (numberForm 2 1 newline l5) (λ hard l6.
+    got (record { target = target; enabled = enabled; min = min; max = max; step = step; hard = hard }) l6))))))
 
 -- an f32 from its bits, or none
 unfoldable pub limitOf : Optional → Limit
@@ -71,7 +72,7 @@ settingsMeaning r =
     check (finiteBits (r .min)) 3
     (check (finiteBits (r .max)) 3
     (check (finiteBits (r .step)) 3
-    (gives (record { target = r .target; enabled = eqb (r .enabled) 1; min = limitOf (r .min); max = limitOf (r .max); step = limitOf (r .step) }))))
+    (gives (record { target = r .target; enabled = eqb (r .enabled) 1; min = limitOf (r .min); max = limitOf (r .max); step = limitOf (r .step); hard = eqb (r .hard) 1 }))))
 
 -- the settings line: 9 for its form, then 3
 unfoldable pub settingsLine : List ℕ → Line Settings

@@ -137,6 +137,11 @@ unfoldable pub numberEnd : Number → ℕ
 numberEnd number.Bad = 0
 numberEnd (number.Is v next) = next
 
+-- after a number of 32 bits
+unfoldable pub singleEnd : Single → ℕ
+singleEnd single.Bad = 0
+singleEnd (single.Is v next) = next
+
 -- after a number or a dash
 unfoldable pub optionalEnd : OptionalAt → ℕ
 optionalEnd optionalAt.Bad = 0

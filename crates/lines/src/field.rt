@@ -4,7 +4,7 @@ ghost use Prim.Native.Nat.{_^_, _<_, _≤_};
 ghost use lib.ListN.{length, drop};
 ghost use Rattle.fields.specs.Form.{numberForm, optionalForm, decimals, nextDigit, targetForm};
 ghost use Rattle.fields.specs.Told.{DigitTable};
-ghost use Rattle.lines.specs.Told.{toldNumber, toldSingle, toldOptional, numberEnd, optionalEnd};
+ghost use Rattle.lines.specs.Told.{toldNumber, toldSingle, toldOptional, numberEnd, singleEnd, optionalEnd};
 use fields::Optional;
 
 pub enum Number {
@@ -58,6 +58,7 @@ pub(crate) fn single_at(
     requires { ⌜ DigitTable (now t) ⌝ }
     requires { ⌜ (0 < width) × (base ^ width ≤ 2 ^ 32) ⌝ }
     ensures { λ r. ⌜ toldSingle (now (s .entry)) r ≡ numberForm base width end (drop at (now (s .entry))) ⌝ }
+    ensures { λ r. ⌜ singleEnd r ≤ length (now (s .entry)) ⌝ }
 {
     match number_at(t, s, at, base, width, end) {
         Number::Is(v, next) => Single::Is(v as u32, next),

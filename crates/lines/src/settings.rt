@@ -19,6 +19,7 @@ pub struct RawSettings {
     pub min: Optional,
     pub max: Optional,
     pub step: Optional,
+    pub hard: u32,
 }
 
 pub enum SettingsForm {
@@ -32,6 +33,7 @@ pub struct Settings {
     pub min: Limit,
     pub max: Limit,
     pub step: Limit,
+    pub hard: bool,
 }
 
 pub enum SettingsSaid {
@@ -61,7 +63,10 @@ fn settings_form(t: &[u8; 256], s: &[u8], at: usize) -> SettingsForm
     let OptionalAt::Is(max, at5) = crate::field::optional_at(t, s, at4, 8, b' ') else {
         return SettingsForm::Bad;
     };
-    let OptionalAt::Is(step, next) = crate::field::optional_at(t, s, at5, 8, b'\n') else {
+    let OptionalAt::Is(step, at6) = crate::field::optional_at(t, s, at5, 8, b' ') else {
+        return SettingsForm::Bad;
+    };
+    let Single::Is(hard, next) = crate::field::single_at(t, s, at6, 2, 1, b'\n') else {
         return SettingsForm::Bad;
     };
     SettingsForm::Is(
@@ -71,6 +76,7 @@ fn settings_form(t: &[u8; 256], s: &[u8], at: usize) -> SettingsForm
             min,
             max,
             step,
+            hard,
         },
         next,
     )
@@ -123,6 +129,7 @@ fn settings_of(r: RawSettings) -> SettingsSaid
         min: low,
         max: high,
         step: grid,
+        hard: r.hard == 1,
     })
 }
 

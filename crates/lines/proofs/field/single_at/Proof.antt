@@ -1,14 +1,16 @@
+-- `lines::field::single_at` meets its contract: by what `number_at` ensures; a number below 2^32 fits (`number-lt`). Assumes nothing.
 use mathlib.Core.Path.{sym}
 use native.Mathlib.Omega.{arith}
-use Rattle.lines.specs.Told.{toldNumber, toldSingle}
+use Rattle.lines.specs.Told.{toldNumber, toldSingle, numberEnd, singleEnd}
 use Rattle.fields.proofs.Fields.{told}
 use Rattle.fields.proofs.ReadDigits.{number-lt}
+use Rattle.lines.proofs.Ends.{reached}
 use borrow.Author.Needs.{needs}
 use Rattle.lines.proofs.field.single_at.Statement.{statement}
 use Rattle.lines.proofs.field.single_at.Tie as tie
 
 number-at-requires : tie.Need-number-at-requires
-number-at-requires c κs = (c .before .pre .0, (c .before .pre .1 .0, omega (arith, c .before .pre .1 .1)))
+number-at-requires c κs = search needs
 
 enum-known-v : tie.Need-enum-known-v
 enum-known-v c = search needs
@@ -25,12 +27,16 @@ enum-told : tie.Need-enum-told
 enum-told c = search needs
 
 returns : tie.Need-returns
-unfolding toldNumber toldSingle
-returns c = sym (told (toldNumber _) (c .before .before .before .number-at .ensures .0) (c .before .v .given .1))
+unfolding toldNumber toldSingle numberEnd singleEnd
+returns c =
+    let number-at = c .before .before .before .number-at in
+    (sym (told (toldNumber _) (number-at .ensures .0) (c .before .v .given .1)), reached numberEnd (number-at .ensures .1) (c .before .v .given .1))
 
 returns-2 : tie.Need-returns-2
-unfolding toldNumber toldSingle
-returns-2 c = sym (told (toldNumber _) (c .before .before .number-at .ensures .0) (c .enum-told .given .1))
+unfolding toldNumber toldSingle singleEnd
+returns-2 c =
+    let number-at = c .before .before .number-at in
+    (sym (told (toldNumber _) (number-at .ensures .0) (c .enum-told .given .1)), omega arith)
 
 pub single-at-spec : {M : Type 1} → statement M
 single-at-spec =

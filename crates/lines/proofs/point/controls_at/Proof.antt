@@ -27,7 +27,7 @@ unfolding controlsForm toldControls toldSingle
 returns c =
     let if1 = c .before .before .before .if1 in
     let single-at = c .before .before .single-at in
-    rw (eq-eqb _ 5 (if1 .taken), told (toldSingle _) (single-at .ensures) (c .enum-told .given .1))
+    rw (eq-eqb _ 5 (if1 .taken), told (toldSingle _) (single-at .ensures .0) (c .enum-told .given .1))
 
 single-at-requires-2 : tie.Need-single-at-requires-2
 single-at-requires-2 c κs = search needs
@@ -45,7 +45,7 @@ returns-2 c =
     let single-at = c .before .before .before .before .before .before .single-at in
     let cp1 = c .before .before .before .before .cp1 in
     let single-at2 = c .before .before .single-at2 in
-    rw (eq-eqb _ 5 (if1 .taken), told (toldSingle _) (single-at .ensures) (cp1 .given .1), told (toldSingle _) (single-at2 .ensures) (c .enum-told2 .given .1))
+    rw (eq-eqb _ 5 (if1 .taken), told (toldSingle _) (single-at .ensures .0) (cp1 .given .1), told (toldSingle _) (single-at2 .ensures .0) (c .enum-told2 .given .1))
 
 returns-3 : tie.Need-returns-3
 unfolding controlsForm toldControls toldSingle
@@ -54,7 +54,7 @@ returns-3 c =
     let single-at = c .before .before .before .before .before .before .before .single-at in
     let cp1 = c .before .before .before .before .before .cp1 in
     let single-at2 = c .before .before .before .single-at2 in
-    rw (eq-eqb _ 5 (if1 .taken), told (toldSingle _) (single-at .ensures) (cp1 .given .1), told (toldSingle _) (single-at2 .ensures) (c .before .cp2 .given .1))
+    rw (eq-eqb _ 5 (if1 .taken), told (toldSingle _) (single-at .ensures .0) (cp1 .given .1), told (toldSingle _) (single-at2 .ensures .0) (c .before .cp2 .given .1))
 
 slice-aggregate-starts-with : tie.Need-slice-aggregate-starts-with
 slice-aggregate-starts-with c = search needs

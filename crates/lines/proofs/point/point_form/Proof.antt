@@ -55,7 +55,7 @@ returns-3 c =
     rw (
       told (toldNumber _) (number-at .ensures .0) (time .given .1),
       told (toldOptional _) (optional-at .ensures .0) (position .given .1),
-      told (toldSingle _) (single-at .ensures) (c .enum-told3 .given .1),
+      told (toldSingle _) (single-at .ensures .0) (c .enum-told3 .given .1),
     )
 
 single-at-requires-2 : tie.Need-single-at-requires-2
@@ -80,8 +80,8 @@ returns-4 c =
     rw (
       told (toldNumber _) (number-at .ensures .0) (time .given .1),
       told (toldOptional _) (optional-at .ensures .0) (position .given .1),
-      told (toldSingle _) (single-at .ensures) (value .given .1),
-      told (toldSingle _) (single-at2 .ensures) (c .enum-told4 .given .1),
+      told (toldSingle _) (single-at .ensures .0) (value .given .1),
+      told (toldSingle _) (single-at2 .ensures .0) (c .enum-told4 .given .1),
     )
 
 controls-at-requires : tie.Need-controls-at-requires
@@ -108,8 +108,8 @@ returns-5 c =
     rw (
       told (toldNumber _) (number-at .ensures .0) (time .given .1),
       told (toldOptional _) (optional-at .ensures .0) (position .given .1),
-      told (toldSingle _) (single-at .ensures) (value .given .1),
-      told (toldSingle _) (single-at2 .ensures) (curve .given .1),
+      told (toldSingle _) (single-at .ensures .0) (value .given .1),
+      told (toldSingle _) (single-at2 .ensures .0) (curve .given .1),
       told (toldControls _) (controls-at .ensures) (c .enum-told5 .given .1),
     )
 
@@ -128,8 +128,8 @@ returns-6 c =
     rw (
       told (toldNumber _) (number-at .ensures .0) (time .given .1),
       told (toldOptional _) (optional-at .ensures .0) (position .given .1),
-      told (toldSingle _) (single-at .ensures) (value .given .1),
-      told (toldSingle _) (single-at2 .ensures) (curve .given .1),
+      told (toldSingle _) (single-at .ensures .0) (value .given .1),
+      told (toldSingle _) (single-at2 .ensures .0) (curve .given .1),
       told (toldControls _) (controls-at .ensures) (c .before .cp1 .given .1),
     )
 

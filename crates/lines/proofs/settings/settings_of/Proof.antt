@@ -59,21 +59,22 @@ limit-of-requires-3 c κs =
 returns-4 : tie.Need-returns-4
 unfolding settingsMeaning toldSettings
 returns-4 c =
-    let finite-bits = c .before .before .before .before .before .before .before .before .before .finite-bits in
-    let if1 = c .before .before .before .before .before .before .before .before .if1 in
-    let finite-bits2 = c .before .before .before .before .before .before .before .finite-bits2 in
-    let if2 = c .before .before .before .before .before .before .if2 in
-    let finite-bits3 = c .before .before .before .before .before .finite-bits3 in
-    let if3 = c .before .before .before .before .if3 in
-    let limit-of = c .before .before .before .limit-of in
-    let limit-of2 = c .before .before .limit-of2 in
+    let finite-bits = c .before .before .before .before .before .before .before .before .before .before .finite-bits in
+    let if1 = c .before .before .before .before .before .before .before .before .before .if1 in
+    let finite-bits2 = c .before .before .before .before .before .before .before .before .finite-bits2 in
+    let if2 = c .before .before .before .before .before .before .before .if2 in
+    let finite-bits3 = c .before .before .before .before .before .before .finite-bits3 in
+    let if3 = c .before .before .before .before .before .if3 in
+    let limit-of = c .before .before .before .before .limit-of in
+    let limit-of2 = c .before .before .before .limit-of2 in
+    let limit-of3 = c .before .before .limit-of3 in
     rw (
       sym (finite-bits .ensures) ∙ not-false _ (if1 .left),
       sym (finite-bits2 .ensures) ∙ not-false _ (if2 .left),
       sym (finite-bits3 .ensures) ∙ not-false _ (if3 .left),
       limit-of .ensures,
       limit-of2 .ensures,
-      c .before .limit-of3 .ensures,
+      limit-of3 .ensures,
     )
 
 pub settings-of-spec : {M : Type 1} → statement M
