@@ -26,6 +26,10 @@ use Rattle.fields.proofs.Target.{read-target, write-target}
 parts : (a b c d e rest : List ℕ) → (a ++ (b ++ (c ++ (d ++ e)))) ++ rest ≡ a ++ (b ++ (c ++ (d ++ (e ++ rest))))
 parts a b c d e rest = simp append-assoc
 
+-- six parts in a row, and what follows
+six-parts : (a b c d e f rest : List ℕ) → (a ++ (b ++ (c ++ (d ++ (e ++ f))))) ++ rest ≡ a ++ (b ++ (c ++ (d ++ (e ++ (f ++ rest)))))
+six-parts a b c d e f rest = simp append-assoc
+
 -- ---- the settings line
 
 -- the numbers have their widths
@@ -35,6 +39,7 @@ pub record FineSettings (r : RawSettings) : Type 0 where
   pub min : Below (16 ^ 8) (r .min)
   pub max : Below (16 ^ 8) (r .max)
   pub step : Below (16 ^ 8) (r .step)
+  pub hard : r .hard < 2 ^ 1
 
 pub read-settings : (r : RawSettings) (rest : List ℕ) → FineSettings r → settingsForm (settingsText r ++ rest) ≡ got r rest
 unfolding settingsForm settingsText
@@ -43,14 +48,16 @@ read-settings r rest f =
     let b = numberText 2 1 32 (r .enabled) in
     let c = optionalText 8 32 (r .min) in
     let d = optionalText 8 32 (r .max) in
-    let e = optionalText 8 10 (r .step) in
+    let e = optionalText 8 32 (r .step) in
+    let g = numberText 2 1 10 (r .hard) in
     rw (
-      parts a b c d e rest,
-      read-target (r .target) (b ++ (c ++ (d ++ (e ++ rest)))) (f .target),
-      read-number 2 1 32 (r .enabled) (c ++ (d ++ (e ++ rest))) (omega arith) (omega arith) (f .enabled),
-      read-optional 8 32 (r .min) (d ++ (e ++ rest)) (omega arith) (f .min),
-      read-optional 8 32 (r .max) (e ++ rest) (omega arith) (f .max),
-      read-optional 8 10 (r .step) rest (omega arith) (f .step),
+      six-parts a b c d e g rest,
+      read-target (r .target) (b ++ (c ++ (d ++ (e ++ (g ++ rest))))) (f .target),
+      read-number 2 1 32 (r .enabled) (c ++ (d ++ (e ++ (g ++ rest)))) (omega arith) (omega arith) (f .enabled),
+      read-optional 8 32 (r .min) (d ++ (e ++ (g ++ rest))) (omega arith) (f .min),
+      read-optional 8 32 (r .max) (e ++ (g ++ rest)) (omega arith) (f .max),
+      read-optional 8 32 (r .step) (g ++ rest) (omega arith) (f .step),
+      read-number 2 1 10 (r .hard) rest (omega arith) (omega arith) (f .hard),
     )
 
 -- what a line says that has the form
@@ -68,14 +75,18 @@ settings-found l r rest q =
         enabled = number-lt 2 1 32 (p .l1) (r .enabled) (p .l2) (p .enabled);
         min = optional-lt 8 32 (p .l2) (r .min) (p .l3) (p .min);
         max = optional-lt 8 32 (p .l3) (r .max) (p .l4) (p .max);
-        step = optional-lt 8 10 (p .l4) (r .step) rest (p .step);
+        step = optional-lt 8 32 (p .l4) (r .step) (p .l5) (p .step);
+        hard = number-lt 2 1 10 (p .l5) (r .hard) rest (p .hard);
       };
       text = write-target l (r .target) (p .l1) (p .target)
           ∙ ap (λ (z : List ℕ). decimalText 32 (r .target) ++ z) (write-number 2 1 32 (p .l1) (r .enabled) (p .l2) (omega arith) (p .enabled)
           ∙ ap (λ (z : List ℕ). numberText 2 1 32 (r .enabled) ++ z) (write-optional 8 32 (p .l2) (r .min) (p .l3) (p .min)
           ∙ ap (λ (z : List ℕ). optionalText 8 32 (r .min) ++ z) (write-optional 8 32 (p .l3) (r .max) (p .l4) (p .max)
-          ∙ ap (λ (z : List ℕ). optionalText 8 32 (r .max) ++ z) (write-optional 8 10 (p .l4) (r .step) rest (p .step)))))
-          ∙ sym (parts (decimalText 32 (r .target)) (numberText 2 1 32 (r .enabled)) (optionalText 8 32 (r .min)) (optionalText 8 32 (r .max)) (optionalText 8 10 (r .step)) rest);
+          ∙ ap (λ (z : List ℕ). optionalText 8 32 (r .max) ++ z) (write-optional 8 32 (p .l4) (r .step) (p .l5) (p .step)
+          ∙ ap (λ (z : List ℕ). optionalText 8 32 (r .step) ++ z) (write-number 2 1 10 (p .l5) (r .hard) rest (omega arith) (p .hard))))))
+          ∙ sym
+          (six-parts (decimalText 32 (r .target)) (numberText 2 1 32 (r .enabled)) (optionalText 8 32 (r .min)) (optionalText 8 32 (r .max)) (optionalText 8 32 (r .step))
+          (numberText 2 1 10 (r .hard)) rest);
     }
 
 -- ---- the controls

@@ -75,12 +75,12 @@ back-finite (optional.Bits n) = refl
 
 -- ---- settings
 
-enabled-read : (b : Bool) → eqb (cond b 1 0) 1 ≡ b
-enabled-read true = refl
-enabled-read false = refl
+flag-read : (b : Bool) → eqb (cond b 1 0) 1 ≡ b
+flag-read true = refl
+flag-read false = refl
 
-enabled-back : (n : ℕ) → n < 2 ^ 1 → cond (eqb n 1) 1 0 ≡ n
-enabled-back n h = on (eqb n 1) refl
+flag-back : (n : ℕ) → n < 2 ^ 1 → cond (eqb n 1) 1 0 ≡ n
+flag-back n h = on (eqb n 1) refl
   where
     on : (t : Bool) → eqb n 1 ≡ t → cond t 1 0 ≡ n
     on true e = sym (eqb-true n 1 e)
@@ -88,7 +88,7 @@ enabled-back n h = on (eqb n 1) refl
 
 -- an envelope's settings
 abbrev pub settingsOf : AutomationEnvelope → Settings
-settingsOf e = record { target = e .target; enabled = e .enabled; min = e .«min_value»; max = e .«max_value»; step = e .«step_size» }
+settingsOf e = record { target = e .target; enabled = e .enabled; min = e .«min_value»; max = e .«max_value»; step = e .«step_size»; hard = e .hard }
 
 -- where its numbers are in range of their types
 module _ (e : AutomationEnvelope) (t : Parts e) where
@@ -99,7 +99,8 @@ module _ (e : AutomationEnvelope) (t : Parts e) where
         limit-finite (e .«min_value») (t .least) (finite-min (limitsOf e) f),
         limit-finite (e .«max_value») (t .greatest) (finite-max (limitsOf e) f),
         limit-finite (e .«step_size») (t .step) (finite-step (limitsOf e) f),
-        enabled-read (e .enabled),
+        flag-read (e .enabled),
+        flag-read (e .hard),
         limit-read (e .«min_value») (t .least),
         limit-read (e .«max_value») (t .greatest),
         limit-read (e .«step_size») (t .step),
@@ -113,18 +114,19 @@ module _ (e : AutomationEnvelope) (t : Parts e) where
     min = limit-lt (e .«min_value») (t .least);
     max = limit-lt (e .«max_value») (t .greatest);
     step = limit-lt (e .«step_size») (t .step);
+    hard = small (e .hard);
   }
     where
       small : (b : Bool) → cond b 1 0 < 2 ^ 1
       small true = omega arith
       small false = omega arith
 
-raw : ℕ → ℕ → Optional → Optional → Optional → RawSettings
-raw target enabled a b c = record { target = target; enabled = enabled; min = a; max = b; step = c }
+raw : ℕ → ℕ → Optional → Optional → Optional → ℕ → RawSettings
+raw target enabled a b c hard = record { target = target; enabled = enabled; min = a; max = b; step = c; hard = hard }
 
 -- what the numbers of a settings line say that mean settings
 record SettingsMeant (r : RawSettings) (s : Settings) : Type 0 where
-  is : record { target = r .target; enabled = eqb (r .enabled) 1; min = limitOf (r .min); max = limitOf (r .max); step = limitOf (r .step) } ≡ s
+  is : record { target = r .target; enabled = eqb (r .enabled) 1; min = limitOf (r .min); max = limitOf (r .max); step = limitOf (r .step); hard = eqb (r .hard) 1 } ≡ s
   min : finiteBits (r .min) ≡ true
   max : finiteBits (r .max) ≡ true
   step : finiteBits (r .step) ≡ true
@@ -148,11 +150,13 @@ module _ (r : RawSettings) (s : Settings) (ps : Points) (m : settingsMeaning r �
   unfolding rawSettings raw
   settings-back fine =
       let k = settings-meant r s m in
+      let hard : ℕ = cond (eqb (r .hard) 1) 1 0 in
       ap (λ (x : Settings). rawSettings (envelopeFrom x ps)) (sym (k .is))
-      ∙ ap (λ (n : ℕ). raw (r .target) n (limitBits (limitOf (r .min))) (limitBits (limitOf (r .max))) (limitBits (limitOf (r .step)))) (enabled-back (r .enabled) (fine .enabled))
-      ∙ ap (λ (o : Optional). raw (r .target) (r .enabled) o (limitBits (limitOf (r .max))) (limitBits (limitOf (r .step)))) (limit-back (r .min) (fine .min) (k .min))
-      ∙ ap (λ (o : Optional). raw (r .target) (r .enabled) (r .min) o (limitBits (limitOf (r .step)))) (limit-back (r .max) (fine .max) (k .max))
-      ∙ ap (λ (o : Optional). raw (r .target) (r .enabled) (r .min) (r .max) o) (limit-back (r .step) (fine .step) (k .step))
+      ∙ ap (λ (n : ℕ). raw (r .target) n (limitBits (limitOf (r .min))) (limitBits (limitOf (r .max))) (limitBits (limitOf (r .step))) hard) (flag-back (r .enabled) (fine .enabled))
+      ∙ ap (λ (o : Optional). raw (r .target) (r .enabled) o (limitBits (limitOf (r .max))) (limitBits (limitOf (r .step))) hard) (limit-back (r .min) (fine .min) (k .min))
+      ∙ ap (λ (o : Optional). raw (r .target) (r .enabled) (r .min) o (limitBits (limitOf (r .step))) hard) (limit-back (r .max) (fine .max) (k .max))
+      ∙ ap (λ (o : Optional). raw (r .target) (r .enabled) (r .min) (r .max) o hard) (limit-back (r .step) (fine .step) (k .step))
+      ∙ ap (λ (n : ℕ). raw (r .target) (r .enabled) (r .min) (r .max) (r .step) n) (flag-back (r .hard) (fine .hard))
 
 -- ---- positions
 

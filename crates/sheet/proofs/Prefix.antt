@@ -1,4 +1,4 @@
--- The first 16,536 bytes decide what the program reads: bytes after them change no answer. Assumes nothing.
+-- The first 16,543 bytes decide what the program reads: bytes after them change no answer. Assumes nothing.
 use Prim.Native.Nat.{ℕ, zero, suc, _+_, _*_, _^_, _≤_}
 use mathlib.Core.Path.{_≡_, refl, sym, ap, subst, _∙_}
 use mathlib.Core.Bool.{Bool, true, false, cond, _&&_, _||_, and-false}
@@ -215,15 +215,16 @@ text-decided w a = record {
 
 -- ---- lines
 
-settings-decided : Decided 41 settingsForm
+settings-decided : Decided 43 settingsForm
 unfolding settingsForm
 settings-decided =
-    both 12 29 targetForm _ target-decided (λ target.
-    both 2 27 (numberForm 2 1 32) _ (number-decided 2 1 32) (λ enabled.
-    both 9 18 (optionalForm 8 32) _ (optional-decided 8 32 (omega arith)) (λ min.
-    both 9 9 (optionalForm 8 32) _ (optional-decided 8 32 (omega arith)) (λ max.
-    both 9 0 (optionalForm 8 10) _ (optional-decided 8 10 (omega arith)) (λ step.
-    found (λ (r : RawSettings). r) (record { target = target; enabled = enabled; min = min; max = max; step = step }))))))
+    both 12 31 targetForm _ target-decided (λ target.
+    both 2 29 (numberForm 2 1 32) _ (number-decided 2 1 32) (λ enabled.
+    both 9 20 (optionalForm 8 32) _ (optional-decided 8 32 (omega arith)) (λ min.
+    both 9 11 (optionalForm 8 32) _ (optional-decided 8 32 (omega arith)) (λ max.
+    both 9 2 (optionalForm 8 32) _ (optional-decided 8 32 (omega arith)) (λ step.
+    both 2 0 (numberForm 2 1 10) _ (number-decided 2 1 10) (λ hard.
+    found (λ (r : RawSettings). r) (record { target = target; enabled = enabled; min = min; max = max; step = step; hard = hard })))))))
 
 five-decided : Decided {A = ℕ × ℕ} 18 (λ l. then (numberForm 16 8 32 l) (λ a m. then (numberForm 16 8 10 m) (λ b n. got (a, b) n)))
 five-decided = both 9 9 (numberForm 16 8 32) _ (number-decided 16 8 32) (λ a. both 9 0 (numberForm 16 8 10) _ (number-decided 16 8 10) (λ b. found (λ (r : ℕ × ℕ). r) (a, b)))
@@ -415,7 +416,7 @@ module _ (program : Bool) where
   after : Settings → List ℕ → Lines AutomationEnvelope
   after s l = named 3 pointNames l (λ r. withSettings s (pointLines program 256 [] r))
 
-  head-same : (l m : List ℕ) → 16508 ≤ length l → onward 2 (settingsLine (l ++ m)) after ≡ moreLines m (onward 2 (settingsLine l) after)
+  head-same : (l m : List ℕ) → 16510 ≤ length l → onward 2 (settingsLine (l ++ m)) after ≡ moreLines m (onward 2 (settingsLine l) after)
   unfolding settingsLine after
   head-same l m h = ap (λ (x : Line Settings). onward 2 x after) (line-same settingsMeaning settings-decided l m (omega arith))
       ∙ on (lineOf settingsMeaning (settingsForm l)) (line-left settingsMeaning settings-decided 16467 l (omega arith))
@@ -424,7 +425,7 @@ module _ (program : Bool) where
       on (refused n) h = refl
       on (line s rest) h = named-same 3 pointNames 16433 (λ r. withSettings s (pointLines program 256 [] r)) rest (omega arith) m (λ r e. settled-same program s r m (omega arith))
 
-  head-left : (l : List ℕ) → 16508 ≤ length l → LeftLines 49 (onward 2 (settingsLine l) after)
+  head-left : (l : List ℕ) → 16510 ≤ length l → LeftLines 49 (onward 2 (settingsLine l) after)
   unfolding settingsLine after
   head-left l h = on (lineOf settingsMeaning (settingsForm l)) (line-left settingsMeaning settings-decided 16467 l (omega arith))
     where
@@ -432,13 +433,13 @@ module _ (program : Bool) where
       on (refused n) h = tt
       on (line s rest) h = named-left 3 pointNames 16433 (λ r. withSettings s (pointLines program 256 [] r)) rest (omega arith) 49 (λ r e. settled-left program s r (omega arith))
 
-  sheet-same : (l m : List ℕ) → 16536 ≤ length l → sheetLines program (l ++ m) ≡ moreLines m (sheetLines program l)
+  sheet-same : (l m : List ℕ) → 16543 ≤ length l → sheetLines program (l ++ m) ≡ moreLines m (sheetLines program l)
   unfolding sheetLines after
-  sheet-same l m h = named-same 1 settingNames 16508 (λ r. onward 2 (settingsLine r) after) l (omega arith) m (λ r e. head-same r m e)
+  sheet-same l m h = named-same 1 settingNames 16510 (λ r. onward 2 (settingsLine r) after) l (omega arith) m (λ r e. head-same r m e)
 
-  sheet-left : (l : List ℕ) → 16536 ≤ length l → LeftLines 49 (sheetLines program l)
+  sheet-left : (l : List ℕ) → 16543 ≤ length l → LeftLines 49 (sheetLines program l)
   unfolding sheetLines after
-  sheet-left l h = named-left 1 settingNames 16508 (λ r. onward 2 (settingsLine r) after) l (omega arith) 49 (λ r e. head-left r e)
+  sheet-left l h = named-left 1 settingNames 16510 (λ r. onward 2 (settingsLine r) after) l (omega arith) 49 (λ r e. head-left r e)
 
 block-same : (m : List ℕ) (x : Lines AutomationEnvelope) → LeftLines 49 x → blockFrom (moreLines m x) ≡ blockFrom x
 unfolding blockLine
@@ -454,7 +455,7 @@ block-same m (lines e rest) h =
 -- ---- the first bytes decide
 
 -- of a list that is long enough only the first n bytes matter
-first : {B : Type 0} (f : List ℕ → B) → ((l m : List ℕ) → 16536 ≤ length l → f (l ++ m) ≡ f l) → (n : ℕ) (l : List ℕ) → 16536 ≤ n → f (take n l) ≡ f l
+first : {B : Type 0} (f : List ℕ → B) → ((l m : List ℕ) → 16543 ≤ length l → f (l ++ m) ≡ f l) → (n : ℕ) (l : List ℕ) → 16543 ≤ n → f (take n l) ≡ f l
 first f g n l h = on (leb (length l) n) refl
   where
     on : (t : Bool) → leb (length l) n ≡ t → f (take n l) ≡ f l
@@ -462,12 +463,12 @@ first f g n l h = on (leb (length l) n) refl
     on false e = sym (ap f (sym (take-append-drop n l)) ∙ g (take n l) (drop n l) (omega (arith, length-take n l, leb-false (length l) n e)))
 
 -- of the program's input
-pub input-decided : (n : ℕ) (l : List ℕ) → 16536 ≤ n → playInput (take n l) ≡ playInput l
+pub input-decided : (n : ℕ) (l : List ℕ) → 16543 ≤ n → playInput (take n l) ≡ playInput l
 unfolding playInput
 input-decided n l h = first playInput (λ r m e. ap blockFrom (sheet-same true r m e) ∙ block-same m (sheetLines true r) (sheet-left true r e)) n l h
 
 -- and of a sheet
-pub sheet-decided : (n : ℕ) (l : List ℕ) → 16536 ≤ n → readSheet (take n l) ≡ readSheet l
+pub sheet-decided : (n : ℕ) (l : List ℕ) → 16543 ≤ n → readSheet (take n l) ≡ readSheet l
 unfolding readSheet
 sheet-decided n l h = first readSheet (λ r m e. ap readFrom (sheet-same false r m e) ∙ on (sheetLines false r) m) n l h
   where

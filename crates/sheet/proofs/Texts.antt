@@ -60,17 +60,20 @@ length-five : (a b c d e : List ℕ) → length (a ++ (b ++ (c ++ (d ++ e)))) �
 length-five a b c d e = omega (arith, length-append a (b ++ (c ++ (d ++ e))), length-append b (c ++ (d ++ e)), length-append c (d ++ e), length-append d e)
 
 pub settings-length : (r : RawSettings)
-    → length (settingsText r) ≡ placesOf 10 (r .target) + 3 + length (optionalText 8 0 (r .min)) + length (optionalText 8 0 (r .max)) + length (optionalText 8 0 (r .step))
+    → length (settingsText r) ≡ placesOf 10 (r .target) + 5 + length (optionalText 8 0 (r .min)) + length (optionalText 8 0 (r .max)) + length (optionalText 8 0 (r .step))
 unfolding settingsText
 settings-length r =
     omega (
       arith,
-      length-five (decimalText 32 (r .target)) (numberText 2 1 32 (r .enabled)) (optionalText 8 32 (r .min)) (optionalText 8 32 (r .max)) (optionalText 8 10 (r .step)),
+      length-five (decimalText 32 (r .target)) (numberText 2 1 32 (r .enabled)) (optionalText 8 32 (r .min)) (optionalText 8 32 (r .max))
+          (optionalText 8 32 (r .step) ++ numberText 2 1 10 (r .hard)),
+      length-append (optionalText 8 32 (r .step)) (numberText 2 1 10 (r .hard)),
       length-number 10 (placesOf 10 (r .target)) 32 (r .target),
       length-number 2 1 32 (r .enabled),
       same-length 8 32 0 (r .min),
       same-length 8 32 0 (r .max),
-      same-length 8 10 0 (r .step),
+      same-length 8 32 0 (r .step),
+      length-number 2 1 10 (r .hard),
     )
 
 pub point-length : (r : RawPoint) → length (pointText r) ≡ 29 + length (optionalText 16 0 (r .position)) + length (controlsText (r .curve) 0 0)
@@ -89,7 +92,7 @@ point-length r =
 pub point-le : (r : RawPoint) → length (pointText r) ≤ 65
 point-le r = omega (arith, point-length r, length-le 16 0 (r .position), controls-le (r .curve) 0 0)
 
-pub settings-le : (r : RawSettings) → length (settingsText r) ≤ 43
+pub settings-le : (r : RawSettings) → length (settingsText r) ≤ 45
 settings-le r = omega (arith, settings-length r, places-le 10 (r .target), length-le 8 0 (r .min), length-le 8 0 (r .max), length-le 8 0 (r .step))
 
 -- ---- the points' lines
@@ -135,7 +138,7 @@ module _ (l : List AutomationPoint) (i : ℕ) (d : AutomationPoint) (inside : i 
 
 -- ---- the whole sheet
 
-pub sheet-length : (e : AutomationEnvelope) → length (sheetText e) ≡ 28 + length (settingsText (rawSettings e)) + 34 + length (pointTexts (listOf (e .points)))
+pub sheet-length : (e : AutomationEnvelope) → length (sheetText e) ≡ 33 + length (settingsText (rawSettings e)) + 34 + length (pointTexts (listOf (e .points)))
 unfolding sheetText
 sheet-length e =
     let s = settingsText (rawSettings e) in
@@ -164,6 +167,15 @@ module _ {l l1 l2 l3 l4 u1 u2 u3 u4 : List ℕ} {at n1 n2 n3 n4 : ℕ} (u5 : Lis
 
   pub five-put : {m : List ℕ} {n : ℕ} → Put l4 n4 u5 m n → Put l at (u1 ++ (u2 ++ (u3 ++ (u4 ++ u5)))) m n
   five-put p = fit-then f1 (u2 ++ (u3 ++ (u4 ++ u5))) h (fit-then f2 (u3 ++ (u4 ++ u5)) after-one (fit-then f3 (u4 ++ u5) after-two (fit-then f4 u5 after-three p)))
+
+module _ {l l1 l2 l3 l4 l5 u1 u2 u3 u4 u5 : List ℕ} {at n1 n2 n3 n4 n5 : ℕ} (u6 : List ℕ) (h : at + length (u1 ++ (u2 ++ (u3 ++ (u4 ++ (u5 ++ u6))))) ≤ length l)
+    (f1 : Fitted l at u1 l1 n1) (f2 : Fitted l1 n1 u2 l2 n2) (f3 : Fitted l2 n2 u3 l3 n3) (f4 : Fitted l3 n3 u4 l4 n4) (f5 : Fitted l4 n4 u5 l5 n5) where
+  -- the sixth has its place, and all stand there
+  pub sixth-room : n5 + length u6 ≤ length l5
+  sixth-room = room-after f5 u6 (fifth-room (u5 ++ u6) h f1 f2 f3 f4)
+
+  pub six-put : {m : List ℕ} {n : ℕ} → Put l5 n5 u6 m n → Put l at (u1 ++ (u2 ++ (u3 ++ (u4 ++ (u5 ++ u6))))) m n
+  six-put p = five-put (u5 ++ u6) h f1 f2 f3 f4 (fit-then f5 u6 (fifth-room (u5 ++ u6) h f1 f2 f3 f4) p)
 
 -- the names, the settings, the names and the points' lines
 module _ (e : AutomationEnvelope) {l l1 : List ℕ} {a : ℕ} (h : length (sheetText e) ≤ length l) (f1 : Fitted l 0 settingNames l1 a) where

@@ -1,7 +1,7 @@
 -- 01's example of "The sheet", read and written, and refusals with their lines.
 use Prim.Native.Nat.{ℕ}
 use mathlib.Core.Path.{_≡_, refl}
-use mathlib.Core.Bool.{true}
+use mathlib.Core.Bool.{Bool, true, false}
 use Prim.Native.String.{String}
 use mathlib.Core.List.{List, [], _∷_, _++_, map}
 use lib.Ieee.{ofBits, toBits, binary32, binary64}
@@ -21,10 +21,10 @@ use Rattle.sheet.specs.Sheet.{settingNames, pointNames, sheetLines, Read
 use Rattle.fields.specs.Text.{digitByte, digitsOf, optionalText, placesOf}
 use Rattle.sheet.specs.Text.{settingsText, pointText, rawSettings, rawPoint, pointTexts, sheetText}
 
--- ---- 01's example
+-- ---- 01's example; "01's example gains a 0" (F-1)
 
 abbrev head : List ℕ
-head = settingNames ++ text "0 1 - - -\n" ++ pointNames
+head = settingNames ++ text "0 1 - - - 0\n" ++ pointNames
 
 abbrev first : List ℕ
 first = text "0000000000000000 - 00000000 00 - -\n"
@@ -39,20 +39,21 @@ block = blockNames ++ text "3FF0000000000000 4008000000000000\n"
 abbrev linear : ℕ → ℕ → AutomationPoint
 linear time value = record { time = ofBits binary64 time; «sample_position» = position.None; value = ofBits binary32 value; curve = Linear }
 
--- the settings of line 2, with these points
-abbrev withPoints : List AutomationPoint → AutomationEnvelope
-withPoints ps = record {
+-- the settings of line 2, with this hard and these points
+abbrev withPoints : Bool → List AutomationPoint → AutomationEnvelope
+withPoints hard ps = record {
   target = 0;
   points = holding ps;
   enabled = true;
   «min_value» = limit.None;
   «max_value» = limit.None;
   «step_size» = limit.None;
+  hard = hard;
 }
 
 -- (0, 0) and (4, 1)
 abbrev envelope : AutomationEnvelope
-envelope = withPoints (linear 0 0 ∷ linear 0x4010_0000_0000_0000 0x3F80_0000 ∷ [])
+envelope = withPoints false (linear 0 0 ∷ linear 0x4010_0000_0000_0000 0x3F80_0000 ∷ [])
 
 pub example-read : readSheet (head ++ first ++ second) ≡ sheet envelope
 unfolding startsWith nextIs readDigits numberForm optionalForm decimals nextDigit targetForm settingsForm limitOf finiteBits settingsMeaning settingsLine controlsForm pointForm positionOf pointMeaning pointLine isEmpty pointsEnd pointLines sheetLines readSheet finite ofBits toBits orderKey risingBy curveOf
@@ -72,6 +73,10 @@ example-written = refl
 abbrev settings : String → List ℕ
 settings line = settingNames ++ text line
 
+-- hard is 1 on line 2, and there are no points
+abbrev hardened : List ℕ
+hardened = settings "0 1 - - - 1\n" ++ pointNames
+
 abbrev point : String → List ℕ
 point line = head ++ text line
 
@@ -81,20 +86,27 @@ times a b = head ++ text a ++ text " - 00000000 00 - -\n" ++ text b ++ text " - 
 
 abbrev cases : List (List ℕ × Read)
 cases =
-    -- nothing, and names without their 0A
+    -- nothing, names without their 0A, and names "without it" (F-1)
     ([], refusal 9 1)
-    ∷ (text "target enabled min max step", refusal 9 1)
+    ∷ (text "target enabled min max step hard", refusal 9 1)
+    ∷ (text "target enabled min max step\n" ++ text "0 1 - - - 0\n" ++ pointNames, refusal 9 1)
     -- a leading zero, 2^32, enabled 2, an infinite minimum
-    ∷ (settings "00 1 - - -\n", refusal 9 2)
-    ∷ (settings "4294967296 1 - - -\n", refusal 9 2)
-    ∷ (settings "4294967295 2 - - -\n", refusal 9 2)
-    ∷ (settings "4294967295 1 FF800000 - -\n", refusal 3 2)
-    -- an infinite minimum, and a step of one digit: the form comes first
-    ∷ (settings "0 1 7F800000 - 0\n", refusal 9 2)
+    ∷ (settings "00 1 - - - 0\n", refusal 9 2)
+    ∷ (settings "4294967296 1 - - - 0\n", refusal 9 2)
+    ∷ (settings "4294967295 2 - - - 0\n", refusal 9 2)
+    ∷ (settings "4294967295 1 FF800000 - - 0\n", refusal 3 2)
+    -- no hard, hard 2, a dash for it
+    ∷ (settings "0 1 - - -\n", refusal 9 2)
+    ∷ (settings "0 1 - - - 2\n", refusal 9 2)
+    ∷ (settings "0 1 - - - -\n", refusal 9 2)
+    -- an infinite minimum, and a step of one digit or hard 2: the form comes first
+    ∷ (settings "0 1 7F800000 - 0 0\n", refusal 9 2)
+    ∷ (settings "0 1 7F800000 - - 2\n", refusal 9 2)
     -- no names of the points
-    ∷ (settings "0 0 - - -\n", refusal 9 3)
-    -- no points at all
-    ∷ (head, sheet (withPoints []))
+    ∷ (settings "0 0 - - - 0\n", refusal 9 3)
+    -- no points at all, and so with hard 1
+    ∷ (head, sheet (withPoints false []))
+    ∷ (hardened, sheet (withPoints true []))
     -- a lower-case digit, two spaces, a line without its 0A
     ∷ (point "0000000000000000 - 3f800000 00 - -\n", refusal 9 4)
     ∷ (point "0000000000000000  - 3F800000 00 - -\n", refusal 9 4)
@@ -124,6 +136,10 @@ cases =
 pub cases-hold : map (λ c. readSheet (c .0)) cases ≡ map (λ c. c .1) cases
 unfolding startsWith nextIs readDigits numberForm optionalForm decimals nextDigit targetForm settingsForm limitOf finiteBits settingsMeaning settingsLine controlsForm pointForm positionOf pointMeaning pointLine isEmpty pointsEnd pointLines sheetLines readSheet finite ofBits toBits orderKey risingBy curveOf
 cases-hold = refl
+
+pub hard-written : sheetText (withPoints true []) ≡ hardened
+unfolding digitByte digitsOf optionalText placesOf settingsText rawSettings pointTexts sheetText
+hard-written = refl
 
 abbrev inputs : List (List ℕ × Input)
 inputs =

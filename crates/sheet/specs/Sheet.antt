@@ -15,9 +15,9 @@ use Rattle.lines.specs.declared.block.Block.{Block}
 abbrev pub named : {B : Type 0} → ℕ → List ℕ → List ℕ → (List ℕ → Lines B) → Lines B
 named k names l next = cond (startsWith names l) (next (drop (length names) l)) (stop 9 k)
 
--- line 1
+-- line 1: 01's names, and "a column after step in the sheet (named hard, 0 or 1; a sheet without it gives 9 ..)" (F-1)
 abbrev pub settingNames : List ℕ
-settingNames = text "target enabled min max step\n"
+settingNames = text "target enabled min max step hard\n"
 
 -- line 3
 abbrev pub pointNames : List ℕ
@@ -27,7 +27,7 @@ pointNames = text "time position value curve cp1 cp2\n"
 
 -- the envelope with these settings and points
 abbrev pub envelopeFrom : Settings → Points → AutomationEnvelope
-envelopeFrom s ps = record { target = s .target; points = ps; enabled = s .enabled; «min_value» = s .min; «max_value» = s .max; «step_size» = s .step }
+envelopeFrom s ps = record { target = s .target; points = ps; enabled = s .enabled; «min_value» = s .min; «max_value» = s .max; «step_size» = s .step; hard = s .hard }
 
 -- the points with the settings of line 2
 abbrev pub withSettings : Settings → Lines Points → Lines AutomationEnvelope

@@ -26,12 +26,12 @@ use Rattle.lines.specs.declared.point.RawPoint.{RawPoint}
 
 -- ---- lines
 
--- the settings line
+-- the settings line, with hard "after step" (F-1)
 unfoldable pub settingsText : RawSettings → List ℕ
 unfolding digitsOf placesOf optionalText
 settingsText r =
     decimalText space (r .target) ++ (numberText 2 1 space (r .enabled)
-    ++ (optionalText 8 space (r .min) ++ (optionalText 8 space (r .max) ++ optionalText 8 newline (r .step))))
+    ++ (optionalText 8 space (r .min) ++ (optionalText 8 space (r .max) ++ (optionalText 8 space (r .step) ++ numberText 2 1 newline (r .hard)))))
 
 -- the two last fields: numbers for 05, dashes for every other code
 abbrev pub controlsText : ℕ → ℕ → ℕ → List ℕ
@@ -59,6 +59,7 @@ rawSettings e = record {
   min = limitBits (e .«min_value»);
   max = limitBits (e .«max_value»);
   step = limitBits (e .«step_size»);
+  hard = cond (e .hard) 1 0;
 }
 
 -- a position's digits, or none

@@ -63,6 +63,7 @@ fn with_settings(settings: Settings, r: PointLines) -> SheetLines
             min_value,
             max_value,
             step_size,
+            hard: settings.hard,
         },
         next: r.next,
     }
@@ -72,11 +73,11 @@ fn with_settings(settings: Settings, r: PointLines) -> SheetLines
 pub(crate) fn sheet_lines(s: &[u8], program: bool) -> SheetLines
     ensures { λ r. ⌜ toldSheetLines (now (s .entry)) r ≡ sheetLines program (now (s .entry)) ⌝ }
 {
-    if !fields::bytes::starts_with(s, 0, b"target enabled min max step\n") {
+    if !fields::bytes::starts_with(s, 0, b"target enabled min max step hard\n") {
         return no_sheet(Refusal::SheetForm, 1);
     }
-    // the names above have 28 bytes
-    match lines::settings::settings_line(s, 28) {
+    // the names above have 33 bytes
+    match lines::settings::settings_line(s, 33) {
         SettingsLine::Refused(refusal) => no_sheet(refusal, 2),
         SettingsLine::Is(settings, at) => {
             if !fields::bytes::starts_with(s, at, b"time position value curve cp1 cp2\n") {

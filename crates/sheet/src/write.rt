@@ -64,7 +64,8 @@ fn put_settings(out: &mut [u8], at: usize, r: RawSettings) -> usize
     let b = fields::write::fit_flag(&mut *out, a, r.enabled, b' ');
     let c = fields::write::fit_optional(&mut *out, b, min, 8, b' ');
     let d = fields::write::fit_optional(&mut *out, c, max, 8, b' ');
-    fields::write::fit_optional(&mut *out, d, step, 8, b'\n')
+    let e = fields::write::fit_optional(&mut *out, d, step, 8, b' ');
+    fields::write::fit_flag(&mut *out, e, r.hard, b'\n')
 }
 
 // ---- from the records to their bits
@@ -79,10 +80,10 @@ fn limit_bits(p: Limit) -> Optional
     }
 }
 
-fn enabled_digit(enabled: bool) -> u32
-    ensures { λ r. ⌜ r ≡ cond enabled 1 0 ⌝ }
+fn flag_digit(on: bool) -> u32
+    ensures { λ r. ⌜ r ≡ cond on 1 0 ⌝ }
 {
-    if enabled { 1 } else { 0 }
+    if on { 1 } else { 0 }
 }
 
 fn raw_settings(e: AutomationEnvelope) -> RawSettings
@@ -97,10 +98,11 @@ fn raw_settings(e: AutomationEnvelope) -> RawSettings
     let step = limit_bits(step_size);
     RawSettings {
         target: e.target,
-        enabled: enabled_digit(e.enabled),
+        enabled: flag_digit(e.enabled),
         min,
         max,
         step,
+        hard: flag_digit(e.hard),
     }
 }
 
@@ -150,7 +152,7 @@ fn settings_length(r: RawSettings) -> usize
     let max = r.max;
     let step = r.step;
     fields::write::places_of(r.target)
-        + 3
+        + 5
         + optional_length(min, 8)
         + optional_length(max, 8)
         + optional_length(step, 8)
@@ -189,8 +191,8 @@ fn sheet_length(e: AutomationEnvelope) -> usize
     ensures { λ r. ⌜ r ≡ length (sheetText e) ⌝ }
 {
     let points = e.points;
-    // the names above the settings have 28 bytes, those above the points 34
-    28 + settings_length(raw_settings(e)) + 34 + points_length(points)
+    // the names above the settings have 33 bytes, those above the points 34
+    33 + settings_length(raw_settings(e)) + 34 + points_length(points)
 }
 
 // ---- the whole sheet
@@ -218,7 +220,7 @@ fn put_sheet(out: &mut [u8], e: AutomationEnvelope) -> usize
     ensures { λ r. ⌜ Put (now (out .entry)) 0 (sheetText e) (now (out .exit)) r ⌝ }
 {
     let points = e.points;
-    let a = fields::write::fit_text(&mut *out, 0, b"target enabled min max step\n");
+    let a = fields::write::fit_text(&mut *out, 0, b"target enabled min max step hard\n");
     let b = put_settings(&mut *out, a, raw_settings(e));
     let c = fields::write::fit_text(&mut *out, b, b"time position value curve cp1 cp2\n");
     put_points(&mut *out, c, points)

@@ -16,15 +16,19 @@ limit-bits-requires-2 c κs = finite-max (limitsOf (c .before .args .e)) (c .bef
 limit-bits-requires-3 : tie.Need-limit-bits-requires-3
 limit-bits-requires-3 c κs = finite-step (limitsOf (c .before .before .args .e)) (c .before .before .pre)
 
-enabled-digit-requires : tie.Need-enabled-digit-requires
-enabled-digit-requires c κs = search needs
+flag-digit-requires : tie.Need-flag-digit-requires
+flag-digit-requires c κs = search needs
+
+flag-digit-requires-2 : tie.Need-flag-digit-requires-2
+flag-digit-requires-2 c κs = search needs
 
 returns : tie.Need-returns
 unfolding rawSettings
 returns c =
-    let limit-bits = c .before .before .before .limit-bits in
-    let limit-bits2 = c .before .before .limit-bits2 in
-    rw (limit-bits .ensures, limit-bits2 .ensures, c .before .limit-bits3 .ensures, c .enabled-digit .ensures)
+    let limit-bits = c .before .before .before .before .limit-bits in
+    let limit-bits2 = c .before .before .before .limit-bits2 in
+    let limit-bits3 = c .before .before .limit-bits3 in
+    rw (limit-bits .ensures, limit-bits2 .ensures, limit-bits3 .ensures, c .before .flag-digit .ensures, c .flag-digit2 .ensures)
 
 pub raw-settings-spec : {M : Type 1} → statement M
 raw-settings-spec =
@@ -33,5 +37,6 @@ raw-settings-spec =
     limit-bits-requires
     limit-bits-requires-2
     limit-bits-requires-3
-    enabled-digit-requires
+    flag-digit-requires
+    flag-digit-requires-2
     returns)
