@@ -19,10 +19,10 @@ use Rattle.sheet.specs.Sheet.{sheetLines, playInput}
 use Rattle.fields.specs.Text.{digitByte, digitsOf, placesOf}
 use Rattle.play.specs.Play.{sampleLine, sampleLines, refusalText, counted, printed, output}
 
--- 01's input, with a line of rate and duration
+-- 01's input, "01's example gains a 0" (F-1), with a line of rate and duration
 abbrev sheet : List ℕ
 sheet =
-    text "target enabled min max step\n" ++ text "0 1 - - -\n"
+    text "target enabled min max step hard\n" ++ text "0 1 - - - 0\n"
     ++ text "time position value curve cp1 cp2\n" ++ text "0000000000000000 - 00000000 00 - -\n" ++ text "4010000000000000 - 3F800000 00 - -\n"
     ++ text "rate duration\n"
 

@@ -7,9 +7,9 @@ use Rattle.sheet.specs.Sheet.{playInput}
 use Rattle.play.specs.Play.{counted, output}
 use Rattle.play.specs.Blocks.{over, firstText, firstPlay, openedText, played}
 
--- input of any length: bytes after the first 16,536 change nothing (`output-decided`, proofs/Output)
+-- input of any length: bytes after the first 16,543 change nothing (`output-decided`, proofs/Output)
 abbrev pub OutputDecided : Type 0
-OutputDecided = (n : ℕ) (l : List ℕ) → 16536 ≤ n → output (take n l) ≡ output l
+OutputDecided = (n : ℕ) (l : List ℕ) → 16543 ≤ n → output (take n l) ≡ output l
 
 -- the bytes that opening writes and those of the calls after it are the output, whatever stood in the lent bytes (`blocks-are-output`, there;
 -- `enough`, there: 4,194,304 calls are enough for every input)

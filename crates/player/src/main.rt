@@ -14,7 +14,7 @@ struct Turn {
     play: Play,
 }
 
-// Room for the input: no more than this is read, and its first 16,536 bytes decide every answer.
+// Room for the input: no more than this is read, and its first 16,543 bytes decide every answer.
 fn room() -> [u8; 16640]
     ensures { λ r. ⌜ 16640 ≡ length r ⌝ }
 {
