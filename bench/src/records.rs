@@ -19,6 +19,7 @@ macro_rules! pair {
 pair!(rattle_get_value_at, rust_get_value_at, (at: *const f64, at_len: usize));
 pair!(rattle_get_value_at_sample, rust_get_value_at_sample, (at: *const u64, at_len: usize));
 pair!(rattle_to_buffer, rust_to_buffer, (rate: f64, duration: f64, turns: u32, out: *mut f32, out_len: usize));
+pair!(rattle_to_buffer_limits, rust_to_buffer_limits, (min: f32, max: f32, step: f32, hard: bool, rate: f64, duration: f64, turns: u32, out: *mut f32, out_len: usize));
 pair!(rattle_render, rust_render, (rate: f64, first: u64, turns: u32, out: *mut f32, out_len: usize));
 pair!(rattle_edit, rust_edit, (which: u32, x: f64, y: f64, turns: u32, times: *mut f64, times_len: usize, values: *mut f32, values_len: usize));
 pair!(rattle_get_range, rust_get_range, (start: f64, end: f64, turns: u32));
@@ -150,6 +151,11 @@ const CURVES: [(&str, u32, [f64; 3]); 5] = [
     ("Logarithmic", 2, [2.2, 1.3, 0.85]),
     ("Circular", 9, [2.2, 1.3, 0.85]),
 ];
+/// Those that are also rendered with both limits and a step.
+const LIMITED: [(&str, u32); 3] = [("Linear", LINEAR), ("CubicInOut", 15), ("Bezier", 5)];
+/// A minimum, a maximum and a step. At each number of points there are values below, between and above them;
+/// the step divides neither, and takes the one to 0.585 and the other to 0.72, where `hard` takes them back.
+const LIMITS: (f32, f32, f32) = (0.6, 0.7, 0.045);
 const RATE: f64 = 48_000.0;
 const SAMPLES: usize = 48_000;
 
@@ -170,6 +176,35 @@ fn rendering() -> Vec<Figure> {
                 SAMPLES,
                 |left, turns| (RATE, 1.0, turns as u32, left.values.as_mut_ptr(), SAMPLES)
             ));
+        }
+    }
+    for (curve, code) in LIMITED {
+        for (words, hard) in [("limits and step", false), ("limits and step, hard", true)] {
+            for (points, most) in [(2, 1.0), (16, 0.8), (256, 0.65)] {
+                let name = format!("to_buffer, {curve}, {words}, {points}");
+                let (min, max, step) = LIMITS;
+                all.push(record!(
+                    name,
+                    TURNS,
+                    SAMPLES,
+                    Some(most),
+                    input(points, code),
+                    rattle_to_buffer_limits,
+                    rust_to_buffer_limits,
+                    SAMPLES,
+                    |left, turns| (
+                        min,
+                        max,
+                        step,
+                        hard,
+                        RATE,
+                        1.0,
+                        turns as u32,
+                        left.values.as_mut_ptr(),
+                        SAMPLES
+                    )
+                ));
+            }
         }
     }
     const BLOCKS: usize = 100;
@@ -222,7 +257,7 @@ fn lookups() -> Vec<Figure> {
 }
 
 /// The edits by their numbers in the two functions, with their arguments.
-const EDITS: [(&str, u32, f64, f64); 28] = [
+const EDITS: [(&str, u32, f64, f64); 29] = [
     ("add_point, a new first", 0, -1.0, 0.5),
     ("add_point, a new last", 0, 2.0, 0.5),
     ("remove_point_at, the first", 1, 0.0, 0.0),
@@ -251,16 +286,17 @@ const EDITS: [(&str, u32, f64, f64); 28] = [
     ("set_min", 23, 0.5, 0.0),
     ("set_max", 24, 0.5, 0.0),
     ("set_step", 25, 0.5, 0.0),
+    ("set_hard", 26, 0.0, 0.0),
 ];
 /// Those that take a second envelope: itself, later by x. Of two of 128 points they make 256.
 const JOINS: [(&str, u32, f64, f64, f64); 7] = [
-    ("merge", 26, 0.001, 0.0, 4.0),
-    ("blend", 27, 0.001, 0.25, 2.0),
-    ("add", 28, 0.001, 0.0, 2.0),
-    ("multiply", 29, 0.001, 0.0, 2.0),
-    ("min", 30, 0.001, 0.0, 2.0),
-    ("max", 31, 0.001, 0.0, 2.0),
-    ("subtract", 32, 0.001, 0.0, 2.0),
+    ("merge", 27, 0.001, 0.0, 4.0),
+    ("blend", 28, 0.001, 0.25, 2.0),
+    ("add", 29, 0.001, 0.0, 2.0),
+    ("multiply", 30, 0.001, 0.0, 2.0),
+    ("min", 31, 0.001, 0.0, 2.0),
+    ("max", 32, 0.001, 0.0, 2.0),
+    ("subtract", 33, 0.001, 0.0, 2.0),
 ];
 const PLACES: usize = 256;
 

@@ -34,7 +34,7 @@ const CODES: [u32; 21] = [
 
 /// 256 points, every curve in turn, each third with a position.
 fn sheet() -> &'static [u8] {
-    let mut text = "target enabled min max step\n4000000000 1 00000000 - 3F800000\n".to_string();
+    let mut text = "target enabled min max step hard\n4000000000 1 00000000 - 3F800000 0\n".to_string();
     text += "time position value curve cp1 cp2\n";
     let values = inputs::singles(inputs::fractions());
     for (i, time) in inputs::rising(PLACES).into_iter().enumerate() {

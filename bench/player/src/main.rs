@@ -44,7 +44,7 @@ fn play(out: &mut impl Write) -> Result<()> {
 fn sheet(out: &mut impl Write, samples: u32) -> Result<()> {
     writeln!(
         out,
-        "target enabled min max step\n0 1 - - -\ntime position value curve cp1 cp2"
+        "target enabled min max step hard\n0 1 - - - 0\ntime position value curve cp1 cp2"
     )?;
     for i in 0..256u32 {
         let time = f64::from(i) * 100.0 / 255.0;

@@ -391,6 +391,11 @@ pub fn set_step(e: Envelope, step: Option<f32>) -> Edited {
     set(e, finite_limit(step), |e| e.step_size = step)
 }
 
+#[inline(never)]
+pub fn set_hard(e: Envelope, hard: bool) -> Edited {
+    set(e, true, |e| e.hard = hard)
+}
+
 /// 000's combine: the times of both in a set, a lookup in each, and a new point.
 #[inline(always)]
 fn combine(e: Envelope, other: Envelope, ok: bool, op: impl Fn(f32, f32) -> f32) -> Edited {

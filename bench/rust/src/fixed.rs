@@ -21,6 +21,7 @@ pub struct Envelope {
     pub min_value: Option<f32>,
     pub max_value: Option<f32>,
     pub step_size: Option<f32>,
+    pub hard: bool,
 }
 
 /// What an edit gives: refusal 0 and the changed envelope, or the refusal's number and the old one.
@@ -74,6 +75,7 @@ impl Envelope {
             min_value: None,
             max_value: None,
             step_size: None,
+            hard: false,
         }
     }
 
@@ -117,19 +119,28 @@ impl Envelope {
                 .all(|w| w[0].sample_key() < w[1].sample_key())
     }
 
-    // ---- 000's lookups
+    // ---- 000's lookups, with 02's `hard`
 
-    fn apply_constraints(&self, mut value: f32) -> f32 {
+    #[inline(always)]
+    fn bounded(&self, mut value: f32) -> f32 {
         if let Some(min) = self.min_value {
             value = value.max(min);
         }
         if let Some(max) = self.max_value {
             value = value.min(max);
         }
+        value
+    }
+
+    fn apply_constraints(&self, value: f32) -> f32 {
+        let mut value = self.bounded(value);
         if let Some(step) = self.step_size {
             if step > 0.0 {
                 value = libm::roundf(value / step) * step;
             }
+        }
+        if self.hard {
+            value = self.bounded(value);
         }
         value
     }

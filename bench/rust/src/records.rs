@@ -32,6 +32,17 @@ fn made(times: &[f64], values: &[f32], curve: u32) -> Envelope {
     e
 }
 
+/// The same with both limits and a step.
+fn limited(e: Envelope, min: f32, max: f32, step: f32, hard: bool) -> Envelope {
+    Envelope {
+        min_value: Some(min),
+        max_value: Some(max),
+        step_size: Some(step),
+        hard,
+        ..e
+    }
+}
+
 /// 000's own envelope of the same points.
 fn source_made(times: &[f64], values: &[f32], curve: u32) -> AutomationEnvelope<u32> {
     let mut e = AutomationEnvelope::new(7);
@@ -158,6 +169,45 @@ pub unsafe extern "C" fn rust_to_buffer(
     turns as u64
 }
 
+/// 000's `to_buffer` on the places, whose lookup knows `hard`.
+fn to_buffer(e: &Envelope, rate: f64, duration: f64) -> Vec<f32> {
+    let count = (duration * rate) as usize;
+    (0..count)
+        .map(|i| e.get_value_at(i as f64 / rate).unwrap_or(0.0))
+        .collect()
+}
+
+/// With both limits and a step.
+/// # Safety
+/// As above.
+#[no_mangle]
+#[inline(never)]
+pub unsafe extern "C" fn rust_to_buffer_limits(
+    times: *const f64,
+    times_len: usize,
+    values: *const f32,
+    values_len: usize,
+    curve: u32,
+    min: f32,
+    max: f32,
+    step: f32,
+    hard: bool,
+    rate: f64,
+    duration: f64,
+    turns: u32,
+    out: *mut f32,
+    out_len: usize,
+) -> u64 {
+    let e = made(from_raw_parts(times, times_len), from_raw_parts(values, values_len), curve);
+    let e = limited(e, min, max, step, hard);
+    let mut last = Vec::new();
+    for _ in 0..turns {
+        last = black_box(to_buffer(black_box(&e), rate, duration));
+    }
+    from_raw_parts_mut(out, out_len)[..last.len()].copy_from_slice(&last);
+    turns as u64
+}
+
 /// # Safety
 /// As above.
 #[no_mangle]
@@ -246,12 +296,13 @@ pub unsafe extern "C" fn rust_edit(
             23 => edits::set_min(e, Some(xf)),
             24 => edits::set_max(e, Some(xf)),
             25 => edits::set_step(e, Some(xf)),
-            26 => edits::merge(e, e, x),
-            27 => edits::blend(e, *black_box(&other), yf),
-            28 => edits::add(e, *black_box(&other)),
-            29 => edits::multiply(e, *black_box(&other)),
-            30 => edits::min(e, *black_box(&other)),
-            31 => edits::max(e, *black_box(&other)),
+            26 => edits::set_hard(e, true),
+            27 => edits::merge(e, e, x),
+            28 => edits::blend(e, *black_box(&other), yf),
+            29 => edits::add(e, *black_box(&other)),
+            30 => edits::multiply(e, *black_box(&other)),
+            31 => edits::min(e, *black_box(&other)),
+            32 => edits::max(e, *black_box(&other)),
             _ => edits::subtract(e, *black_box(&other)),
         };
         black_box(&last);

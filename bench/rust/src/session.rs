@@ -94,7 +94,8 @@ fn settings(e: &Envelope) -> [u64; 4] {
     let flags = e.enabled as u32
         + 2 * e.min_value.is_some() as u32
         + 4 * e.max_value.is_some() as u32
-        + 8 * e.step_size.is_some() as u32;
+        + 8 * e.step_size.is_some() as u32
+        + 16 * e.hard as u32;
     [
         join(flags, e.target),
         e.count as u64,
@@ -145,6 +146,7 @@ fn read_state(words: &[u64]) -> Result<Envelope, u32> {
         min_value: limit(2, words[2]),
         max_value: limit(4, words[2] >> 32),
         step_size: limit(8, words[3]),
+        hard: flags & 16 != 0,
     };
     let mut same = true;
     for (p, w) in e.places.iter_mut().zip(words[4..].chunks_exact(4)) {

@@ -7,7 +7,7 @@ use source::curve::CurveType;
 /// A refusal's number, and the line's.
 pub type Refused = (u32, u64);
 
-const SETTINGS: &[u8] = b"target enabled min max step";
+const SETTINGS: &[u8] = b"target enabled min max step hard";
 const POINTS: &[u8] = b"time position value curve cp1 cp2";
 
 // ---- reading: a line's form gives 9, its numbers 3 or 2, its time 6
@@ -107,7 +107,7 @@ fn finite(bits: u32) -> Result<f32, u32> {
 }
 
 fn settings(l: &mut Lines, e: &mut Envelope) -> Result<(), u32> {
-    let [target_field, enabled, min, max, step] = l.fields()?;
+    let [target_field, enabled, min, max, step, hard] = l.fields()?;
     e.target = target(target_field)?;
     e.enabled = digits(enabled, 2, 1)? == 1;
     let (min, max, step) = (
@@ -115,6 +115,7 @@ fn settings(l: &mut Lines, e: &mut Envelope) -> Result<(), u32> {
         optional(max, bits32)?,
         optional(step, bits32)?,
     );
+    e.hard = digits(hard, 2, 1)? == 1;
     e.min_value = min.map(finite).transpose()?;
     e.max_value = max.map(finite).transpose()?;
     e.step_size = step.map(finite).transpose()?;
@@ -238,7 +239,7 @@ fn point_length(p: &Point) -> usize {
 fn sheet_length(e: &Envelope) -> usize {
     let limit = |l: Option<f32>| if l.is_some() { 9 } else { 2 };
     let settings =
-        decimal_places(e.target) + 3 + limit(e.min_value) + limit(e.max_value) + limit(e.step_size);
+        decimal_places(e.target) + 3 + limit(e.min_value) + limit(e.max_value) + limit(e.step_size) + 2;
     let points: usize = e.points().iter().map(point_length).sum();
     SETTINGS.len() + 1 + settings + POINTS.len() + 1 + points
 }
@@ -258,7 +259,8 @@ pub fn write_sheet(e: Envelope, out: &mut [u8]) -> Result<usize, u32> {
     t.number(u64::from(e.enabled), 2, 1, b' ');
     t.limit(e.min_value, b' ');
     t.limit(e.max_value, b' ');
-    t.limit(e.step_size, b'\n');
+    t.limit(e.step_size, b' ');
+    t.number(u64::from(e.hard), 2, 1, b'\n');
     t.bytes(POINTS);
     t.bytes(b"\n");
     for p in e.points() {

@@ -52,6 +52,24 @@ pub(crate) fn made(times: &[f64], values: &[f32], code: u32) -> AutomationEnvelo
         min_value: Limit::None,
         max_value: Limit::None,
         step_size: Limit::None,
+        hard: false,
+    }
+}
+
+// The same with both limits and a step.
+pub(crate) fn limited(
+    e: AutomationEnvelope,
+    min: f32,
+    max: f32,
+    step: f32,
+    hard: bool,
+) -> AutomationEnvelope {
+    AutomationEnvelope {
+        min_value: Limit::Number(min),
+        max_value: Limit::Number(max),
+        step_size: Limit::Number(step),
+        hard,
+        ..e
     }
 }
 

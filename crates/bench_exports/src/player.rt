@@ -1,4 +1,5 @@
 // The Player's calls, each so many times on one envelope.
+use crate::made::limited;
 use crate::made::made;
 use lookup::Lookup;
 use numbers::bits::to_bitsf;
@@ -69,6 +70,31 @@ pub extern "C" fn rattle_to_buffer(
     out: &mut [f32],
 ) -> u64 {
     let e = made(times, values, curve);
+    let mut good: u64 = 0;
+    let mut i: u32 = 0;
+    while i < turns {
+        good = std::num::wrapping_add_u64(good, accepted(e.to_buffer(rate, duration, out, 0)));
+        i += 1;
+    }
+    good
+}
+
+// With both limits and a step.
+#[no_mangle]
+pub extern "C" fn rattle_to_buffer_limits(
+    times: &[f64],
+    values: &[f32],
+    curve: u32,
+    min: f32,
+    max: f32,
+    step: f32,
+    hard: bool,
+    rate: f64,
+    duration: f64,
+    turns: u32,
+    out: &mut [f32],
+) -> u64 {
+    let e = limited(made(times, values, curve), min, max, step, hard);
     let mut good: u64 = 0;
     let mut i: u32 = 0;
     while i < turns {

@@ -111,6 +111,9 @@ set-max-requires c κs = tt
 set-step-requires : tie.Need-set-step-requires Inv-loop μ-loop
 set-step-requires c κs = tt
 
+set-hard-requires : tie.Need-set-hard-requires Inv-loop μ-loop
+set-hard-requires c κs = tt
+
 merge-requires : tie.Need-merge-requires Inv-loop μ-loop
 merge-requires c κs = tt
 
@@ -195,6 +198,7 @@ rattle-edit-spec =
     set-min-requires
     set-max-requires
     set-step-requires
+    set-hard-requires
     merge-requires
     blend-requires
     add-requires
