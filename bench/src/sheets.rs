@@ -28,6 +28,7 @@ extern "C" {
 }
 
 const PLACES: usize = 256;
+const ROOM: usize = 20_000;
 const CODES: [u32; 21] = [
     0, 1, 2, 3, 4, 5, 7, 8, 9, 10, 11, 12, 13, 14, 15, 16, 17, 18, 19, 20, 21,
 ];
@@ -71,9 +72,26 @@ fn answer(rattle: bool, text: &[u8]) -> u64 {
     }
 }
 
-/// Whether both refuse alike: a byte changed in one of the first lines, or the sheet cut there, or a line more.
+/// What writing gives back of a sheet that was read.
+fn written(rattle: bool, text: &[u8]) -> Vec<u8> {
+    let write = if rattle {
+        rattle_write_sheet
+    } else {
+        rust_write_sheet
+    };
+    let mut out = vec![0; ROOM];
+    let length = unsafe { write(text.as_ptr(), text.len(), 1, out.as_mut_ptr(), ROOM) };
+    out.truncate(length as usize);
+    out
+}
+
+/// Whether both refuse alike, and write alike what they accept: a byte changed in one of the first lines, or the
+/// sheet cut there, or a line more.
 fn refuse_alike(sheet: &[u8]) -> bool {
-    let alike = |text: &[u8]| answer(true, text) == answer(false, text);
+    let alike = |text: &[u8]| {
+        let read = answer(true, text);
+        read == answer(false, text) && (read % 16 != 0 || written(true, text) == written(false, text))
+    };
     let changed = |at: usize, b: u8| {
         let mut text = sheet.to_vec();
         text[at] = b;
@@ -85,7 +103,6 @@ fn refuse_alike(sheet: &[u8]) -> bool {
 
 pub fn figures() -> Vec<Figure> {
     const TURNS: usize = 100;
-    const ROOM: usize = 20_000;
     let sheet = sheet();
     let reading = figure(
         "read_sheet, 256",

@@ -82,15 +82,10 @@ fn get_value_at_sample(e: Envelope, sample: u64) -> Result<Option<f32>, u32> {
     Ok(e.get_value_at_sample(sample))
 }
 
-#[inline(never)]
-fn render(e: Envelope, rate: f64, first: u64, count: u64, out: &mut [f32], place: usize) -> Result<(), u32> {
+/// The samples from `first` on, into the lent buffer.
+#[inline(always)]
+fn run_into(e: &Envelope, rate: f64, first: u64, count: u64, out: &mut [f32], place: usize) -> Result<(), u32> {
     const MOST: u64 = u32::MAX as u64;
-    if !e.is_valid() {
-        return Err(1);
-    }
-    if !rate.is_finite() {
-        return Err(3);
-    }
     if first > MOST || count > MOST - first {
         return Err(13);
     }
@@ -103,6 +98,28 @@ fn render(e: Envelope, rate: f64, first: u64, count: u64, out: &mut [f32], place
         }
     }
     Ok(())
+}
+
+#[inline(never)]
+fn render(e: Envelope, rate: f64, first: u64, count: u64, out: &mut [f32], place: usize) -> Result<(), u32> {
+    if !e.is_valid() {
+        return Err(1);
+    }
+    if !rate.is_finite() {
+        return Err(3);
+    }
+    run_into(&e, rate, first, count, out, place)
+}
+
+#[inline(never)]
+fn to_buffer(e: Envelope, rate: f64, duration: f64, out: &mut [f32], place: usize) -> Result<(), u32> {
+    if !e.is_valid() {
+        return Err(1);
+    }
+    if !(rate.is_finite() && duration.is_finite()) {
+        return Err(3);
+    }
+    run_into(&e, rate, 0, (duration * rate) as u64, out, place)
 }
 
 /// # Safety
@@ -169,15 +186,7 @@ pub unsafe extern "C" fn rust_to_buffer(
     turns as u64
 }
 
-/// 000's `to_buffer` on the places, whose lookup knows `hard`.
-fn to_buffer(e: &Envelope, rate: f64, duration: f64) -> Vec<f32> {
-    let count = (duration * rate) as usize;
-    (0..count)
-        .map(|i| e.get_value_at(i as f64 / rate).unwrap_or(0.0))
-        .collect()
-}
-
-/// With both limits and a step.
+/// With both limits and a step, `hard` among them, which 000's own envelope doesn't have.
 /// # Safety
 /// As above.
 #[no_mangle]
@@ -200,12 +209,14 @@ pub unsafe extern "C" fn rust_to_buffer_limits(
 ) -> u64 {
     let e = made(from_raw_parts(times, times_len), from_raw_parts(values, values_len), curve);
     let e = limited(e, min, max, step, hard);
-    let mut last = Vec::new();
+    let out = from_raw_parts_mut(out, out_len);
+    let mut good = 0;
     for _ in 0..turns {
-        last = black_box(to_buffer(black_box(&e), rate, duration));
+        if to_buffer(*black_box(&e), rate, duration, black_box(out), 0).is_ok() {
+            good += 1;
+        }
     }
-    from_raw_parts_mut(out, out_len)[..last.len()].copy_from_slice(&last);
-    turns as u64
+    good
 }
 
 /// # Safety
