@@ -84,11 +84,8 @@ impl Limits {
         ensures { λ r. ⌜ r ≡ constrained self v ⌝ }
     {
         let step = self.step_size;
+        let hard = self.hard;
         let stepped = step.to_step(self.bound(v));
-        if self.hard {
-            self.bound(stepped)
-        } else {
-            stepped
-        }
+        if hard { self.bound(stepped) } else { stepped }
     }
 }
