@@ -9,6 +9,7 @@ mod reader;
 #[allow(dead_code)]
 mod records;
 
+use records::Envelope;
 use std::io::{stdin, stdout, BufWriter, Read, Result, Write};
 
 fn main() -> Result<()> {
@@ -35,10 +36,20 @@ fn play(out: &mut impl Write) -> Result<()> {
     }
     writeln!(out, "sample value")?;
     for i in 0..count {
-        let v = p.envelope.get_value_at(i as f64 / p.rate).unwrap_or(0.0);
+        let v = value_at(&p.envelope, i as f64 / p.rate).unwrap_or(0.0);
         writeln!(out, "{i} {:08X}", v.to_bits())?;
     }
     Ok(())
+}
+
+/// The Rust's own lookup; with `hard` on its limits again.
+fn value_at(e: &Envelope, time: f64) -> Option<f32> {
+    let mut v = e.rust.get_value_at(time)?;
+    if e.hard {
+        v = e.rust.min_value.map_or(v, |min| v.max(min));
+        v = e.rust.max_value.map_or(v, |max| v.min(max));
+    }
+    Some(v)
 }
 
 fn sheet(out: &mut impl Write, samples: u32) -> Result<()> {
