@@ -1,5 +1,5 @@
 -- 01, "Lookup": the constraints, and 02's F-1.
-use mathlib.Core.Bool.{Bool, true, cond, _&&_}
+use mathlib.Core.Bool.{Bool, true, false, cond, _&&_, _||_}
 use lib.Ieee.{Float, binary32, lt, le, ofBits}
 use Rattle.numbers.specs.Whole.{nearestMultiple}
 use Rattle.numbers.specs.Bounds.{finite, maxNum, minNum}
@@ -7,7 +7,12 @@ use Rattle.limits.specs.declared.Limit.{Limit}
 use Rattle.limits.specs.declared.Limit.the-variants as limit
 use Rattle.limits.specs.declared.Limits.{Limits}
 
--- a limit is "a number or none", and a number has to be finite
+-- a limit is "a number or none": whether there is a number
+abbrev pub hasLimit : Limit → Bool
+hasLimit limit.None = false
+hasLimit (limit.Number x) = true
+
+-- and a number has to be finite
 abbrev pub finiteLimit : Limit → Bool
 finiteLimit limit.None = true
 finiteLimit (limit.Number x) = finite x
@@ -42,3 +47,9 @@ constrained l v = let stepped = toStep (l .«step_size») (bounded l v) in cond 
 -- a value "lies between them"
 abbrev pub liesBetween : Float → Float → Float → Bool
 liesBetween low high v = le low v && le v high
+
+-- ---- for the code's own use
+
+-- whether any of the three is set
+abbrev pub anySet : Limits → Bool
+anySet l = hasLimit (l .«min_value») || hasLimit (l .«max_value») || hasLimit (l .«step_size»)

@@ -21,6 +21,7 @@ use Rattle.points.proofs.Laws.{every-append, every-getD, every-drop}
 use Rattle.points.specs.declared.AutomationPoint.{AutomationPoint}
 use Rattle.points.specs.declared.SamplePosition.{SamplePosition}
 use Rattle.points.specs.declared.SamplePosition.the-variants as position
+use Rattle.limits.specs.Limits.{hasLimit}
 use Rattle.limits.specs.declared.Limit.{Limit}
 use Rattle.limits.specs.declared.Limit.the-variants as limit
 use Rattle.limits.specs.declared.Limits.{Limits}
@@ -28,7 +29,7 @@ use Rattle.envelope.specs.Envelope.{limitsOf, validEnvelope}
 use Rattle.envelope.specs.Typed.{typedCurve, typedPosition, typedPoint, typedLimit, typed}
 use Rattle.envelope.proofs.TypedParts.{point-parts, cp1-fits, cp2-fits, parted, target-lt, places-length, places-typed}
 use Rattle.envelope.specs.declared.AutomationEnvelope.{AutomationEnvelope}
-use Rattle.state.specs.State.{halves, high, low, flag, bit, hasLimit, limitBits, limitOf, hasPosition, positionWord, positionOf, flags, packSettings, packPoint, pointOf, packPoints, pointsOf}
+use Rattle.state.specs.State.{halves, high, low, flag, bit, limitBits, limitOf, hasPosition, positionWord, positionOf, flags, packSettings, packPoint, pointOf, packPoints, pointsOf}
 use Rattle.state.specs.State.{stateWords}
 use Rattle.state.specs.State.{pack, stateOf, ifTest, unpacked}
 use Rattle.state.specs.Promised.{ReadsBack, OneToOne}

@@ -13,6 +13,7 @@ use Rattle.points.specs.Points.{everyPair}
 use Rattle.points.specs.declared.AutomationPoint.{AutomationPoint}
 use Rattle.points.specs.declared.SamplePosition.{SamplePosition}
 use Rattle.points.specs.declared.SamplePosition.the-variants as position
+use Rattle.limits.specs.Limits.{hasLimit}
 use Rattle.limits.specs.declared.Limit.{Limit}
 use Rattle.limits.specs.declared.Limit.the-variants as limit
 use Rattle.limits.specs.declared.Limits.{Limits}
@@ -49,11 +50,6 @@ abbrev pub bit : ℕ → ℕ → Bool
 bit d n = eqb (n / d % 2) 1
 
 -- ---- a number or none: a flag, and the number's bits or 0
-
--- whether there is a number
-abbrev pub hasLimit : Limit → Bool
-hasLimit limit.None = false
-hasLimit (limit.Number x) = true
 
 -- its bits, or 0
 abbrev pub limitBits : Limit → ℕ
