@@ -209,7 +209,8 @@ module _ (e : AutomationEnvelope) (on : Bool) where
   unfolding joinOf outcome joinProposal joinSuccessor
   same-merges offset other =
       let p = joinProposal (Merge offset) e other in
-      alike (firstFailing (causes (validEnvelope e && validEnvelope other) p)) (hardAs on e) e (joinSuccessor (Merge offset) (hardAs on e) (p .list)) (joinSuccessor (Merge offset) e (p .list)) refl refl
+      let cause = firstFailing (causes (validEnvelope e && validEnvelope other) p) in
+      alike cause (hardAs on e) e (joinSuccessor (Merge offset) (hardAs on e) (p .list)) (joinSuccessor (Merge offset) e (p .list)) refl refl
 
   same-merged : (offset : Float) (other : AutomationEnvelope) → joinOf (Merge offset) other (hardAs on e) ≡ joinOf (Merge offset) other e
   unfolding joinOf joinProposal
