@@ -21,11 +21,11 @@ pub struct AutomationEnvelope {
     // sorted by time
     pub points: Points,
     pub enabled: bool,
+    // 02's F-1: whether the bounds hold after the step
+    pub hard: bool,
     pub min_value: Limit,
     pub max_value: Limit,
     pub step_size: Limit,
-    // 02's F-1: whether the bounds hold after the step
-    pub hard: bool,
 }
 
 // What an edit gives: the changed envelope, or the old one with its refusal.
