@@ -261,6 +261,12 @@ fn longest(r: &mut Random) -> Vec<Vec<u8>> {
     all
 }
 
+/// Whether it plays more samples than there is room for, as one with a changed digit of its rate may.
+fn too_long(input: &[u8]) -> bool {
+    let many = 100_000..=u32::MAX as u64;
+    read_play(input).is_ok_and(|p| many.contains(&((p.duration * p.rate) as u64)))
+}
+
 /// Writes n.in and n.out, from 1 on: the fixed inputs, those around 256 points, the longest, and so many
 /// random ones.
 pub fn write(folder: &Path, seed: u64, count: u64) -> Result<()> {
@@ -271,11 +277,12 @@ pub fn write(folder: &Path, seed: u64, count: u64) -> Result<()> {
     all.extend(longest(&mut r));
     for _ in 0..count {
         let input = random(&mut r);
-        if r.once_in(3) {
-            all.push(spoiled(&mut r, input));
+        let changed = if r.once_in(3) {
+            spoiled(&mut r, input.clone())
         } else {
-            all.push(input);
-        }
+            input.clone()
+        };
+        all.push(if too_long(&changed) { input } else { changed });
     }
     for (i, input) in all.iter().enumerate() {
         std::fs::write(folder.join(format!("{}.in", i + 1)), input)?;
