@@ -1,15 +1,13 @@
 -- What hard means for a value: off, the step comes last; on, with both limits set and minimum at most maximum, it lies between them. Assumes nothing.
 -- The larger of anything and the minimum is a number not below it, a NaN giving the minimum; the smaller of that and the maximum is still not below the minimum.
 use mathlib.Core.Path.{_≡_, refl, sym, ap, _∙_}
-use mathlib.Core.Bool.{Bool, true, false, not, cond, _||_, false≢true}
+use mathlib.Core.Bool.{Bool, true, false, not, cond, false≢true}
 use lib.Ieee.{Float, lt, le, isNan}
 use Rattle.numbers.specs.Bounds.{maxNum, minNum}
 use Rattle.numbers.proofs.Compare.{le-not, le-self, le-left, le-right}
 use Rattle.numbers.proofs.Tests.{and-both}
-use Rattle.limits.specs.Limits.{hasLimit, anySet, atLeast, atMost, toStep, bounded, constrained, liesBetween}
+use Rattle.limits.specs.Limits.{atLeast, atMost, toStep, bounded, constrained, liesBetween}
 use Rattle.limits.specs.Promised.{HardHolds}
-use Rattle.limits.specs.declared.Limit.{Limit}
-use Rattle.limits.specs.declared.Limit.the-variants as limit
 use Rattle.limits.specs.declared.Limits.{Limits}
 
 module _ (low high : Float) (o : le low high ≡ true) where
@@ -58,16 +56,3 @@ hard-holds l low high held v =
     let x = toStep (l .«step_size») (bounded l v) in
     let e : bounded l x ≡ minNum (maxNum x low) high = λ i. atMost (held .maximum i) (atLeast (held .minimum i) x) in
     ap (liesBetween low high) (hard-is l v (held .hard) ∙ e) ∙ clamp-between low high (held .order) x
-
--- where none of the limits is set a value stays, hard or not
-pub unset-is : (l : Limits) (v : Float) → anySet l ≡ false → constrained l v ≡ v
-unfolding constrained
-unset-is l v = go (l .«min_value») (l .«max_value») (l .«step_size») (l .hard)
-  where
-    go : (a b s : Limit) (hard : Bool) → (hasLimit a || hasLimit b || hasLimit s) ≡ false
-        → cond hard (atMost b (atLeast a (toStep s (atMost b (atLeast a v))))) (toStep s (atMost b (atLeast a v))) ≡ v
-    go limit.None limit.None limit.None true h = refl
-    go limit.None limit.None limit.None false h = refl
-    go limit.None limit.None (limit.Number x) hard h = absurd (false≢true (sym h))
-    go limit.None (limit.Number x) s hard h = absurd (false≢true (sym h))
-    go (limit.Number x) b s hard h = absurd (false≢true (sym h))

@@ -1,5 +1,5 @@
 -- 01, "Lookup": the constraints, and 02's F-1.
-use mathlib.Core.Bool.{Bool, true, false, cond, _&&_, _||_}
+use mathlib.Core.Bool.{Bool, true, false, cond, _&&_}
 use lib.Ieee.{Float, binary32, lt, le, ofBits}
 use Rattle.numbers.specs.Whole.{nearestMultiple}
 use Rattle.numbers.specs.Bounds.{finite, maxNum, minNum}
@@ -47,9 +47,3 @@ constrained l v = let stepped = toStep (l .«step_size») (bounded l v) in cond 
 -- a value "lies between them"
 abbrev pub liesBetween : Float → Float → Float → Bool
 liesBetween low high v = le low v && le v high
-
--- ---- for the code's own use
-
--- whether any of the three is set
-abbrev pub anySet : Limits → Bool
-anySet l = hasLimit (l .«min_value») || hasLimit (l .«max_value») || hasLimit (l .«step_size»)
