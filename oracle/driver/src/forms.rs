@@ -3,7 +3,7 @@
 //! stands in calls.rs and domain.rs, a session's in session.rs.
 
 /// How many requests have landed.
-pub const LANDED: u32 = 1;
+pub const LANDED: u32 = 2;
 
 /// Of a form that no request takes away.
 const EVER: u32 = u32::MAX;

@@ -13,6 +13,7 @@ mod reader;
 mod records;
 mod reply;
 mod rules;
+mod same_bits;
 mod session;
 mod sheets;
 mod state;

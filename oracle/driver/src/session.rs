@@ -1,8 +1,9 @@
-//! Sessions by document 01's rule: the only Rust in this part is that of the edits, lookups and runs.
+//! Sessions by document 01's rule, as request F-2 has it: the only Rust in this part is that of the edits, lookups and runs.
 use crate::calls::call;
 use crate::forms::{call_kinds, is_call, is_lookup, signature};
 use crate::records::Envelope;
 use crate::rules::hold;
+use crate::same_bits::same_bits;
 use crate::state::{before_opening, packed, sum, STATE};
 use crate::text::{self, Arg, Read, Registers, Words};
 use std::collections::HashMap;
@@ -14,6 +15,7 @@ pub type Sessions = HashMap<String, Session>;
 /// 01's state, the words of the step memory, of which the session is lent the first; for each slot the
 /// envelope whose state was last written there since the opening; and which slots a `damage` has spoiled.
 /// Edit number k has slot k mod D.
+#[derive(Clone)]
 pub struct Session {
     target: u32,
     words: u64,
@@ -52,11 +54,35 @@ impl Session {
         self.after(self.mark)
     }
 
+    /// The envelope before the last edit.
+    pub fn before(&self) -> Option<Envelope> {
+        self.mark.checked_sub(1).map(|edits| self.after(edits))
+    }
+
+    /// The envelope that the first entry after the mark gives.
+    pub fn next(&self) -> Option<Envelope> {
+        self.edits.get(self.mark).cloned()
+    }
+
+    pub fn kept(&self) -> u64 {
+        self.kept
+    }
+
+    /// How many entries stand after the mark.
+    pub fn ahead(&self) -> usize {
+        self.edits.len() - self.mark
+    }
+
+    /// D, the steps that the memory has room for.
+    pub fn room(&self) -> u64 {
+        self.damaged.len() as u64
+    }
+
     fn answer(&self) -> String {
-        let ahead = self.edits.len() - self.mark;
         format!(
-            "ok kept {} ahead {ahead} {}",
+            "ok kept {} ahead {} {}",
             self.kept,
+            self.ahead(),
             text::envelope(&self.envelope(), &[])
         )
     }
@@ -153,7 +179,16 @@ impl Session {
         held.all(|(edit, at)| self.memory[self.slot(edit) * STATE..][..STATE] == packed(&self.after(at)))
     }
 
+    /// An accepted edit. One that changes no bit of the envelope is idle: the list, the mark, kept and every word of
+    /// the step memory stay.
     fn accept(&mut self, e: Envelope) {
+        if !same_bits(&self.envelope(), &e) {
+            self.join(e);
+        }
+    }
+
+    /// An edit that counts: entries after the mark go, and it joins the list.
+    pub fn join(&mut self, e: Envelope) {
         if !self.damaged.is_empty() {
             let slot = self.slot(self.mark);
             self.damaged[slot] = false;
@@ -162,7 +197,7 @@ impl Session {
         self.edits.truncate(self.mark);
         self.edits.push(e);
         self.mark += 1;
-        self.kept = (self.kept + 1).min(self.damaged.len() as u64);
+        self.kept = (self.kept + 1).min(self.room());
     }
 
     /// All bits of a word are set: one of the settings, or the first or last word of a point, where
