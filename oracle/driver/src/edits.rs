@@ -157,7 +157,7 @@ fn double(r: &mut Random, op: &str, a: &[Arg]) -> f64 {
 }
 
 /// About 0.001 from a time.
-fn beside(r: &mut Random, at: Option<f64>) -> f64 {
+pub fn beside(r: &mut Random, at: Option<f64>) -> f64 {
     let Some(t) = at else {
         return r.double();
     };
@@ -289,7 +289,7 @@ fn level(r: &mut Random, value: Option<f32>) -> f32 {
     }
 }
 
-fn ratio(r: &mut Random) -> f32 {
+pub fn ratio(r: &mut Random) -> f32 {
     match r.below(6) {
         0 => r.one_of(&[0.0, -0.0, -1.0, -4.0]),
         1 => r.one_of(&[f32::from_bits(1), 1e-40, 1e-30]),
@@ -300,7 +300,7 @@ fn ratio(r: &mut Random) -> f32 {
 }
 
 /// How far a point lies from the curve between its neighbours, or about that far.
-fn tolerance(r: &mut Random, e: &Envelope) -> f32 {
+pub fn tolerance(r: &mut Random, e: &Envelope) -> f32 {
     let n = e.rust.points.len() as u64;
     if n > 2 && !r.once_in(3) {
         let i = 1 + r.below(n - 2) as usize;

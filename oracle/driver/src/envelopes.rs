@@ -3,6 +3,7 @@
 //! limits that a step passes, with `hard` on and off, keys that tie, and envelopes that are not valid.
 use crate::domain::key;
 use crate::edges::{bits, near, near_double, sign};
+use crate::idle::Edit;
 use crate::random::Random;
 use crate::records::{controls, AutomationPoint, CurveType, Envelope};
 use crate::text::Arg;
@@ -272,7 +273,7 @@ impl Random {
 
     /// The edit that an envelope lacks for a step that passes a limit and is held: a limit, then a step, then
     /// `hard`, which is also turned off again.
-    pub fn stop_edit(&mut self, e: &Envelope) -> (&'static str, Vec<Arg>) {
+    pub fn stop_edit(&mut self, e: &Envelope) -> Edit {
         let stop = Arg::O(Some(self.stop(e)));
         match (self.passing(e), e.rust.step_size) {
             (None, _) => (self.one_of(&["set_min", "set_max"]), vec![stop]),

@@ -1,11 +1,14 @@
 //! Answers of the ported Rust. One call a line on standard input gives one answer a line on
 //! standard output; or random calls are made here. DRIVER.md has the forms.
 mod calls;
+mod counted;
 mod domain;
 mod edges;
 mod edits;
 mod envelopes;
 mod forms;
+mod idle;
+mod nearly;
 mod plays;
 mod printed;
 mod random;
@@ -14,17 +17,20 @@ mod records;
 mod reply;
 mod rules;
 mod same_bits;
+mod scripts;
 mod session;
 mod sheets;
 mod state;
 mod text;
 mod wrong;
+mod wrong_idle;
 mod wrong_plays;
 mod wrong_sessions;
 
 use calls::call;
 use random::Random;
 use reply::reply;
+use scripts::{Mix, Script};
 use session::{session, Sessions};
 use std::io::{stdin, BufRead, BufWriter, Read, Result, Write};
 use text::{arguments, Registers};
@@ -33,6 +39,8 @@ const USAGE: &str = "oracle_driver [--raw]
 oracle_driver --gen SEED N [OPERATION,..]
 oracle_driver --vectors SEED N [OPERATION,..]
 oracle_driver --sessions SEED N [WORDS]
+oracle_driver --idle SEED N [WORDS]
+oracle_driver --counted
 oracle_driver --wrong SEED
 oracle_driver --printed
 oracle_driver --plays SEED N FOLDER
@@ -62,8 +70,12 @@ fn main() -> Result<()> {
             random_calls(out, number(seed), number(count), ops.first(), true)?
         }
         ["--sessions", seed, count, ref words @ ..] => {
-            random_sessions(out, number(seed), number(count), words.first().map(|w| number(w)))?
+            random_sessions(out, &scripts::PLAIN, number(seed), number(count), words.first())?
         }
+        ["--idle", seed, count, ref words @ ..] => {
+            random_sessions(out, &scripts::IDLE, number(seed), number(count), words.first())?
+        }
+        ["--counted"] => counted::print(out, stdin().lock())?,
         ["--wrong", seed] => wrong::write(out, number(seed))?,
         ["--printed"] => {
             let mut sessions = Sessions::new();
@@ -118,18 +130,25 @@ fn random_calls(
 }
 
 /// One session after the other, each of some tens of calls.
-fn random_sessions(out: &mut impl Write, seed: u64, count: u64, words: Option<u64>) -> Result<()> {
+fn random_sessions(
+    out: &mut impl Write,
+    mix: &'static Mix,
+    seed: u64,
+    count: u64,
+    words: Option<&&str>,
+) -> Result<()> {
+    let words = words.map(|w| number(w));
     let mut r = Random(seed);
     let mut sessions = Sessions::new();
-    let mut line = r.opening(words);
+    let (mut script, mut line) = (Script::new(mix), r.opening(words));
     for _ in 0..count {
         let call: Vec<&str> = line.split(' ').collect();
         let answer = session(&mut sessions, &Registers::new(), &call);
         writeln!(out, "session {line} => {}", answer.expect("a call made here"))?;
         if r.once_in(60) {
-            line = r.opening(words);
+            (script, line) = (Script::new(mix), r.opening(words));
         } else {
-            let (call, a) = r.session_call(&sessions["s"]);
+            let (call, a) = script.call(&mut r, &sessions["s"]);
             line = format!("s {call}{}", arguments(&a));
         }
     }

@@ -3,6 +3,7 @@ use crate::domain::MOST;
 use crate::edges;
 use crate::edits;
 use crate::forms::{call_kinds, is_lookup, session_edits, signature, weighted_calls};
+use crate::idle::Edit;
 use crate::records::{curve_of, AutomationPoint, CurveType, Envelope};
 use crate::session::Session;
 use crate::sheets;
@@ -264,8 +265,8 @@ impl Random {
         format!("s open {target} {words}")
     }
 
-    /// An edit of a session without its first envelope: its name and arguments.
-    fn session_edit(&mut self, e: &Envelope) -> (&'static str, Vec<Arg>) {
+    /// Any edit of a session.
+    pub fn session_edit(&mut self, e: &Envelope) -> Edit {
         if self.once_in(4) {
             return self.stop_edit(e);
         }
@@ -284,7 +285,7 @@ impl Random {
     }
 
     /// The word of a session's call, each as often as the table says.
-    fn session_word(&mut self) -> &'static str {
+    pub fn session_word(&mut self) -> &'static str {
         let calls = weighted_calls();
         let mut left = self.below(calls.iter().map(|c| c.1).sum());
         for (word, weight) in calls {
@@ -296,11 +297,10 @@ impl Random {
         unreachable!("the weights' sum")
     }
 
-    /// A call of a session, and the words that follow its name. What can't be asked now is an edit.
-    pub fn session_call(&mut self, s: &Session) -> (String, Vec<Arg>) {
-        let (op, a) = self.session_edit(&s.envelope());
+    /// A call of a session by its word, and the words that follow its name. What can't be asked now is the edit.
+    pub fn session_call(&mut self, s: &Session, word: &str, (op, a): Edit) -> (String, Vec<Arg>) {
         let edit = (format!("edit {op}"), a.clone());
-        match self.session_word() {
+        match word {
             "edit" => edit,
             "len" => {
                 let words = s.words();

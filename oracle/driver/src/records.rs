@@ -31,6 +31,11 @@ pub fn of_points(points: &[AutomationPoint]) -> Envelope {
     e
 }
 
+/// What a place past the count holds.
+pub fn empty_place() -> AutomationPoint {
+    AutomationPoint::new(0.0, 0.0)
+}
+
 /// The curve of a code, in 001's order from 0. `c1` and `c2` are the controls of a Bezier curve.
 pub fn curve_of(code: u64, c1: f32, c2: f32) -> Option<CurveType> {
     use CurveType::*;

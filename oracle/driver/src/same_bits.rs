@@ -1,6 +1,6 @@
 //! Bit-equality of envelopes, by request F-2: every bit of the settings, of the count and of each place. It is
 //! written field by field; the Rust's equalities allow a distance, take -0.0 for 0.0 and leave fields out.
-use crate::records::{code_of, controls, AutomationPoint, Envelope};
+use crate::records::{code_of, controls, empty_place, AutomationPoint, Envelope};
 use crate::rules::hold;
 use crate::state::packed;
 
@@ -22,7 +22,7 @@ pub fn differences(a: &Envelope, b: &Envelope) -> Vec<Difference> {
     if n != m {
         all.push(("count", 0));
     }
-    let empty = AutomationPoint::new(0.0, 0.0);
+    let empty = empty_place();
     for place in 0..n.max(m) {
         let p = a.rust.points.get(place).unwrap_or(&empty);
         let q = b.rust.points.get(place).unwrap_or(&empty);

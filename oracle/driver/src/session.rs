@@ -187,8 +187,15 @@ impl Session {
         }
     }
 
+    /// The session as an idle edit would leave it if it counted.
+    pub fn with_idle_counted(&self) -> Session {
+        let mut s = self.clone();
+        s.join(self.envelope());
+        s
+    }
+
     /// An edit that counts: entries after the mark go, and it joins the list.
-    pub fn join(&mut self, e: Envelope) {
+    fn join(&mut self, e: Envelope) {
         if !self.damaged.is_empty() {
             let slot = self.slot(self.mark);
             self.damaged[slot] = false;

@@ -474,12 +474,17 @@ fn not_run() -> Vec<String> {
     all
 }
 
-/// Answers as long as they can be, each with its last number wrong.
-fn long_answers() -> Vec<String> {
+/// An envelope of 256 points, whose values are 0 and 1 in turn.
+pub fn full() -> Envelope {
     let mut e = Envelope::new(7);
     let sawtooth = |k| point(k as f64, None, (k % 2) as f32, CurveType::Linear);
     e.rust.points.extend((0..256).map(sawtooth));
-    let e = || Arg::E(e.clone());
+    e
+}
+
+/// Answers as long as they can be, each with its last number wrong.
+fn long_answers() -> Vec<String> {
+    let e = || Arg::E(full());
     let whole = [0, 1024, 0, 1024].map(Arg::N);
     let calls = [
         ("render", [vec![e(), Arg::D(4.0)], whole.to_vec()].concat()),

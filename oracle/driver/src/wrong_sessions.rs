@@ -3,29 +3,38 @@
 //! each that holds has a wrong line.
 use crate::calls::Answer;
 use crate::forms::{is_call, is_lookup, weighted_calls};
+use crate::printed;
 use crate::random::Random;
 use crate::records::{AutomationPoint, CurveType, Envelope};
-use crate::session::{session, Sessions};
+use crate::session::{session, Session, Sessions};
 use crate::text::{arguments, Arg, Registers};
 use crate::wrong::{another_letter, chosen, lines_of, malformed, point, wrong_answers};
+use crate::wrong_idle;
 use std::collections::BTreeSet;
 use std::io::{Result, Write};
 
 /// `told` are the words of the calls that have a wrong line.
-struct Script<'a, W: Write> {
+pub struct Script<'a, W: Write> {
     out: &'a mut W,
     sessions: Sessions,
     told: BTreeSet<String>,
 }
 
 /// Three slots and some words after them.
-const OPEN: &str = "open 7 3100";
+pub const OPEN: &str = "open 7 3100";
 
-fn edit(op: &str, a: &[Arg]) -> String {
+pub fn edit(op: &str, a: &[Arg]) -> String {
     format!("edit {op}{}", arguments(a))
 }
 
-fn add(p: AutomationPoint) -> String {
+/// Runs a call and gives its answer.
+fn run(sessions: &mut Sessions, call: &str) -> String {
+    let line = format!("s {call}");
+    let words: Vec<&str> = line.split(' ').collect();
+    session(sessions, &Registers::new(), &words).expect("a call made here")
+}
+
+pub fn add(p: AutomationPoint) -> String {
     edit("add_point", &[Arg::P(p)])
 }
 
@@ -39,15 +48,30 @@ fn holds(call: &str) -> bool {
 }
 
 impl<W: Write> Script<'_, W> {
+    pub fn session(&self) -> &Session {
+        &self.sessions["s"]
+    }
+
+    /// The answers that calls would have after one another, the session being as given.
+    pub fn answers(&self, s: &Session, calls: &[&str]) -> Vec<String> {
+        let mut sessions = Sessions::from([("s".into(), s.clone())]);
+        calls.iter().map(|call| run(&mut sessions, call)).collect()
+    }
+
     /// Runs a call and gives its answer.
     fn run(&mut self, call: &str) -> String {
-        let line = format!("s {call}");
-        let words: Vec<&str> = line.split(' ').collect();
-        session(&mut self.sessions, &Registers::new(), &words).expect("a call made here")
+        run(&mut self.sessions, call)
+    }
+
+    /// Runs a call and writes its line with an answer that is not the right one.
+    pub fn answered(&mut self, call: &str, wrong: &str) -> Result<()> {
+        let right = self.run(call);
+        assert!(!printed::same(&right, wrong), "{call} => {wrong}");
+        writeln!(self.out, "session s {call} => {wrong}")
     }
 
     /// Runs a call and writes its line with the k-th wrong answer. Says whether there are more.
-    fn wrong(&mut self, call: &str, k: usize) -> Result<bool> {
+    pub fn wrong(&mut self, call: &str, k: usize) -> Result<bool> {
         let right = self.run(call);
         let wrong = wrong_answers(&right, &[self.run("show")]);
         self.told.insert(word(call).into());
@@ -71,7 +95,7 @@ impl<W: Write> Script<'_, W> {
     }
 
     /// An opening, and edits after which two points and a limit are there: four, of which three are kept.
-    fn start(&mut self) -> Result<()> {
+    pub fn start(&mut self) -> Result<()> {
         self.wrong(OPEN, 0)?;
         let bezier = CurveType::Bezier(0.25, 0.75);
         self.wrong(&edit("set_min", &[Arg::O(Some(-1.0))]), 1)?;
@@ -262,6 +286,7 @@ pub fn write(out: &mut impl Write, r: &mut Random) -> Result<()> {
     script.malformed()?;
     script.counts()?;
     script.not_run()?;
+    wrong_idle::write(&mut script, r)?;
     for (call, _) in weighted_calls() {
         assert!(script.told.contains(call), "no wrong line of a session's {call}");
     }
