@@ -1,4 +1,5 @@
-//! What a list of sessions has: how many lines of each sort, and of its edits how many are idle, nearly idle, and where.
+//! What a list of sessions has: how many lines of each sort, and of its edits how many are idle or nearly
+//! idle, and where.
 use crate::nearly::one_thing;
 use crate::records::Envelope;
 use crate::same_bits::same_bits;

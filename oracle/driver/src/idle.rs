@@ -123,8 +123,8 @@ impl Random {
         }
     }
 
-    /// An edit that changes nothing and is mostly refused all the same: a number of it isn't finite, an envelope not
-    /// valid, bounds crossed.
+    /// An edit that changes nothing and is mostly refused all the same: a number of it isn't finite, an
+    /// envelope not valid, bounds crossed.
     pub fn refused_idle(&mut self, e: &Envelope) -> Edit {
         let (op, mut a) = self.idle_edit(e);
         let (number, last) = (self.one_of(&NOT_FINITE), self.once_in(2));
@@ -195,7 +195,8 @@ fn before(r: &mut Random, e: &Envelope) -> f64 {
     r.one_of(&[first, first, first - 1.0, -f64::MAX])
 }
 
-/// A number that is lost where it is added to each of these: a zero, or less than the last place of the least of them.
+/// A number that is lost where it is added to each of these: a zero, or less than the last place of the
+/// least of them.
 fn lost(r: &mut Random, numbers: Vec<f64>) -> f64 {
     let least = numbers.iter().fold(1.0, |least: f64, x| least.min(x.abs()));
     r.one_of(&[0.0, -0.0, least / 1e17, -least / 1e17, f64::from_bits(1)])
@@ -233,8 +234,11 @@ fn part_of(r: &mut Random, e: &Envelope) -> (Envelope, f64) {
     let offset = r.one_of(&[0.0, -0.0, -0.0, 0.5, -2.0]);
     for p in &e.rust.points {
         if all || r.once_in(2) {
-            let (time, p) = (p.time - offset, p.clone());
-            other.rust.points.push(AutomationPoint { time, ..p });
+            let mut moved = p.clone();
+            if offset != 0.0 {
+                moved.time -= offset;
+            }
+            other.rust.points.push(moved);
         }
     }
     (other, offset)
@@ -270,8 +274,8 @@ fn pulse(e: &Envelope) -> Vec<Arg> {
     }
 }
 
-/// An envelope that a combination may leave no trace of: itself, one that is silent, or one with times of it and the same
-/// value everywhere.
+/// An envelope that a combination may leave no trace of: itself, one that is silent, or one with times of it
+/// and the same value everywhere.
 fn beside_it(r: &mut Random, e: &Envelope, value: f32) -> Envelope {
     let mut other = r.envelope_of(|_| 0);
     match r.below(4) {

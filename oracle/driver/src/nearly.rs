@@ -1,5 +1,5 @@
-//! Edits of a session that are nearly idle, and count: they change one thing of an envelope, mostly by a bit; or they lead
-//! to the envelope before the last edit, or to one that stands ahead.
+//! Edits of a session that are nearly idle, and count: they change one thing of an envelope, mostly by a bit;
+//! or they lead to the envelope before the last edit, or to one that stands ahead.
 use crate::idle::{given, point_there, Edit};
 use crate::random::Random;
 use crate::records::{controls, empty_place, AutomationPoint, CurveType, Envelope};
@@ -189,7 +189,8 @@ fn other_times(r: &mut Random, e: &Envelope) -> Edit {
     }
 }
 
-/// A point that is as a place past the count. At the end, where all times are before 0.0, it changes the count alone.
+/// A point that is as a place past the count. At the end, where all times are before 0.0, it changes the
+/// count alone.
 fn one_more(_: &mut Random, _: &Envelope) -> Edit {
     ("add_point", vec![P(empty_place())])
 }
@@ -216,10 +217,10 @@ fn combined(r: &mut Random, e: &Envelope) -> Edit {
 /// An edit that leads from an envelope to another, where one does it.
 pub fn towards(e: &Envelope, f: &Envelope) -> Option<Edit> {
     let leads = |edit: &Edit| given(e, edit).is_some_and(|g| same_bits(&g, f));
-    leading(e, f).into_iter().find(leads)
+    tried(e, f).into_iter().find(leads)
 }
 
-fn leading(e: &Envelope, f: &Envelope) -> Vec<Edit> {
+fn tried(e: &Envelope, f: &Envelope) -> Vec<Edit> {
     let single = |a: Arg| vec![a];
     let mut all = vec![
         ("set_enabled", single(B(f.rust.enabled))),

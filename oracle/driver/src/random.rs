@@ -297,7 +297,8 @@ impl Random {
         unreachable!("the weights' sum")
     }
 
-    /// A call of a session by its word, and the words that follow its name. What can't be asked now is the edit.
+    /// A call of a session by its word, and the words that follow its name. What can't be asked now is the
+    /// edit.
     pub fn session_call(&mut self, s: &Session, word: &str, (op, a): Edit) -> (String, Vec<Arg>) {
         let edit = (format!("edit {op}"), a.clone());
         match word {

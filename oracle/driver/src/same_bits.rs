@@ -1,5 +1,5 @@
-//! Bit-equality of envelopes, by request F-2: every bit of the settings, of the count and of each place. It is
-//! written field by field; the Rust's equalities allow a distance, take -0.0 for 0.0 and leave fields out.
+//! Bit-equality of envelopes, by request F-2: every bit of the settings, of the count and of each place.
+//! Written field by field; the Rust's equalities allow a distance, take -0.0 for 0.0 and leave fields out.
 use crate::records::{code_of, controls, empty_place, AutomationPoint, Envelope};
 use crate::rules::hold;
 use crate::state::packed;
@@ -14,7 +14,8 @@ pub fn same_bits(a: &Envelope, b: &Envelope) -> bool {
     same
 }
 
-/// Every field that differs by a bit, in document 01's form of an envelope: the places past a count hold what it says.
+/// Every field that differs by a bit, in document 01's form of an envelope: the places past a count hold what
+/// it says.
 pub fn differences(a: &Envelope, b: &Envelope) -> Vec<Difference> {
     let mut all = vec![];
     settings(a, b, &mut all);

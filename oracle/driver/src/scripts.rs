@@ -1,5 +1,5 @@
-//! Scripts of sessions, made a call at a time from how the session stands. A part of the edits is idle or nearly idle
-//! (request F-2), and calls that show what such an edit left come after it.
+//! Scripts of sessions, made a call at a time from how the session stands. A part of the edits is idle or
+//! nearly idle (request F-2), and calls that show what such an edit left come after it.
 use crate::forms::is_call;
 use crate::idle::{is_idle, Edit};
 use crate::nearly::towards;
@@ -8,8 +8,8 @@ use crate::records::{empty_place, AutomationPoint, CurveType, Envelope};
 use crate::session::Session;
 use crate::text::Arg::{self, *};
 
-/// Of a hundred edits, how many are idle, nearly idle, or lead to envelopes on which more edits can be that. The others
-/// are any.
+/// Of a hundred edits, how many are idle, nearly idle, or lead to envelopes on which more edits can be that.
+/// The others are any.
 pub struct Mix {
     idle: u64,
     nearly: u64,
@@ -55,8 +55,8 @@ impl Script {
         call
     }
 
-    /// After an idle edit often a step forward, if one stands ahead, or what shows the step memory; after an opening, a
-    /// damage or a step an edit.
+    /// After an idle edit often a step forward, if one stands ahead, or what shows the step memory; after an
+    /// opening, a damage or a step an edit.
     fn word(&self, r: &mut Random, s: &Session) -> &'static str {
         let shows: &[&'static str] = match self.last {
             "idle" if s.ahead() > 0 => &["forward", "forward", "memory", "slot", "words", "edit"],
@@ -111,8 +111,9 @@ fn nearly(r: &mut Random, s: &Session) -> Option<Edit> {
     }
 }
 
-/// To an envelope on which more edits are idle or nearly idle: on a grid or beside it, the same from both ends, without
-/// settings and curves, with zeros of either sign, with Bezier curves, with all times below 0, empty, full.
+/// To an envelope on which more edits are idle or nearly idle: on a grid or beside it, the same from both
+/// ends, without settings and curves, with zeros of either sign, with Bezier curves, with all times below 0,
+/// empty, full.
 fn leading(r: &mut Random, e: &Envelope) -> Edit {
     let at = r.one_of(&[0.3, 0.6, 0.7, 1.2, -0.0, -0.0, -0.0]);
     let (length, value) = (r.below(40) as f64 / 8.0, r.one_of(&[0.0, -0.0, 0.5]));

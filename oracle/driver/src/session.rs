@@ -1,4 +1,5 @@
-//! Sessions by document 01's rule, as request F-2 has it: the only Rust in this part is that of the edits, lookups and runs.
+//! Sessions by document 01's rule, with request F-2's of idle edits: the only Rust in this part is that of
+//! the edits, lookups and runs.
 use crate::calls::call;
 use crate::forms::{call_kinds, is_call, is_lookup, signature};
 use crate::records::Envelope;
@@ -179,8 +180,8 @@ impl Session {
         held.all(|(edit, at)| self.memory[self.slot(edit) * STATE..][..STATE] == packed(&self.after(at)))
     }
 
-    /// An accepted edit. One that changes no bit of the envelope is idle: the list, the mark, kept and every word of
-    /// the step memory stay.
+    /// An accepted edit. One that changes no bit of the envelope is idle: the list, the mark, kept and every
+    /// word of the step memory stay.
     fn accept(&mut self, e: Envelope) {
         if !same_bits(&self.envelope(), &e) {
             self.join(e);

@@ -1,4 +1,5 @@
-//! Wrong lines on idle edits: what would be right if an idle edit were a step, or if one that changes a bit were none.
+//! Wrong lines on idle edits: what would be right if an idle edit were a step, or if one that changes a bit
+//! were none.
 use crate::forms::session_edits;
 use crate::idle::{given, Edit};
 use crate::nearly::one_thing;
@@ -47,8 +48,8 @@ fn one_ahead<W: Write>(script: &mut Script<W>, open: &str, edits: &str) -> Resul
     Ok(())
 }
 
-/// An idle edit of each operation, where a step stands ahead: as one that counts and clears it, in part or in whole, and
-/// with a refusal.
+/// An idle edit of each operation, where a step stands ahead: as one that counts and clears it, in part or in
+/// whole, and with a refusal.
 fn idle_edits<W: Write>(script: &mut Script<W>, r: &mut Random) -> Result<()> {
     let mut left = session_edits();
     for base in bases() {
@@ -71,8 +72,9 @@ fn idle_edits<W: Write>(script: &mut Script<W>, r: &mut Random) -> Result<()> {
     Ok(())
 }
 
-/// After idle edits, answers that would be right if they counted: the step forward that still stands, the step back that
-/// moves, the step memory. First with a step ahead, then with as many kept as the memory has room for.
+/// After idle edits, answers that would be right if they counted: the step forward that still stands, the
+/// step back that moves, the step memory. First with a step ahead, then with as many kept as the memory has
+/// room for.
 fn after_idle<W: Write>(script: &mut Script<W>, r: &mut Random) -> Result<()> {
     for op in ["quantize_time", "set_hard", "merge", "add_point", "scale_time"] {
         one_ahead(script, OPEN, &bases()[0])?;
@@ -105,6 +107,24 @@ fn as_if_counted<W: Write>(script: &mut Script<W>, calls: &[&str]) -> Result<()>
     Ok(())
 }
 
+/// Edits that would change nothing and are refused, with the answer of an idle one: by the length of the step
+/// memory, an envelope that is not valid, a number that isn't finite, crossed bounds.
+fn refused<W: Write>(script: &mut Script<W>) -> Result<()> {
+    let mut bad = Envelope::new(1);
+    bad.rust.step_size = Some(f32::NAN);
+    script.wrong(OPEN, 2)?;
+    let show = script.answers(script.session(), &["show"]).remove(0);
+    for call in [
+        format!("len 3084 {}", edit("set_enabled", &[B(true)])),
+        edit("merge", &[E(bad), D(0.0)]),
+        edit("scale", &[F(f32::INFINITY)]),
+        edit("clamp_values", &[F(1.0), F(0.0)]),
+    ] {
+        script.answered(&call, &show)?;
+    }
+    Ok(())
+}
+
 /// An envelope of which a bit of each kind of field can be changed.
 fn rich() -> String {
     let points = [
@@ -133,8 +153,8 @@ fn nearly(r: &mut Random, e: &Envelope) -> Vec<Edit> {
     best.into_values().collect()
 }
 
-/// An edit that counts, as if it were idle: with the answer of an idle one, with its counts alone, and steps after it as
-/// an idle one leaves them.
+/// An edit that counts, as if it were idle: with the answer of an idle one, with its counts alone, and steps
+/// after it as an idle one leaves them.
 fn as_if_idle<W: Write>(script: &mut Script<W>, edit: &str) -> Result<()> {
     let s = script.session().clone();
     let [show, forward, back, after] =
@@ -159,7 +179,8 @@ fn nearly_idle<W: Write>(script: &mut Script<W>, r: &mut Random) -> Result<()> {
     as_if_idle(script, &add(last))
 }
 
-/// An edit that leads to the envelope before the last one is no step back, and one to the envelope ahead counts.
+/// An edit that leads to the envelope before the last one is no step back, and one to the envelope ahead
+/// counts.
 fn undone<W: Write>(script: &mut Script<W>) -> Result<()> {
     let [on, off] = [true, false].map(|b| edit("set_hard", &[B(b)]));
     script.wrong(OPEN, 0)?;
@@ -175,6 +196,7 @@ fn undone<W: Write>(script: &mut Script<W>) -> Result<()> {
 pub fn write<W: Write>(script: &mut Script<W>, r: &mut Random) -> Result<()> {
     idle_edits(script, r)?;
     after_idle(script, r)?;
+    refused(script)?;
     nearly_idle(script, r)?;
     undone(script)
 }
