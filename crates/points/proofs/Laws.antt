@@ -1,7 +1,7 @@
 -- Laws of lists and of the tests over them, for any element. Assumes nothing.
 use Prim.Native.Nat.{ℕ, zero, suc, _+_, _-_, _≤_, _<_, min, max}
 use mathlib.Core.Path.{_≡_, refl, sym, ap, _∙_}
-use mathlib.Core.Bool.{Bool, true, false, _&&_, and-assoc, and-true, and-false}
+use mathlib.Core.Bool.{Bool, true, false, _&&_, false≢true, and-assoc, and-true, and-false}
 use mathlib.Core.List.{List, [], _∷_, _++_, map, foldl, reverse, reverseAux, foldl-append, append-assoc}
 use native.Mathlib.Numerals.{add-one}
 use native.Mathlib.Nat.{le-of-suc-le-suc, not-suc-le-zero}
@@ -160,6 +160,20 @@ module _ {A : Type 0} where
   pub pair-more : (q : A → A → Bool) (l m : List A) (i : ℕ) (d : A) → i < length l → i < length m
       → everyPair q (take (i + 1) l) (take (i + 1) m) ≡ (everyPair q (take i l) (take i m) && q (getD l i d) (getD m i d))
   pair-more q l m i d h k = rw add-one (pair-step q l m i d h k)
+
+  -- where the first pairs don't all pass, the lists don't
+  pub pair-early : (q : A → A → Bool) (i : ℕ) (l m : List A) → everyPair q (take i l) (take i m) ≡ false → everyPair q l m ≡ false
+  unfolding everyPair
+  pair-early q zero l m h = absurd (false≢true (sym h))
+  pair-early q (suc i) [] [] h = h
+  pair-early q (suc i) [] (y ∷ m) h = refl
+  pair-early q (suc i) (x ∷ l) [] h = refl
+  pair-early q (suc i) (x ∷ l) (y ∷ m) h = go (q x y) (pair-early q i l m) h
+    where
+      go : (b : Bool) → (everyPair q (take i l) (take i m) ≡ false → everyPair q l m ≡ false) → (b && everyPair q (take i l) (take i m)) ≡ false
+          → (b && everyPair q l m) ≡ false
+      go true early h = early h
+      go false early h = refl
 
   -- lists of other lengths
   pub pair-length : (q : A → A → Bool) (l m : List A) → (length l ≡ length m → ⊥) → everyPair q l m ≡ false

@@ -1,0 +1,16 @@
+-- `equal::same_bitsf` meets its contract, by what `to_bitsf` ensures of each.
+use borrow.Author.Needs.{needs}
+use Rattle.equal.proofs.same_bitsf.Statement.{statement}
+use Rattle.equal.proofs.same_bitsf.Tie as tie
+
+to-bitsf-requires : tie.Need-to-bitsf-requires
+to-bitsf-requires c κs = search needs
+
+to-bitsf-requires-2 : tie.Need-to-bitsf-requires-2
+to-bitsf-requires-2 c κs = search needs
+
+returns : tie.Need-returns
+returns c = cc
+
+pub same-bitsf-spec : {M : Type 1} → statement M
+same-bitsf-spec = tie.close (tie.spec to-bitsf-requires to-bitsf-requires-2 returns)
