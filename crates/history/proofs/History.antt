@@ -18,6 +18,7 @@ use Rattle.envelope.specs.Envelope.{new, validEnvelope}
 use Rattle.envelope.specs.Typed.{typed}
 use Rattle.envelope.proofs.TypedLaws.{new-typed, new-valid}
 use Rattle.envelope.specs.declared.AutomationEnvelope.{AutomationEnvelope}
+use Rattle.equal.specs.Equal.{bitEqual}
 use Rattle.session.specs.Session.{statesIn, opened, openSession, Called, called}
 use Rattle.session.specs.Calls.{Entry, madeBy, Call, edit, back, forward, inTurn, Obeys, Ran, done, call}
 use Rattle.session.specs.declared.Session.{Session}
@@ -33,7 +34,7 @@ use Rattle.history.proofs.Played.{runs-of}
 -- what a call does
 module _ (start : AutomationEnvelope) (d : ℕ) (h : Hist) (s : Session) (m : List ℕ) (v : Inv start d h s m) where
   passes : (c : Call) → firstFailing (inTurn (ruleTests h c)) ≡ none → CallStep start d h s m c
-  passes (edit x) p = edit-stepped start d h s m v x p (madeBy x (s .envelope) .said) refl
+  passes (edit x) p = edit-stepped start d h s m v x p (madeBy x (s .envelope) .said) refl (bitEqual (s .envelope) (madeBy x (s .envelope) .envelope)) refl
   passes back p = yes-back start d h s m v p
   passes forward p = yes-forward start d h s m v p
 
@@ -91,6 +92,7 @@ begun start m t f =
       at-slot = λ p. sym (zero-mod (statesIn (length m)));
       valid = λ k l. ap (λ (x : List Entry). validEnvelope (made x start)) (take-nil k) ∙ f;
       in-range = λ k l. ap (λ (x : List Entry). typed (made x start)) (take-nil k) ∙ t;
+      alters = λ k l. absurd (omega arith);
       holds = record { before = λ k a b. absurd (omega arith); after = λ k a b. absurd (omega arith) };
     }
 
@@ -110,6 +112,7 @@ history start t f m₀ cs ts answers s m r =
       lent = k .2;
       place = place-is start d (histAfter start d newHist cs) s m v;
       holds = v .holds;
+      alters = v .alters;
       stay = λ c i out.
           let st = step start d (histAfter start d newHist cs) s m v c in
           ap (λ (x : Called). getD (x .memory) i 0) (st .calls)

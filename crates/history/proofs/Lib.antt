@@ -1,6 +1,7 @@
--- The theorem, and that every list has its run.
+-- The theorem, that every list has its run, and that an idle edit may stand anywhere in it.
 pub mod History
 pub mod Run
+pub mod Idle
 -- What it cites: the entries of an edit, a step of the rule, each kind of call, and what is played afterwards.
 pub mod Entries
 pub mod Steps

@@ -108,6 +108,7 @@ module _ (start : AutomationEnvelope) (d : ℕ) (h : Hist) (s : Session) (m : Li
           at-slot = λ x. slot-b;
           valid = v .valid;
           in-range = v .in-range;
+          alters = v .alters;
           holds = holds-b;
         }
 
@@ -184,6 +185,7 @@ module _ (start : AutomationEnvelope) (d : ℕ) (h : Hist) (s : Session) (m : Li
           at-slot = λ x. ap (slotAfter d) (v .at-slot pos-f) ∙ after-slot (h .mark) d pos-f;
           valid = v .valid;
           in-range = v .in-range;
+          alters = v .alters;
           holds = holds-f;
         }
 

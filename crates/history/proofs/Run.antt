@@ -4,6 +4,7 @@ use mathlib.Core.Path.{_≡_, refl, ap}
 use mathlib.Core.Bool.{_&&_}
 use mathlib.Core.List.{List, [], _∷_}
 use mathlib.Core.Option.{Option, none, some}
+use Rattle.numbers.proofs.Tests.{either}
 use Rattle.points.specs.Checks.{firstFailing}
 use Rattle.points.proofs.CheckLaws.{gate-either}
 use Rattle.points.specs.Refusal.{Said, refuses, gives, said, number}
@@ -17,6 +18,7 @@ use Rattle.envelope.specs.Edit.{EditTold, proposal, editOf, joinProposal, joinO
 use Rattle.envelope.specs.declared.AutomationEnvelope.{AutomationEnvelope}
 use Rattle.envelope.specs.declared.edit.Join.{Join}
 use Rattle.envelope.specs.declared.edit.Edit.{Edit}
+use Rattle.equal.specs.Equal.{bitEqual}
 use Rattle.state.specs.State.{unpacked}
 use Rattle.session.specs.Session.{stateAt, Called, declined, settled, exchanged}
 use Rattle.session.specs.Calls.{Entry, alone, joined, madeBy, Call, edit, back, forward, inTurn, testsOf, ownOf, callOf, Obeys, Ran, done, call}
@@ -56,7 +58,7 @@ made-answered (joined j o) e = join-answered j e o
 module _ (s : Session) (m : List ℕ) where
   settled-answered : (x : Said (Unit {0})) (e : AutomationEnvelope) → Answered x → Answered (settled s m x e .said)
   settled-answered (refuses n) e p = p
-  settled-answered (gives u) e p = by Accepted
+  settled-answered (gives u) e p = either CallAnswered (bitEqual (s .envelope) e) (λ same. by Accepted) (by Accepted)
 
   exchanged-answered : (k : ℕ) (to : AutomationEnvelope → Session) (u : Option AutomationEnvelope) → Answered (exchanged s m k to u .said)
   exchanged-answered k to none = by (Refused StoredState)

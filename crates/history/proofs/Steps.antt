@@ -2,7 +2,7 @@
 use Prim.Native.Nat.{ℕ, _+_, _*_, _%_, _≤_, _<_}
 use mathlib.Core.Path.{_≡_, refl, ap, sym, _∙_}
 use mathlib.Core.List.{List, [], _∷_, _++_}
-use mathlib.Core.Bool.{true, _&&_}
+use mathlib.Core.Bool.{true, false, _&&_}
 use mathlib.Core.Option.{Option, none, some}
 use mathlib.Core.Logic.{⊎-elim}
 use native.Mathlib.Nat.{mod-lt, eq-zero-or-pos}
@@ -19,6 +19,7 @@ use Rattle.points.specs.declared.refusal.Refusal.{Refusal}
 use Rattle.envelope.specs.Envelope.{validEnvelope}
 use Rattle.envelope.specs.Typed.{typed}
 use Rattle.envelope.specs.declared.AutomationEnvelope.{AutomationEnvelope}
+use Rattle.equal.specs.Equal.{bitEqual}
 use Rattle.state.specs.State.{stateWords, pack}
 use Rattle.state.proofs.StateLaws.{length-pack, slot-fits}
 use Rattle.session.specs.Session.{statesIn, depth, placeBelow, inOrder, validSession, declined}
@@ -40,6 +41,7 @@ pub record Inv (start : AutomationEnvelope) (d : ℕ) (h : Hist) (s : Session) (
   pub at-slot : 0 < d → s .at ≡ h .mark % d
   pub valid : (k : ℕ) → k ≤ length (h .edits) → validEnvelope (upTo start h k) ≡ true
   pub in-range : (k : ℕ) → k ≤ length (h .edits) → typed (upTo start h k) ≡ true
+  pub alters : (k : ℕ) → k < length (h .edits) → bitEqual (upTo start h k) (upTo start h (k + 1)) ≡ false
   pub holds : Holds start d h m
 
 pub made-snoc : (xs : List Entry) (x : Entry) (e : AutomationEnvelope) → made (xs ++ (x ∷ [])) e ≡ madeBy x (made xs e) .envelope

@@ -1,7 +1,7 @@
 -- What demand 3 says of a session and its memory after a list of calls.
 use Prim.Native.Nat.{ℕ, _+_, _-_, _/_, _%_, _≤_, _<_}
 use mathlib.Core.Path.{_≡_}
-use mathlib.Core.Bool.{Bool, true, cond, _&&_}
+use mathlib.Core.Bool.{Bool, true, false, cond, _&&_}
 use mathlib.Core.List.{List}
 use lib.Dec.{eqb}
 use lib.ListN.{length, getD, replicate}
@@ -13,6 +13,7 @@ use Rattle.render.specs.Pieces.{total}
 use Rattle.envelope.specs.Calls.{samplesOf}
 use Rattle.envelope.specs.Typed.{typed, typedEdit}
 use Rattle.envelope.specs.declared.AutomationEnvelope.{AutomationEnvelope}
+use Rattle.equal.specs.Equal.{bitEqual}
 use Rattle.state.specs.State.{stateWords, pack}
 use Rattle.session.specs.Session.{statesIn, stateAt, validSession}
 use Rattle.session.specs.Calls.{Entry, alone, joined, Call, edit, back, forward, callOf}
@@ -75,6 +76,9 @@ pub record After (start : AutomationEnvelope) (m₀ : List ℕ) (cs : List Call)
   -- the "place of a state that it holds" is that of the edit to come
   pub place : s .at ≡ placeOf (statesIn (length m₀)) (historyOf start m₀ cs)
   pub holds : Holds start (statesIn (length m₀)) (historyOf start m₀ cs) m
+  -- F-2: "only the edits that altered something count": each entry's envelope differs by a bit from the one before it
+  pub alters : (k : ℕ) → k < length (historyOf start m₀ cs .edits)
+      → bitEqual (upTo start (historyOf start m₀ cs) k) (upTo start (historyOf start m₀ cs) (k + 1)) ≡ false
   -- whatever call comes next: "words in none of these states stay"
   pub stay : (c : Call) (i : ℕ) → Outside (statesIn (length m₀)) (ruleOf start (statesIn (length m₀)) (historyOf start m₀ cs) c .hist) i
       → getD (callOf c s m .memory) i 0 ≡ getD m i 0

@@ -1,8 +1,8 @@
--- 01's proved example of the session.
+-- 01's proved example of the session, and two of 02's F-2.
 use Prim.Native.Nat.{ℕ}
 use mathlib.Core.Path.{_≡_, refl}
 use mathlib.Core.List.{List, [], _∷_}
-use lib.Ieee.{binary32, binary64, ofBits, toBits}
+use lib.Ieee.{binary32, binary64, ofBits, toBits, ofInt, toUnsigned, round, mul, div, le}
 use lib.ListN.{replicate}
 use Rattle.curve.specs.declared.CurveType.the-variants.{Linear}
 use Rattle.points.specs.Checks.{firstFailing}
@@ -11,13 +11,17 @@ use Rattle.points.specs.Point.{pointWith}
 use Rattle.insert.specs.Insert.{insertPoint}
 use Rattle.numbers.specs.Bounds.{finite}
 use Rattle.numbers.specs.Order.{orderKey}
+use Rattle.numbers.specs.Whole.{roundAway}
+use Rattle.shape.specs.Shape.{keepIf, firsts}
 use Rattle.curve.specs.Curve.{code, controls, curveOf, finiteControls}
 use Rattle.points.specs.Points.{every, everyPair, risingBy, validPoints}
 use Rattle.settle.specs.Settle.{editPoints, settle}
 use Rattle.envelope.specs.Envelope.{new}
 use Rattle.envelope.specs.Edit.{editOf, edited, pointsEdited}
-use Rattle.envelope.specs.declared.edit.Edit.the-variants.{OfPoints}
-use Rattle.envelope.specs.declared.edit.PointsEdit.the-variants.{AddPoint}
+use Rattle.envelope.specs.declared.edit.Edit.the-variants.{OfPoints, SetMin}
+use Rattle.envelope.specs.declared.edit.PointsEdit.the-variants.{AddPoint, QuantizeTime}
+use Rattle.limits.specs.declared.Limit.the-variants as limit
+use Rattle.equal.specs.Equal.{bitEqual}
 use Rattle.state.specs.State.{packSettings, packPoint, packPoints, pack, pointOf, pointsOf, stateOf, unpacked}
 use Rattle.session.specs.Session.{openSession, stateAt, stored, slotAfter, slotBefore, inOrder}
 use Rattle.session.specs.Calls.{alone, Call, edit, back, forward, callOf}
@@ -27,15 +31,36 @@ use Rattle.session.specs.declared.Session.{Session}
 abbrev add : ℕ → ℕ → Call
 add time value = edit (alone (OfPoints (AddPoint (pointWith (ofBits binary64 time) (ofBits binary32 value) Linear))))
 
+-- quantizing, the grid by its bits
+abbrev quantize : ℕ → Call
+quantize grid = edit (alone (OfPoints (QuantizeTime (ofBits binary64 grid))))
+
+-- setting the minimum, by its bits
+abbrev setMin : ℕ → Call
+setMin bits = edit (alone (SetMin (limit.Number (ofBits binary32 bits))))
+
 -- "P13 D = 1: edit, edit, back, back (10), forward."
 abbrev pub p13-calls : List Call
 p13-calls = add 0 0 ∷ add 0x3FF0_0000_0000_0000 0x3F80_0000 ∷ back ∷ back ∷ forward ∷ []
 
--- what the functions answer to them, on a step memory of 1,028 words; the rule's answers are P13 of the table
+-- F-2, D = 1: a point at 1.0; "quantizing on an already quantized move", which takes no step; back, over the point; quantizing nothing, which leaves the step ahead
+-- standing; forward; forward (10)
+abbrev pub idle-calls : List Call
+idle-calls = add 0x3FF0_0000_0000_0000 0x3F80_0000 ∷ quantize 0x3FF0_0000_0000_0000 ∷ back ∷ quantize 0x3FF0_0000_0000_0000 ∷ forward ∷ forward ∷ []
+
+-- F-2, D = 2: the minimum set to 0.0; to −0.0, which is another bit; to −0.0 again, which takes no step; back, back, back (10)
+abbrev pub zero-calls : List Call
+zero-calls = setMin 0 ∷ setMin 0x8000_0000 ∷ setMin 0x8000_0000 ∷ back ∷ back ∷ back ∷ []
+
+-- what the functions answer to P13's and to the first of these, on a step memory of 1,028 words; the rule's answers stand in the table
 unfoldable pub answersOf : Session → List ℕ → List Call → List (Said (Unit {0}))
 answersOf s m [] = []
 answersOf s m (c ∷ cs) = callOf c s m .said ∷ answersOf (callOf c s m .session) (callOf c s m .memory) cs
 
 pub p13-functions : answersOf (openSession 3 (replicate 1028 7)) (replicate 1028 7) p13-calls ≡ gives tt ∷ gives tt ∷ gives tt ∷ refuses 10 ∷ gives tt ∷ []
-unfolding answersOf openSession stateAt stored slotAfter slotBefore inOrder callOf firstFailing new editOf edited pointsEdited editPoints settle insertPoint validPoints every everyPair risingBy finite finiteControls controls code curveOf orderKey ofBits toBits packSettings packPoint packPoints pack pointOf pointsOf stateOf unpacked
+unfolding answersOf openSession stateAt stored slotAfter slotBefore inOrder callOf firstFailing bitEqual new editOf edited pointsEdited editPoints settle insertPoint validPoints every everyPair risingBy finite finiteControls controls code curveOf orderKey ofBits toBits packSettings packPoint packPoints pack pointOf pointsOf stateOf unpacked
 p13-functions = refl
+
+pub idle-functions : answersOf (openSession 3 (replicate 1028 7)) (replicate 1028 7) idle-calls ≡ gives tt ∷ gives tt ∷ gives tt ∷ gives tt ∷ gives tt ∷ refuses 10 ∷ []
+unfolding answersOf openSession stateAt stored slotAfter slotBefore inOrder callOf firstFailing bitEqual new editOf edited pointsEdited editPoints settle insertPoint validPoints every everyPair risingBy finite finiteControls controls code curveOf orderKey ofBits toBits packSettings packPoint packPoints pack pointOf pointsOf stateOf unpacked keepIf firsts roundAway round mul div le toUnsigned ofInt
+idle-functions = refl

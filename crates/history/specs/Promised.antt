@@ -2,7 +2,7 @@
 use Prim.Native.Nat.{ℕ, _<_}
 use mathlib.Core.Path.{_≡_}
 use mathlib.Core.Bool.{true}
-use mathlib.Core.List.{List}
+use mathlib.Core.List.{List, _∷_, _++_}
 use lib.ListN.{length}
 use Rattle.points.specs.Points.{every}
 use Rattle.points.specs.Refusal.{Said}
@@ -10,8 +10,10 @@ use Rattle.envelope.specs.Envelope.{new, validEnvelope}
 use Rattle.envelope.specs.Typed.{typed}
 use Rattle.envelope.specs.declared.AutomationEnvelope.{AutomationEnvelope}
 use Rattle.session.specs.Session.{opened, openSession}
-use Rattle.session.specs.Calls.{Call, Ran}
+use Rattle.equal.specs.Equal.{bitEqual}
+use Rattle.session.specs.Calls.{Entry, madeBy, Call, edit, Ran}
 use Rattle.session.specs.declared.Session.{Session}
+use Rattle.history.specs.Rule.{Hist, envelopeOf, histAfter}
 use Rattle.history.specs.After.{typedCall, After}
 
 -- one statement over every list of calls, from a session that was opened with any valid envelope (`history`, proofs/History)
@@ -25,3 +27,11 @@ abbrev pub History : Type 0
 History =
     (target : ℕ) → target < 0x1_0000_0000 → (m₀ : List ℕ) (cs : List Call) → every typedCall cs ≡ true
     → (answers : List (Said (Unit {0}))) (s : Session) (m : List ℕ) → Ran (openSession target m₀) m₀ cs answers s m → After (new target) m₀ cs answers s m
+
+-- F-2: "idle edits may stand anywhere in the history theorem's list": one that leaves every bit of the envelope leaves the history that the list has without it
+-- (`idle-anywhere`, proofs/Idle)
+abbrev pub IdleEditsDontCount : Type 0
+IdleEditsDontCount =
+    (start : AutomationEnvelope) (d : ℕ) (h : Hist) (before after : List Call) (x : Entry)
+    → bitEqual (envelopeOf start (histAfter start d h before)) (madeBy x (envelopeOf start (histAfter start d h before)) .envelope) ≡ true
+    → histAfter start d h (before ++ (edit x ∷ after)) ≡ histAfter start d h (before ++ after)

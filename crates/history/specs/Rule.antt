@@ -1,6 +1,6 @@
--- 01, "The session": its rule over a list of calls, with no step memory in it.
+-- 01, "The session": its rule over a list of calls, with no step memory in it; as 02's F-2 changes it.
 use Prim.Native.Nat.{ℕ, _+_, _-_, min}
-use mathlib.Core.Bool.{Bool, true}
+use mathlib.Core.Bool.{Bool, true, cond}
 use mathlib.Core.List.{List, [], _∷_, _++_}
 use lib.ListN.{length, take}
 use lib.Dec.{ltb}
@@ -8,6 +8,7 @@ use Rattle.points.specs.Checks.{gate}
 use Rattle.points.specs.Refusal.{Said, refuses, gives, number}
 use Rattle.envelope.specs.Edit.{EditTold}
 use Rattle.envelope.specs.declared.AutomationEnvelope.{AutomationEnvelope}
+use Rattle.equal.specs.Equal.{bitEqual}
 use Rattle.session.specs.Calls.{Entry, madeBy, Call, edit, back, forward, callValid, Tests, inTurn}
 
 -- "State: the edits that count, in a list; a mark in it; kept."
@@ -50,7 +51,7 @@ ruleRefuses n h = record { said = refuses n; hist = h }
 abbrev pub ruleAccepts : Hist → Ruled
 ruleAccepts h = record { said = gives tt; hist = h }
 
--- "Accepted edit: entries after the mark go, the edit joins, mark + 1, kept + 1 but at most D. It counts even if it changed nothing."
+-- "Accepted edit: entries after the mark go, the edit joins, mark + 1, kept + 1 but at most D."
 abbrev pub joinedBy : ℕ → Hist → Entry → Hist
 joinedBy d h x = record { edits = take (h .mark) (h .edits) ++ (x ∷ []); mark = h .mark + 1; kept = min (h .kept + 1) d }
 
@@ -59,9 +60,14 @@ abbrev pub ruledBy : Said (Unit {0}) → Hist → Hist → Ruled
 ruledBy (refuses n) old new = ruleRefuses n old
 ruledBy (gives u) old new = ruleAccepts new
 
--- an edit by what it says and makes of the envelope
-abbrev pub editRuled : ℕ → Hist → Entry → EditTold → Ruled
-editRuled d h x told = ruledBy (told .said) h (joinedBy d h x)
+-- in place of 01's "It counts even if it changed nothing", F-2: "An accepted edit whose envelope is bit-equal to the one before it, settings and count included,
+-- no longer joins the list. It also leaves the steps ahead standing." and "mark and kept staying too": the history as it was
+abbrev pub altered : ℕ → Hist → Entry → AutomationEnvelope → AutomationEnvelope → Hist
+altered d h x before after = cond (bitEqual before after) h (joinedBy d h x)
+
+-- an edit by what it says and makes of the envelope e
+abbrev pub editRuled : ℕ → Hist → Entry → AutomationEnvelope → EditTold → Ruled
+editRuled d h x e told = ruledBy (told .said) h (altered d h x e (told .envelope))
 
 -- a step back: "mark − 1, kept − 1"
 abbrev pub steppedBack : Hist → Hist
@@ -83,7 +89,7 @@ ruleTests h c = record { valid = callValid c; admission = record { length = true
 
 -- what a call does that has passed them, from this start and with a memory for d states
 abbrev pub ruled : AutomationEnvelope → ℕ → Hist → Call → Ruled
-ruled start d h (edit x) = editRuled d h x (madeBy x (envelopeOf start h))
+ruled start d h (edit x) = editRuled d h x (envelopeOf start h) (madeBy x (envelopeOf start h))
 ruled start d h back = ruleAccepts (steppedBack h)
 ruled start d h forward = ruleAccepts (steppedForward h)
 

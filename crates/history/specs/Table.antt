@@ -1,4 +1,4 @@
--- 01's "Proved examples": "These are one table in the specs, established together". P1 to P14 and F-1's sibling of P7, on envelopes; those of lookups and ranges are what the crates below establish.
+-- 01's "Proved examples": "These are one table in the specs, established together". P1 to P14, F-1's sibling of P7 and two of F-2, on envelopes; those of lookups and ranges are what the crates below establish.
 use mathlib.Core.Path.{_≡_, refl}
 use mathlib.Core.List.{List, [], _∷_}
 use mathlib.Core.Option.{none, some}
@@ -13,7 +13,7 @@ use Rattle.curve.specs.F32.{f32, f0, f1, f2, f0·5}
 use Rattle.curve.specs.Curve.{code, controls, finiteControls, clamped, cubicBezier, inOut, eased, interpolated}
 use Rattle.curve.specs.declared.CurveType.{CurveType}
 use Rattle.curve.specs.declared.CurveType.the-variants.{Linear, Logarithmic, Bezier, QuadIn, CubicInOut}
-use Rattle.points.specs.Points.{holding, every, risingBy, validPoints}
+use Rattle.points.specs.Points.{holding, every, everyPair, risingBy, validPoints}
 use Rattle.points.specs.Checks.{firstFailing}
 use Rattle.points.specs.Refusal.{refuses, gives}
 use Rattle.points.specs.Search.{placeBy}
@@ -34,8 +34,10 @@ use Rattle.envelope.specs.Edit.{withPoints, withSettings, editOf, edited, point
 use Rattle.envelope.specs.declared.AutomationEnvelope.{AutomationEnvelope}
 use Rattle.settle.specs.Settle.{editPoints, settle}
 use Rattle.insert.specs.Insert.{insertPoint}
+use Rattle.shape.specs.Shape.{keepIf, firsts}
+use Rattle.equal.specs.Equal.{bitEqual}
 use Rattle.history.specs.Rule.{newHist, made, upTo, ruleOf, answersAfter}
-use Rattle.history.specs.Examples.{p13-calls}
+use Rattle.history.specs.Examples.{p13-calls, idle-calls, zero-calls}
 
 -- ---- envelopes: 000's `new` with points and limits
 
@@ -59,7 +61,7 @@ limited max step v = pointWithin (limits max step) v
 
 -- ---- the table
 
--- P1 to P14, and F-1's
+-- P1 to P14, F-1's and F-2's
 pub record Table : Type 0 where
   -- "P1 empty: silent."
   pub p1 : valueAtOf (new 0) t1 ≡ gives none
@@ -91,11 +93,15 @@ pub record Table : Type 0 where
   pub p12 : rangeBetweenOf (limited (limit.Number f1) limit.None f2) t0 t1 ≡ gives (some (f1, f2))
   -- "P13 D = 1: edit, edit, back, back (10), forward."
   pub p13 : answersAfter (new 3) 1 newHist p13-calls ≡ gives tt ∷ gives tt ∷ gives tt ∷ refuses 10 ∷ gives tt ∷ []
+  -- F-2: an edit that alters nothing takes no step, and leaves the steps ahead standing
+  pub idle : answersAfter (new 3) 1 newHist idle-calls ≡ gives tt ∷ gives tt ∷ gives tt ∷ gives tt ∷ gives tt ∷ refuses 10 ∷ []
+  -- F-2: "bit-equal": 0.0 and −0.0 are not
+  pub idle-zero : answersAfter (new 3) 2 newHist zero-calls ≡ gives tt ∷ gives tt ∷ gives tt ∷ gives tt ∷ gives tt ∷ refuses 10 ∷ []
   -- "P14 square root of 2: 3FB504F3."
   pub p14 : sqrt binary32 f2 ≡ f32 0x3FB5_04F3
 
 pub table : Table
-unfolding answersAfter ruleOf firstFailing upTo made editOf edited pointsEdited editPoints settle insertPoint new getValueAt getValueAtSample getRange rangeOf givenValues rawInside run validPoints every risingBy foundAt foundAtSample surrounded placeBy fraction constrained code controls finiteControls clamped cubicBezier inOut eased interpolated finite minNum maxNum narrow orderKey sqrt roundAway ofBits toBits ofInt toUnsigned round neg add sub mul div lt le isNan
+unfolding answersAfter ruleOf firstFailing bitEqual everyPair keepIf firsts upTo made editOf edited pointsEdited editPoints settle insertPoint new getValueAt getValueAtSample getRange rangeOf givenValues rawInside run validPoints every risingBy foundAt foundAtSample surrounded placeBy fraction constrained code controls finiteControls clamped cubicBezier inOut eased interpolated finite minNum maxNum narrow orderKey sqrt roundAway ofBits toBits ofInt toUnsigned round neg add sub mul div lt le isNan
 table =
     record {
       p1 = lookups.p1;
@@ -114,5 +120,7 @@ table =
       p11 = refl;
       p12 = ranges.p12;
       p13 = refl;
+      idle = refl;
+      idle-zero = refl;
       p14 = refl;
     }

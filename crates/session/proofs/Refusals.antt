@@ -3,10 +3,12 @@ use Prim.Native.Nat.{ℕ}
 use mathlib.Core.Path.{_≡_, ap, sym, _∙_}
 use mathlib.Core.List.{List}
 use mathlib.Core.Option.{Option, none, some}
+use Rattle.numbers.proofs.Tests.{either}
 use Rattle.points.specs.Checks.{firstFailing}
 use Rattle.points.proofs.CheckLaws.{gate-either, never}
 use Rattle.points.specs.Refusal.{Said, refuses, gives, said, number}
 use Rattle.envelope.specs.declared.AutomationEnvelope.{AutomationEnvelope}
+use Rattle.equal.specs.Equal.{bitEqual}
 use Rattle.state.specs.State.{unpacked}
 use Rattle.session.specs.Session.{depth, stateAt, slotBefore, Called, declined, accepted, settled, exchanged}
 use Rattle.session.specs.Promised.{RefusedCallChangesNothing}
@@ -26,7 +28,7 @@ module _ (s : Session) (m : List ℕ) where
 
   settled-stays : (x : Said (Unit {0})) (e : AutomationEnvelope) → Stays s m (settled s m x e)
   settled-stays (refuses n) e = declined-stays n
-  settled-stays (gives u) e = accepted-stays _ _
+  settled-stays (gives u) e = either (Stays s m) (bitEqual (s .envelope) e) (λ same. accepted-stays _ _) (accepted-stays _ _)
 
   exchanged-stays : (k : ℕ) (to : AutomationEnvelope → Session) (u : Option AutomationEnvelope) → Stays s m (exchanged s m k to u)
   exchanged-stays k to none = declined-stays 12

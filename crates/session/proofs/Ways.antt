@@ -20,9 +20,10 @@ use Rattle.envelope.specs.Envelope.{validEnvelope}
 use Rattle.envelope.specs.Edit.{EditTold, toldEdit}
 use Rattle.envelope.specs.declared.AutomationEnvelope.{AutomationEnvelope}
 use Rattle.envelope.specs.declared.Edited.{Edited}
+use Rattle.equal.specs.Equal.{bitEqual}
 use Rattle.state.specs.State.{stateWords, pack, unpacked, readAs, readState, stateOver}
 use Rattle.session.specs.Session.{depth, stateAt, stored, slotAfter, slotBefore, placeBelow, inOrder, validSession, Called, called, declined, movedTo, counted, settled, exchanged}
-use Rattle.session.specs.Session.{steppedOver, refusedBy, movedBy}
+use Rattle.session.specs.Session.{steppedOver, refusedBy, movedBy, stayedBy}
 use Rattle.session.specs.Calls.{Entry, madeBy, othersValid, Call, edit, back, forward, admission, admissionOf, afterwards, inTurn, testsOf, callValid, ownOf, callOf, behind}
 use Rattle.session.specs.declared.Session.{Session}
 use Rattle.session.specs.declared.SessionAnswer.{SessionAnswer}
@@ -174,14 +175,17 @@ module _ (x : Entry) (s : Session) (m : List ℕ) where
       go true p = call-behind (edit x) s m (in-order-both h ∙ p) e
       go false p = ap settles (one p) ∙ call-one (edit x) s m (in-order-both h ∙ p)
 
--- no answer both gives and refuses
 -- what an edit's result makes of the session
 module _ (s : Session) (m : List ℕ) (r : Edited) (a : SessionAnswer) where
   pub settle-refused : (x : Refusal) → a ≡ refusedBy s x → r .answer ≡ Refused x → called a m ≡ settled s m (said (r .answer)) (r .envelope)
   settle-refused x is h = ap (λ (y : SessionAnswer). called y m) is ∙ rw h
 
-  pub settle-counted : (m′ : List ℕ) → called a m′ ≡ counted s m (r .envelope) → r .answer ≡ Accepted → called a m′ ≡ settled s m (said (r .answer)) (r .envelope)
-  settle-counted m′ is h = is ∙ rw h
+  pub settle-idle : a ≡ stayedBy s → r .answer ≡ Accepted → bitEqual (s .envelope) (r .envelope) ≡ true → called a m ≡ settled s m (said (r .answer)) (r .envelope)
+  settle-idle is h same = ap (λ (y : SessionAnswer). called y m) is ∙ rw (h, same)
+
+  pub settle-counted : (m′ : List ℕ) → called a m′ ≡ counted s m (r .envelope) → r .answer ≡ Accepted → bitEqual (s .envelope) (r .envelope) ≡ false
+      → called a m′ ≡ settled s m (said (r .answer)) (r .envelope)
+  settle-counted m′ is h altered = is ∙ rw (h, altered)
 
 -- an edit that counts
 module _ (s : Session) (m : List ℕ) (e : AutomationEnvelope) (a : SessionAnswer) (at kept : ℕ) (m′ : List ℕ) (is : a ≡ movedBy s e at kept 0)

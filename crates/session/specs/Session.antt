@@ -10,6 +10,7 @@ use Rattle.points.specs.declared.refusal.Refusal.{Refusal}
 use Rattle.points.specs.declared.refusal.Answer.the-variants.{Accepted, Refused}
 use Rattle.envelope.specs.Envelope.{new, validEnvelope}
 use Rattle.envelope.specs.declared.AutomationEnvelope.{AutomationEnvelope}
+use Rattle.equal.specs.Equal.{bitEqual}
 use Rattle.state.specs.State.{stateWords, pack, unpacked}
 use Rattle.session.specs.declared.Session.{Session}
 use Rattle.session.specs.declared.SessionAnswer.{SessionAnswer}
@@ -88,16 +89,18 @@ accepted s m = record { said = gives tt; session = s; memory = m }
 abbrev pub movedTo : Session → AutomationEnvelope → ℕ → ℕ → ℕ → Session
 movedTo s e at kept ahead = record { envelope = e; length = s .length; at = at; kept = kept; ahead = ahead }
 
--- "Accepted edit: entries after the mark go, the edit joins, mark + 1, kept + 1 but at most D." The envelope before it goes into its slot, if there is one.
+-- an accepted edit that altered something: "entries after the mark go, the edit joins, mark + 1, kept + 1 but at most D." The envelope before it goes into its
+-- slot, if there is one.
 abbrev pub counted : Session → List ℕ → AutomationEnvelope → Called
 counted s m e =
     accepted (movedTo s e (slotAfter (depth s) (s .at)) (min (s .kept + 1) (depth s)) 0)
     (cond (eqb (depth s) 0) m (stored (s .at) (pack (s .envelope)) m))
 
--- an edit's own refusals come last
+-- an edit's own refusals come last. F-2: "An accepted edit whose envelope is bit-equal to the one before it, settings and count included, no longer joins the list.
+-- It also leaves the steps ahead standing.", "mark and kept staying too": the session and the memory are as they were.
 abbrev pub settled : Session → List ℕ → Said (Unit {0}) → AutomationEnvelope → Called
 settled s m (refuses n) e = declined n s m
-settled s m (gives x) e = counted s m e
+settled s m (gives x) e = cond (bitEqual (s .envelope) e) (accepted s m) (counted s m e)
 
 -- ---- the steps
 
@@ -110,7 +113,7 @@ exchanged s m k to (some e) = accepted (to e) (stored k (pack (s .envelope)) m)
 abbrev pub steppedOver : Session → List ℕ → ℕ → ℕ → ℕ → ℕ → Called
 steppedOver s m k at kept ahead = exchanged s m k (λ e. movedTo s e at kept ahead) (unpacked (stateAt m k))
 
--- ---- for the code's own use: the same two ends as answers
+-- ---- for the code's own use: the same ends as answers
 
 -- a refused call's answer
 abbrev pub refusedBy : Session → Refusal → SessionAnswer
@@ -119,3 +122,7 @@ refusedBy s r = record { answer = Refused r; session = s }
 -- an accepted call's answer
 abbrev pub movedBy : Session → AutomationEnvelope → ℕ → ℕ → ℕ → SessionAnswer
 movedBy s e at kept ahead = record { answer = Accepted; session = movedTo s e at kept ahead }
+
+-- the answer of an accepted call that alters nothing
+abbrev pub stayedBy : Session → SessionAnswer
+stayedBy s = record { answer = Accepted; session = s }

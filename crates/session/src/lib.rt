@@ -7,7 +7,7 @@ ghost use Rattle.points.specs.Refusal.{said};
 ghost use Rattle.points.specs.declared.refusal.Refusal.the-variants.{NotValid};
 ghost use Rattle.envelope.specs.Edit.{toldEdit};
 ghost use Rattle.state.specs.State.{pack, readState};
-ghost use Rattle.session.specs.Session.{stateAt, stored, slotAfter, slotBefore, openSession, placeBelow, inOrder, validSession, called, counted, settled, steppedOver, refusedBy, movedBy};
+ghost use Rattle.session.specs.Session.{stateAt, stored, slotAfter, slotBefore, openSession, placeBelow, inOrder, validSession, called, counted, settled, steppedOver, refusedBy, movedBy, stayedBy};
 ghost use Rattle.points.specs.Checks.{refusalOf, firstFailing};
 ghost use Rattle.session.specs.Calls.{Obeys, alone, joined, edit, back, forward, admission, admissionOf, behind};
 
@@ -117,7 +117,7 @@ impl Session {
         envelope.is_valid() & self.in_order()
     }
 
-    // ---- what every call asks, and its two ends
+    // ---- what every call asks, and its ends
 
     // What is asked of the lent memory, by every call.
     fn admit(self, memory: &[u64]) -> Answer
@@ -168,6 +168,16 @@ impl Session {
         }
     }
 
+    // Accepted, with nothing altered.
+    fn stay(self) -> SessionAnswer
+        ensures { λ a. ⌜ a ≡ stayedBy self ⌝ }
+    {
+        SessionAnswer {
+            answer: Answer::Accepted,
+            session: self,
+        }
+    }
+
     // ---- edits
 
     // An edit that counts: the envelope before it goes into its slot, if there is one.
@@ -189,7 +199,7 @@ impl Session {
         }
     }
 
-    // What an edit's result makes of the session.
+    // What an edit's result makes of the session. An accepted one counts if it altered a bit.
     fn settle(mut self, r: Edited, memory: &mut [u64]) -> SessionAnswer
         requires { ⌜ inOrder self ≡ true ⌝ }
         requires { ⌜ length (now memory) ≡ self .length ⌝ }
@@ -198,8 +208,13 @@ impl Session {
         let answer = r.answer;
         match answer {
             Answer::Accepted => {
+                let old = self.envelope;
                 let made = r.envelope;
-                self.count(made, memory)
+                if equal::bit_equal(old, made) {
+                    self.stay()
+                } else {
+                    self.count(made, memory)
+                }
             }
             Answer::Refused(refusal) => self.refuse(refusal),
         }
