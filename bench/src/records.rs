@@ -27,7 +27,7 @@ pair!(rattle_get_range_samples, rust_get_range_samples, (start: u64, end: u64, t
 pair!(rattle_get_slope_at, rust_get_slope_at, (at: *const f64, at_len: usize));
 pair!(rattle_find_peaks, rust_find_peaks, (turns: u32, times: *mut f64, times_len: usize, values: *mut f32, values_len: usize));
 
-pair!(rattle_session_edit, rust_session_edit, (turns: u32, memory: *mut u64, memory_len: usize));
+pair!(rattle_session_edit, rust_session_edit, (which: u32, time: f64, turns: u32, memory: *mut u64, memory_len: usize));
 pair!(rattle_session_step, rust_session_step, (turns: u32, memory: *mut u64, memory_len: usize));
 
 /// What a call is given: times that rise from 0 to 1, and values from 0 up to 1.
@@ -425,20 +425,28 @@ fn analyses() -> Vec<Figure> {
 fn sessions() -> Vec<Figure> {
     const TURNS: usize = 200;
     let i = input(256, LINEAR);
+    let last = i.times[255];
+    let edits = [
+        "session edit",
+        "session edit that alters nothing",
+        "session edit of the last point",
+    ];
     let mut all = Vec::new();
     for depth in [1, 16, 256] {
         let words = depth * 1028;
-        all.push(record!(
-            format!("session edit, D = {depth}"),
-            TURNS,
-            1,
-            Some(3.0),
-            i,
-            rattle_session_edit,
-            rust_session_edit,
-            words,
-            |left, turns| (turns as u32, left.memory.as_mut_ptr(), words)
-        ));
+        for (which, name) in edits.into_iter().enumerate() {
+            all.push(record!(
+                format!("{name}, D = {depth}"),
+                TURNS,
+                1,
+                Some(3.0),
+                i,
+                rattle_session_edit,
+                rust_session_edit,
+                words,
+                |left, turns| (which as u32, last, turns as u32, left.memory.as_mut_ptr(), words)
+            ));
+        }
         all.push(record!(
             format!("session step, D = {depth}"),
             TURNS,

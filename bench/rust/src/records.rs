@@ -32,6 +32,15 @@ fn made(times: &[f64], values: &[f32], curve: u32) -> Envelope {
     e
 }
 
+fn linear(time: f64, value: f32) -> Point {
+    Point {
+        time,
+        sample_position: None,
+        value,
+        curve: CurveType::Linear,
+    }
+}
+
 /// The same with both limits and a step.
 fn limited(e: Envelope, min: f32, max: f32, step: f32, hard: bool) -> Envelope {
     Envelope {
@@ -270,12 +279,7 @@ pub unsafe extern "C" fn rust_edit(
     let e = made(from_raw_parts(times, times_len), from_raw_parts(values, values_len), curve);
     let c = curve_of(curve);
     let (xf, yf) = (x as f32, y as f32);
-    let p = Point {
-        time: x,
-        sample_position: None,
-        value: yf,
-        curve: CurveType::Linear,
-    };
+    let p = linear(x, yf);
     let other = edits::shift_points(e, x).envelope;
     let mut last = Edited { refusal: 0, envelope: e };
     for _ in 0..turns {
@@ -533,6 +537,8 @@ pub unsafe extern "C" fn rust_session_edit(
     values: *const f32,
     values_len: usize,
     curve: u32,
+    which: u32,
+    time: f64,
     turns: u32,
     memory: *mut u64,
     memory_len: usize,
@@ -541,8 +547,14 @@ pub unsafe extern "C" fn rust_session_edit(
     let mut s = started(e, memory_len);
     let memory = from_raw_parts_mut(memory, memory_len);
     for i in 0..turns {
-        let offset = if i % 2 == 0 { 0.25 } else { -0.25 };
-        s = session::shift_points(*black_box(&s), offset, black_box(memory)).accepted();
+        let (offset, value) = if i % 2 == 0 { (0.25, 0.25) } else { (-0.25, 0.5) };
+        let before = *black_box(&s);
+        let after = match which {
+            0 => session::shift_points(before, offset, black_box(memory)),
+            1 => session::shift_points(before, 0.0, black_box(memory)),
+            _ => session::add_point(before, linear(time, value), black_box(memory)),
+        };
+        s = after.accepted();
     }
     s.kept as u64
 }

@@ -201,17 +201,51 @@ fn slot(memory: &mut [u64], k: usize) -> &mut [u64] {
     &mut memory[k * WORDS..(k + 1) * WORDS]
 }
 
-#[inline(never)]
-pub fn shift_points(s: Session, offset: f64, memory: &mut [u64]) -> Answer {
+fn same_bits(a: Option<f32>, b: Option<f32>) -> bool {
+    a.map(f32::to_bits) == b.map(f32::to_bits)
+}
+
+fn same_curve(c: CurveType, d: CurveType) -> bool {
+    match (c, d) {
+        (CurveType::Bezier(a, b), CurveType::Bezier(x, y)) => a.to_bits() == x.to_bits() && b.to_bits() == y.to_bits(),
+        _ => code(c) == code(d),
+    }
+}
+
+fn same_point(p: &Point, q: &Point) -> bool {
+    p.time.to_bits() == q.time.to_bits()
+        && p.sample_position == q.sample_position
+        && p.value.to_bits() == q.value.to_bits()
+        && same_curve(p.curve, q.curve)
+}
+
+/// Request F-2's test, of two valid envelopes: every bit, settings and count included.
+fn bit_equal(a: &Envelope, b: &Envelope) -> bool {
+    a.target == b.target
+        && a.enabled == b.enabled
+        && a.hard == b.hard
+        && same_bits(a.min_value, b.min_value)
+        && same_bits(a.max_value, b.max_value)
+        && same_bits(a.step_size, b.step_size)
+        && a.count == b.count
+        && a.points().iter().zip(b.points()).all(|(p, q)| same_point(p, q))
+}
+
+/// An edit by what it makes of the envelope. One that alters no bit leaves all as it is.
+#[inline(always)]
+fn edit(s: Session, made: impl Fn(Envelope) -> Edited, memory: &mut [u64]) -> Answer {
     if !s.in_order() {
         return refused(s, 1);
     }
     if memory.len() != s.length {
         return refused(s, if s.envelope.is_valid() { 11 } else { 1 });
     }
-    let Edited { refusal, envelope } = edits::shift_points(s.envelope, offset);
+    let Edited { refusal, envelope } = made(s.envelope);
     if refusal != 0 {
         return refused(s, refusal);
+    }
+    if bit_equal(&s.envelope, &envelope) {
+        return moved(s);
     }
     let depth = s.depth();
     if depth > 0 {
@@ -219,6 +253,16 @@ pub fn shift_points(s: Session, offset: f64, memory: &mut [u64]) -> Answer {
     }
     let (at, kept) = (s.after(), (s.kept + 1).min(depth));
     moved(Session { envelope, at, kept, ahead: 0, ..s })
+}
+
+#[inline(never)]
+pub fn shift_points(s: Session, offset: f64, memory: &mut [u64]) -> Answer {
+    edit(s, |e| edits::shift_points(e, offset), memory)
+}
+
+#[inline(never)]
+pub fn add_point(s: Session, p: Point, memory: &mut [u64]) -> Answer {
+    edit(s, |e| edits::add_point(e, p), memory)
 }
 
 /// A step: the envelope and the state in a slot change places.

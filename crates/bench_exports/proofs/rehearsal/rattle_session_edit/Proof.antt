@@ -6,10 +6,10 @@ use Rattle.bench_exports.proofs.rehearsal.rattle_session_edit.Statement
 use Rattle.bench_exports.proofs.rehearsal.rattle_session_edit.Tie as tie
 
 abbrev Inv-loop : tie.InvT-loop
-Inv-loop times values curve turns memory₀ s₀ i₀ memory s i = (i ≤ turns) × (length memory ≡ length memory₀)
+Inv-loop times values curve which time turns memory₀ s₀ i₀ memory s i = (i ≤ turns) × (length memory ≡ length memory₀)
 
 abbrev μ-loop : tie.MeasureT-loop
-μ-loop times values curve turns memory₀ s₀ i₀ memory s i = turns - i
+μ-loop times values curve which time turns memory₀ s₀ i₀ memory s i = turns - i
 
 made-requires : tie.Need-made-requires Inv-loop μ-loop
 made-requires c κs = tt
@@ -20,18 +20,15 @@ started-requires c κs = tt
 loop-holds : tie.Need-loop-holds Inv-loop μ-loop
 loop-holds c = (omega arith, refl)
 
-turn-requires : tie.Need-turn-requires Inv-loop μ-loop
-turn-requires c κs = tt
-
-shift-requires : tie.Need-shift-requires Inv-loop μ-loop
-shift-requires c κs = tt
+edit-of-requires : tie.Need-edit-of-requires Inv-loop μ-loop
+edit-of-requires c κs = tt
 
 edit-requires : tie.Need-edit-requires Inv-loop μ-loop
 edit-requires c κs = tt
 
 add-i : tie.Need-add-i Inv-loop μ-loop
 add-i c =
-    let turn = c .before .before .before .before .before .before .before in
+    let turn = c .before .before .before .before .before .before in
     let start = turn .before .before .before .before .before .before .before .before in
     omega (arith, turn .loop-test .taken, start .fits .turns .fits)
 
@@ -40,7 +37,7 @@ loop-less c = omega arith
 
 loop-again : tie.Need-loop-again Inv-loop μ-loop
 loop-again c =
-    let loop = c .before .before .before .before .before .before .before .before .loop in
+    let loop = c .before .before .before .before .before .before .before .loop in
     let edit = c .before .before .before .edit in
     (omega arith, edit .kept .1 .1 .0 ∙ loop .inv .1)
 
@@ -59,8 +56,7 @@ rattle-session-edit-spec =
     made-requires
     started-requires
     loop-holds
-    turn-requires
-    shift-requires
+    edit-of-requires
     edit-requires
     add-i
     loop-less
