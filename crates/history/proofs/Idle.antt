@@ -1,7 +1,7 @@
 -- An edit that alters nothing, anywhere in a list. Assumes nothing.
 use Prim.Native.Nat.{ℕ}
 use mathlib.Core.Path.{_≡_, refl, ap, sym, _∙_}
-use mathlib.Core.Bool.{true, cond}
+use mathlib.Core.Bool.{true}
 use mathlib.Core.List.{List, [], _∷_, _++_}
 use Rattle.points.specs.Checks.{firstFailing}
 use Rattle.points.proofs.CheckLaws.{gate-either}
@@ -10,7 +10,7 @@ use Rattle.envelope.specs.Edit.{EditTold}
 use Rattle.envelope.specs.declared.AutomationEnvelope.{AutomationEnvelope}
 use Rattle.equal.specs.Equal.{bitEqual}
 use Rattle.session.specs.Calls.{Entry, madeBy, Call, edit, inTurn}
-use Rattle.history.specs.Rule.{Hist, envelopeOf, Ruled, ruleRefuses, ruledBy, joinedBy, editRuled, ruleTests, ruled, ruleOf, histAfter}
+use Rattle.history.specs.Rule.{Hist, envelopeOf, Ruled, ruleRefuses, ruledBy, editRuled, ruleTests, ruled, ruleOf, histAfter}
 use Rattle.history.specs.Promised.{IdleEditsDontCount}
 
 -- refused or accepted, it leaves the history
