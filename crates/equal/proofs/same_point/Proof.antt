@@ -1,4 +1,5 @@
 -- `equal::same_point` meets its contract, by what its four comparisons ensure.
+use mathlib.Core.Bool.{_&&_}
 use borrow.Author.Needs.{needs}
 use Rattle.equal.proofs.same_point.Statement.{statement}
 use Rattle.equal.proofs.same_point.Tie as tie
@@ -16,7 +17,8 @@ same-curve-requires : tie.Need-same-curve-requires
 same-curve-requires c κs = search needs
 
 returns : tie.Need-returns
-returns c = cc
+returns c =
+    λ i. c .before .before .before .same-bits .ensures i && c .before .before .same-position .ensures i && c .before .same-bitsf .ensures i && c .same-curve .ensures i
 
 pub same-point-spec : {M : Type 1} → statement M
 same-point-spec =
