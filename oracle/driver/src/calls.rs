@@ -1,4 +1,5 @@
 //! The Rust's answer to a call, as text.
+use crate::ask;
 use crate::domain::{refused_after, refused_before, stride, valid};
 use crate::forms::signature;
 use crate::reader::read_sheet;
@@ -24,6 +25,9 @@ impl Answer {
 pub fn call(op: &str, a: &[Arg], raw: bool) -> Answer {
     if let [Arg::S(bytes)] = a {
         return sheet_read(bytes);
+    }
+    if op == "ask" {
+        return Answer::text(ask::answer(a, raw));
     }
     let refusal = if raw { None } else { refused_before(op, a) };
     if let Some(n) = refusal {

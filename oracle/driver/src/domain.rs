@@ -27,7 +27,7 @@ fn rises(e: &Envelope) -> bool {
 }
 
 pub fn valid(e: &Envelope) -> bool {
-    e.rust.points.len() <= 256 && finite(e) && rises(e)
+    e.rust.points.len() <= ROOM && finite(e) && rises(e)
 }
 
 /// A point's key in the lookup by sample.
@@ -115,13 +115,16 @@ fn lacks(count: u64, place: u64, len: u64) -> Option<u32> {
     (count > len.saturating_sub(place)).then_some(8)
 }
 
+/// How many points an envelope may have.
+pub const ROOM: usize = 256;
+
 /// The refusal of an edit's result.
 pub fn refused_after(e: &Envelope) -> Option<u32> {
     if !finite(e) {
         Some(3)
     } else if !rises(e) {
         Some(6)
-    } else if e.rust.points.len() > 256 {
+    } else if e.rust.points.len() > ROOM {
         Some(5)
     } else {
         None

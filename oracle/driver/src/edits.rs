@@ -78,6 +78,14 @@ fn other(r: &mut Random, op: &str, first: &Envelope) -> Envelope {
     r.second(op, first)
 }
 
+/// A second envelope and an offset, for the merge into a first one.
+pub fn to_merge(r: &mut Random, first: &Envelope) -> (Envelope, f64) {
+    let second = other(r, "merge", first);
+    let before = [first, &second].map(|e| Arg::E(e.clone()));
+    let offset = double(r, "merge", &before);
+    (second, offset)
+}
+
 /// The same times with other values; none of them, up to 512 together or just 256 or 257; or any.
 fn other_of_many(r: &mut Random, first: &Envelope) -> Envelope {
     let mut e = first.clone();

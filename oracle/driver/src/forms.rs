@@ -3,13 +3,17 @@
 //! stands in calls.rs and domain.rs, a session's in session.rs.
 
 /// How many requests have landed.
-pub const LANDED: u32 = 2;
+pub const LANDED: u32 = 3;
+
+/// The highest number of a refusal.
+pub const REFUSALS: u64 = 14;
 
 /// Of a form that no request takes away.
 const EVER: u32 = u32::MAX;
 
 /// An operation's name, the kinds of its arguments, its group, and the request from which on it holds.
-/// Groups: e edit, c combination, m edit that no session has, l lookup or analysis, s sheet read, n number.
+/// Groups: e edit, c combination, m edit that no session has, a merge that is asked, l lookup or analysis, s
+/// sheet read, n number.
 /// Kinds: D f64, T f64 that may be anything, F f32, G f32 that may be anything, U u64 (16 digits), N
 /// decimal, B 0 or 1, O f32 or none, C curve, P point, L list of points, E envelope, S bytes.
 type Operation = (&'static str, &'static str, char, u32);
@@ -52,6 +56,7 @@ const OPERATIONS: &[Operation] = &[
     ("apply_compression", "EFF", 'e', 0),
     ("merge", "EED", 'e', 0),
     ("merge_points", "ELD", 'm', 0),
+    ("ask", "EED", 'a', 3),
     ("set_enabled", "EB", 'e', 0),
     ("set_min", "EO", 'e', 0),
     ("set_max", "EO", 'e', 0),
@@ -90,6 +95,7 @@ const CALLS: &[Call] = &[
     ("edit", "", 54, 0, EVER),
     ("back", "", 25, 0, EVER),
     ("forward", "", 17, 0, EVER),
+    ("commit", "EED", 8, 3, EVER),
     ("len", "N", 2, 0, EVER),
     ("show", "", 1, 0, EVER),
     ("damage", "NN", 2, 0, EVER),

@@ -223,8 +223,17 @@ fn short(r: &mut Random, e: &Envelope) -> f64 {
     }
 }
 
+/// A point as it is before it is moved. A zero of either sign leaves the time as it is.
+pub fn moved_back(p: &AutomationPoint, offset: f64) -> AutomationPoint {
+    let mut moved = p.clone();
+    if offset != 0.0 {
+        moved.time -= offset;
+    }
+    moved
+}
+
 /// An envelope of other settings, with none of the points, some or all; and how far they are to be moved.
-fn part_of(r: &mut Random, e: &Envelope) -> (Envelope, f64) {
+pub fn part_of(r: &mut Random, e: &Envelope) -> (Envelope, f64) {
     let mut other = r.envelope_of(|_| 0);
     let none = r.once_in(4);
     if none {
@@ -234,11 +243,7 @@ fn part_of(r: &mut Random, e: &Envelope) -> (Envelope, f64) {
     let offset = r.one_of(&[0.0, -0.0, -0.0, 0.5, -2.0]);
     for p in &e.rust.points {
         if all || r.once_in(2) {
-            let mut moved = p.clone();
-            if offset != 0.0 {
-                moved.time -= offset;
-            }
-            other.rust.points.push(moved);
+            other.rust.points.push(moved_back(p, offset));
         }
     }
     (other, offset)

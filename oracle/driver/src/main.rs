@@ -1,6 +1,8 @@
 //! Answers of the ported Rust. One call a line on standard input gives one answer a line on
 //! standard output; or random calls are made here. DRIVER.md has the forms.
+mod ask;
 mod calls;
+mod changed;
 mod counted;
 mod domain;
 mod edges;
@@ -22,6 +24,7 @@ mod session;
 mod sheets;
 mod state;
 mod text;
+mod tickets;
 mod wrong;
 mod wrong_idle;
 mod wrong_plays;
@@ -40,6 +43,7 @@ oracle_driver --gen SEED N [OPERATION,..]
 oracle_driver --vectors SEED N [OPERATION,..]
 oracle_driver --sessions SEED N [WORDS]
 oracle_driver --idle SEED N [WORDS]
+oracle_driver --commits SEED N [WORDS]
 oracle_driver --counted
 oracle_driver --wrong SEED
 oracle_driver --printed
@@ -74,6 +78,9 @@ fn main() -> Result<()> {
         }
         ["--idle", seed, count, ref words @ ..] => {
             random_sessions(out, &scripts::IDLE, number(seed), number(count), words.first())?
+        }
+        ["--commits", seed, count, ref words @ ..] => {
+            random_sessions(out, &scripts::COMMITS, number(seed), number(count), words.first())?
         }
         ["--counted"] => counted::print(out, stdin().lock())?,
         ["--wrong", seed] => wrong::write(out, number(seed))?,
@@ -137,16 +144,17 @@ fn random_sessions(
     count: u64,
     words: Option<&&str>,
 ) -> Result<()> {
-    let words = words.map(|w| number(w));
+    let words = words.map(|w| vec![number(w)]);
+    let lengths = words.as_deref().unwrap_or(mix.lengths);
     let mut r = Random(seed);
     let mut sessions = Sessions::new();
-    let (mut script, mut line) = (Script::new(mix), r.opening(words));
+    let (mut script, mut line) = (Script::new(mix), r.opening(lengths));
     for _ in 0..count {
         let call: Vec<&str> = line.split(' ').collect();
         let answer = session(&mut sessions, &Registers::new(), &call);
         writeln!(out, "session {line} => {}", answer.expect("a call made here"))?;
         if r.once_in(60) {
-            (script, line) = (Script::new(mix), r.opening(words));
+            (script, line) = (Script::new(mix), r.opening(lengths));
         } else {
             let (call, a) = script.call(&mut r, &sessions["s"]);
             line = format!("s {call}{}", arguments(&a));

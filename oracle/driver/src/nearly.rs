@@ -55,7 +55,7 @@ fn near_limits(a: Option<f32>, b: Option<f32>) -> Option<&'static str> {
     }
 }
 
-fn limit(e: &Envelope, field: &str) -> Option<f32> {
+pub fn limit(e: &Envelope, field: &str) -> Option<f32> {
     match field {
         "min" => e.rust.min_value,
         "max" => e.rust.max_value,
@@ -100,7 +100,7 @@ fn switch(r: &mut Random, e: &Envelope) -> Edit {
 }
 
 /// Another sign of a zero, else another last bit.
-fn by_a_bit(x: f32) -> f32 {
+pub fn by_a_bit(x: f32) -> f32 {
     let bits = if x == 0.0 { 1 << 31 } else { 1 };
     f32::from_bits(x.to_bits() ^ bits)
 }
@@ -161,7 +161,7 @@ fn other_point(r: &mut Random, e: &Envelope) -> Edit {
     ("add_point", vec![P(p)])
 }
 
-fn other_position(r: &mut Random, position: Option<u64>) -> Option<u64> {
+pub fn other_position(r: &mut Random, position: Option<u64>) -> Option<u64> {
     match position {
         None => Some(r.one_of(&[0, 0, 1, u64::MAX])),
         Some(_) if r.once_in(2) => None,

@@ -8,6 +8,7 @@ use crate::records::{curve_of, AutomationPoint, CurveType, Envelope};
 use crate::session::Session;
 use crate::sheets;
 use crate::text::{sheet, Arg};
+use crate::tickets;
 
 /// SplitMix64.
 pub struct Random(pub u64);
@@ -232,6 +233,7 @@ impl Random {
             'n' => edges::arguments(self, op),
             's' => vec![Arg::S(sheets::sheet(self))],
             'e' | 'c' | 'm' => edits::arguments(self, op),
+            'a' => tickets::asked(self),
             _ => self.arguments_after(op, kinds, vec![]),
         }
     }
@@ -245,22 +247,9 @@ impl Random {
         a
     }
 
-    /// The opening of a session.
-    pub fn opening(&mut self, words: Option<u64>) -> String {
-        let lengths = [
-            0,
-            1027,
-            1028,
-            1029,
-            2056,
-            2056,
-            3000,
-            5140,
-            5141,
-            10280 + 1027,
-            16384,
-        ];
-        let words = words.unwrap_or_else(|| self.one_of(&lengths));
+    /// The opening of a session, with a step memory of one of these lengths.
+    pub fn opening(&mut self, lengths: &[u64]) -> String {
+        let words = self.one_of(lengths);
         let target = self.one_of(&[0, 7, u32::MAX]);
         format!("s open {target} {words}")
     }
@@ -304,8 +293,7 @@ impl Random {
         match word {
             "edit" => edit,
             "len" => {
-                let words = s.words();
-                let other = self.one_of(&[words + 1, words + 1028, words.saturating_sub(1), 0]);
+                let other = self.other_length(s);
                 match self.below(3) {
                     0 => (format!("len {other} back"), vec![]),
                     1 => (format!("len {other} forward"), vec![]),
@@ -332,6 +320,12 @@ impl Random {
                 self.arguments_after(word, call_kinds(word).unwrap(), vec![]),
             ),
         }
+    }
+
+    /// A length of the step memory that is mostly another than at the opening.
+    pub fn other_length(&mut self, s: &Session) -> u64 {
+        let words = s.words();
+        self.one_of(&[words + 1, words + 1028, words.saturating_sub(1), 0])
     }
 
     /// All words of a part, or some.

@@ -1,5 +1,6 @@
 //! Scripts of sessions, made a call at a time from how the session stands. A part of the edits is idle or
-//! nearly idle (request F-2), and calls that show what such an edit left come after it.
+//! nearly idle (request F-2), some calls are commits (request F-3), and calls that show what such an edit or
+//! commit left come after it.
 use crate::forms::is_call;
 use crate::idle::{is_idle, Edit};
 use crate::nearly::towards;
@@ -7,43 +8,82 @@ use crate::random::Random;
 use crate::records::{empty_place, AutomationPoint, CurveType, Envelope};
 use crate::session::Session;
 use crate::text::Arg::{self, *};
+use crate::tickets::{self, Ticket};
 
 /// Of a hundred edits, how many are idle, nearly idle, or lead to envelopes on which more edits can be that.
-/// The others are any.
+/// The others are any. Of a hundred calls, how many are commits or show what one left, beside those that the
+/// table of calls has. And the lengths of the step memory.
 pub struct Mix {
     idle: u64,
     nearly: u64,
     leading: u64,
+    commits: u64,
+    pub lengths: &'static [u64],
 }
+
+const LENGTHS: &[u64] = &[
+    0,
+    1027,
+    1028,
+    1029,
+    2056,
+    2056,
+    3000,
+    5140,
+    5141,
+    10280 + 1027,
+    16384,
+];
 
 pub const PLAIN: Mix = Mix {
     idle: 6,
     nearly: 8,
     leading: 2,
+    commits: 0,
+    lengths: LENGTHS,
 };
 
 pub const IDLE: Mix = Mix {
     idle: 40,
     nearly: 36,
     leading: 10,
+    commits: 0,
+    lengths: LENGTHS,
 };
 
-/// A script: what its last line was, an opening at first, and its last edit.
+pub const COMMITS: Mix = Mix {
+    idle: 10,
+    nearly: 10,
+    leading: 30,
+    commits: 75,
+    lengths: &[0, 1027, 1028, 1029, 2056, 3000, 3084, 3100, 5141, 16448, 20480],
+};
+
+/// A script: what its last line was, an opening at first, its last edit, and the tickets that were committed, of which
+/// the session may have refused some.
 pub struct Script {
     mix: &'static Mix,
     last: &'static str,
     edit: Option<Edit>,
+    tickets: Vec<Ticket>,
 }
 
 impl Script {
     pub fn new(mix: &'static Mix) -> Self {
-        let (last, edit) = ("open", None);
-        Script { mix, last, edit }
+        Script {
+            mix,
+            last: "open",
+            edit: None,
+            tickets: vec![],
+        }
     }
 
     /// The next call, and the words that follow its name.
     pub fn call(&mut self, r: &mut Random, s: &Session) -> (String, Vec<Arg>) {
         let word = self.word(r, s);
+        if word == "commit" {
+            return self.commit(r, s);
+        }
         let edit = self.next_edit(r, s);
         let call = r.session_call(s, word, edit.clone());
         self.last = word;
@@ -55,16 +95,36 @@ impl Script {
         call
     }
 
-    /// After an idle edit often a step forward, if one stands ahead, or what shows the step memory; after an
-    /// opening, a damage or a step an edit.
-    fn word(&self, r: &mut Random, s: &Session) -> &'static str {
-        let shows: &[&'static str] = match self.last {
-            "idle" if s.ahead() > 0 => &["forward", "forward", "memory", "slot", "words", "edit"],
-            "idle" => &["back", "memory", "memory", "slot", "words", "edit"],
-            "open" | "back" | "forward" | "damage" => &["edit"],
-            _ => &[],
+    /// A commit, now and then with a length of the step memory, mostly another one.
+    fn commit(&mut self, r: &mut Random, s: &Session) -> (String, Vec<Arg>) {
+        let ticket = tickets::next(r, s, &self.tickets);
+        let length = match r.below(40) {
+            0..=3 => r.other_length(s),
+            _ => s.words(),
         };
-        if shows.is_empty() || r.below(100) >= self.mix.idle {
+        let refused = length != s.words();
+        self.last = if refused {
+            "refused"
+        } else {
+            ticket.leaves(&s.envelope())
+        };
+        self.tickets.push(ticket.clone());
+        let named = refused || r.once_in(40);
+        let call = if named {
+            format!("len {length} commit")
+        } else {
+            "commit".into()
+        };
+        (call, ticket.arguments())
+    }
+
+    /// The next call's word: often one that shows what the last one left.
+    fn word(&self, r: &mut Random, s: &Session) -> &'static str {
+        let (shows, share) = match self.mix.commits {
+            0 => (self.after_edit(s), self.mix.idle),
+            share => (self.after_commit(s), share),
+        };
+        if shows.is_empty() || r.below(100) >= share {
             return r.session_word();
         }
         let word = r.one_of(shows);
@@ -72,6 +132,34 @@ impl Script {
             word
         } else {
             "edit"
+        }
+    }
+
+    /// After an idle edit a step forward, if one stands ahead, or what shows the step memory; after an opening, a
+    /// damage or a step an edit.
+    fn after_edit(&self, s: &Session) -> &'static [&'static str] {
+        match self.last {
+            "idle" if s.ahead() > 0 => &["forward", "forward", "memory", "slot", "words", "edit"],
+            "idle" => &["back", "memory", "memory", "slot", "words", "edit"],
+            "open" | "back" | "forward" | "damage" => &["edit"],
+            _ => &[],
+        }
+    }
+
+    /// After a commit that counts a step back, or what shows the step memory; after an idle one also a step forward,
+    /// if one stands ahead; after a refused one what shows that all stands as before. After every call a commit,
+    /// mostly so after a step.
+    fn after_commit(&self, s: &Session) -> &'static [&'static str] {
+        match self.last {
+            "idle" if s.ahead() > 0 => &["forward", "forward", "memory", "slot", "words", "commit"],
+            "idle" => &["back", "memory", "slot", "words", "commit"],
+            "commit" => &["commit", "back", "back", "memory", "slot", "edit"],
+            "refused" => &[
+                "commit", "commit", "commit", "edit", "back", "forward", "memory", "show",
+            ],
+            "back" => &["commit", "commit", "commit", "back", "forward", "memory"],
+            "forward" => &["commit", "commit", "back", "slot"],
+            _ => &["commit", "commit", "edit"],
         }
     }
 

@@ -1,6 +1,6 @@
-//! Sessions by document 01's rule, with request F-2's of idle edits: the only Rust in this part is that of
-//! the edits, lookups and runs.
-use crate::calls::call;
+//! Sessions by document 01's rule, with request F-2's of idle edits and request F-3's of commits: the only Rust in
+//! this part is that of the edits, lookups and runs.
+use crate::calls::{call, Answer};
 use crate::forms::{call_kinds, is_call, is_lookup, signature};
 use crate::records::Envelope;
 use crate::rules::hold;
@@ -53,6 +53,11 @@ impl Session {
 
     pub fn envelope(&self) -> Envelope {
         self.after(self.mark)
+    }
+
+    /// Every envelope of the list, from the empty one on.
+    pub fn envelopes(&self) -> Vec<Envelope> {
+        (0..=self.edits.len()).map(|edits| self.after(edits)).collect()
     }
 
     /// The envelope before the last edit.
@@ -241,6 +246,7 @@ impl Session {
             ("damage", [Arg::N(slot), Arg::N(word)]) => self.damage(*slot, *word).map(|_| None)?,
             ("show", []) => None,
             ("memory", []) => return Ok(self.sum_of_all()),
+            ("commit", parts) => return Ok(self.commit(other, parts)),
             ("slot", [Arg::N(slot)]) => return self.in_slot(*slot),
             ("words", [Arg::N(from), Arg::N(count)]) => return self.sum_of(*from, *count),
             ("back" | "forward", []) if other => Some(11),
@@ -264,14 +270,51 @@ impl Session {
             return Err("not an edit".into());
         };
         let answer = call(op, &self.arguments(op, words)?, false);
-        if other && answer.text != "refuse 1" {
-            return Ok("refuse 11".into());
+        Ok(self.edited(answer, |_| other.then_some(11)))
+    }
+
+    /// The merge of a ticket's parts. An envelope of it that is not valid comes first, then the step memory's length,
+    /// then a bit that the session's envelope has otherwise than the ticket's first, then the merge's own refusals.
+    fn commit(&mut self, other: bool, parts: &[Arg]) -> String {
+        let [Arg::E(first), second, offset] = parts else {
+            panic!("driver: the parts of a ticket")
+        };
+        let before = self.clone();
+        let stale = |s: &Session| (!same_bits(&s.envelope(), first)).then_some(14);
+        let text = self.edited(call("merge", parts, false), |s| {
+            other.then_some(11).or_else(|| stale(s))
+        });
+        if !other && text != "refuse 1" && stale(&before).is_none() {
+            self.hold_as_edit(before, &[second.clone(), offset.clone()], &text);
         }
-        if let Some(e) = answer.envelope {
-            self.accept(e);
-            return Ok(self.answer());
+        text
+    }
+
+    /// A commit whose ticket is good answers and leaves what the same merge as an edit does.
+    fn hold_as_edit(&self, mut before: Session, rest: &[Arg], text: &str) {
+        let line = format!("merge{}", text::arguments(rest));
+        let words: Vec<&str> = line.split(' ').collect();
+        let registers = Registers::new();
+        let answer = before.edit(false, Words::new(&words, &registers));
+        hold(answer.as_deref() == Ok(text), "a commit's answer");
+        let states = |s: &Session| s.edits.iter().map(packed).collect::<Vec<_>>();
+        hold(self.memory == before.memory, "a commit's step memory");
+        hold(states(self) == states(&before), "a commit's list");
+    }
+
+    /// The session after an edit's answer: what is refused `between` comes right after 1.
+    fn edited(&mut self, answer: Answer, between: impl FnOnce(&Session) -> Option<u32>) -> String {
+        if answer.text == "refuse 1" {
+            return answer.text;
         }
-        Ok(answer.text)
+        if let Some(n) = between(self) {
+            return format!("refuse {n}");
+        }
+        let Some(e) = answer.envelope else {
+            return answer.text;
+        };
+        self.accept(e);
+        self.answer()
     }
 }
 
@@ -296,8 +339,8 @@ pub fn session(all: &mut Sessions, registers: &Registers, line: &[&str]) -> Read
     if what == "len" {
         other = words.decimal()? != s.words;
         what = words.word()?;
-        if !matches!(what, "edit" | "back" | "forward") {
-            return Err("a length is an edit's or a step's".into());
+        if !matches!(what, "edit" | "commit" | "back" | "forward") {
+            return Err("a length is an edit's, a commit's or a step's".into());
         }
     }
     s.run(other, what, words)

@@ -1,7 +1,7 @@
 //! Wrong lines: for every kind of call, each field of its answer wrong by itself, an answer where a
 //! refusal is due and the other way round, another refusal, and lines that are cut short or too long.
 use crate::calls::{call, Answer};
-use crate::forms::{operations, signature};
+use crate::forms::{operations, signature, REFUSALS};
 use crate::printed::{self, is_bits, is_nan, Verdict};
 use crate::random::Random;
 use crate::records::{controls, curve_of, AutomationPoint, CurveType, Envelope};
@@ -113,7 +113,7 @@ fn some_wrong(text: &str, such: fn(&str) -> bool) -> Vec<String> {
 fn other_refusals(answer: &str) -> Vec<String> {
     let numbers: Vec<u64> = answer.split(' ').skip(1).map(|n| n.parse().unwrap()).collect();
     // the next one, and one with the same last digit
-    let others = [numbers[0] % 13 + 1, (numbers[0] + 10) % 20];
+    let others = [numbers[0] % REFUSALS + 1, (numbers[0] + 10) % 20];
     let mut all: Vec<String> = match numbers[..] {
         [_, line] => others.map(|n| format!("refuse {n} {line}")).into(),
         _ => others.map(|n| format!("refuse {n}")).into(),
