@@ -35,13 +35,13 @@ pub const WAYS: &[Way] = &[
 ];
 
 /// The envelope made to differ in a thing, if some draws come to it.
-pub fn in_thing(r: &mut Random, e: &Envelope, (_, way): &Way) -> Option<Envelope> {
+pub fn in_thing(r: &mut Random, e: &Envelope, (_, way): &Way, draws: u64) -> Option<Envelope> {
     let mut draw = || {
         let mut f = e.clone();
         way(r, &mut f);
         f
     };
-    (0..6).map(|_| draw()).find(|f| valid(f) && !same_bits(e, f))
+    (0..draws).map(|_| draw()).find(|f| valid(f) && !same_bits(e, f))
 }
 
 /// The envelope made to differ in any one thing.
@@ -49,7 +49,7 @@ pub fn changed(r: &mut Random, e: &Envelope) -> Envelope {
     loop {
         // the target can always be another
         let way = r.one_of(WAYS);
-        if let Some(f) = in_thing(r, e, &way) {
+        if let Some(f) = in_thing(r, e, &way, 6) {
             return f;
         }
     }

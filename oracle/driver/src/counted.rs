@@ -1,27 +1,32 @@
 //! What a list of sessions has: how many lines of each sort, and of its edits how many are idle or nearly
-//! idle, and where.
+//! idle, and where. Of its commits, and of a list's asks, counted_commits.rs says more.
+use crate::calls::call;
+use crate::counted_commits::{of_ask, of_commit, Commit};
 use crate::nearly::one_thing;
 use crate::records::Envelope;
 use crate::same_bits::same_bits;
 use crate::session::{session, Session, Sessions};
-use crate::text::Registers;
-use std::collections::BTreeMap;
+use crate::text::{Registers, Words};
+use std::collections::{BTreeMap, BTreeSet};
 use std::io::{BufRead, Result, Write};
 
 /// How a session stood before a line.
-struct Before {
-    envelope: Envelope,
+pub struct Before {
+    pub envelope: Envelope,
+    /// Every envelope of its list.
+    pub list: Vec<Envelope>,
     /// Before the last edit, and after the first entry ahead.
     beside: [Option<Envelope>; 2],
-    ahead: bool,
-    full: bool,
-    room: u64,
+    pub ahead: bool,
+    pub full: bool,
+    pub room: u64,
 }
 
 impl Before {
     fn of(s: &Session) -> Self {
         Before {
             envelope: s.envelope(),
+            list: s.envelopes(),
             beside: [s.before(), s.next()],
             ahead: s.ahead() > 0,
             full: s.room() > 0 && s.kept() == s.room(),
@@ -30,11 +35,12 @@ impl Before {
     }
 }
 
-/// The figures by name, and what the last line of the script was.
+/// The figures by name, what the last line of the script was, and the tickets that it committed.
 #[derive(Default)]
 struct Counted {
     figures: BTreeMap<String, u64>,
     last: String,
+    tickets: BTreeSet<String>,
 }
 
 impl Counted {
@@ -52,9 +58,9 @@ impl Counted {
     fn line(&mut self, words: &[&str], accepted: bool, before: Option<&Before>, after: &Session) {
         self.one("lines");
         self.one(&format!("lines {}", words[0]));
-        if self.last == "idle" {
+        if self.last.starts_with("idle") {
             let sort = if accepted { "accepted" } else { "refused" };
-            self.one(&format!("after an idle edit: {} {sort}", words[0]));
+            self.one(&format!("after an {}: {} {sort}", self.last, words[0]));
         }
         let mut last = words[0];
         if let ("edit", Some(before)) = (last, before) {
@@ -65,6 +71,30 @@ impl Counted {
             }
         }
         self.last = last.into();
+    }
+
+    /// A commit, after the last line. Says what it is for the next.
+    fn commit(&mut self, c: &Commit, before: &Before, after: &Session) -> &'static str {
+        let sort = c.sort(before, &after.envelope());
+        for name in of_commit(c, sort, before, &self.last) {
+            self.one(&name);
+        }
+        if sort == "idle" {
+            "idle commit"
+        } else {
+            "commit"
+        }
+    }
+
+    /// An ask.
+    fn ask(&mut self, words: &[&str]) {
+        let Ok(a) = Words::new(words, &Registers::new()).arguments("EED") else {
+            return;
+        };
+        self.one("asks");
+        for name in of_ask(&a, &call("ask", &a, false).text) {
+            self.one(&name);
+        }
     }
 
     /// An accepted edit. Says whether it is idle.
@@ -81,11 +111,11 @@ impl Counted {
                 ("idle: after the opening", last == "open"),
                 ("idle: after a damage", last == "damage"),
                 ("idle: after a step", last == "back" || last == "forward"),
-                ("idle: after an idle one", last == "idle"),
+                ("idle: after an idle one", last.starts_with("idle")),
                 ("idle: no points", after.rust.points.is_empty()),
                 ("idle: 255 points or 256", after.rust.points.len() > 254),
             ]);
-            return "idle";
+            return "idle edit";
         }
         if let Some(kind) = one_thing(&before.envelope, after) {
             self.one("nearly");
@@ -124,10 +154,17 @@ pub fn print(out: &mut impl Write, list: impl BufRead) -> Result<()> {
         let line = line?;
         let call = line.split(" => ").next().unwrap_or("");
         let words: Vec<&str> = call.split(' ').collect();
+        if words[0] == "ask" {
+            counted.ask(&words[1..]);
+        }
         let ["session", name, what, ..] = words[..] else {
             continue;
         };
+        if what == "open" {
+            counted.tickets.clear();
+        }
         let before = sessions.get(name).map(Before::of);
+        let commit = Commit::of(&sessions, &words[1..], &mut counted.tickets);
         if what == "len" && other_length_idle(&sessions, &words[1..]) {
             counted.one("idle but for the length: refuse 11");
         }
@@ -136,11 +173,16 @@ pub fn print(out: &mut impl Write, list: impl BufRead) -> Result<()> {
         let Some(after) = sessions.get(name) else {
             continue;
         };
+        let committed = commit.zip(before.as_ref());
+        let last = committed.map(|(c, before)| counted.commit(&c, before, after));
         if what == "len" {
             counted.one("lines with a length");
             counted.line(&words[4..], accepted, before.as_ref(), after);
         } else {
             counted.line(&words[2..], accepted, before.as_ref(), after);
+        }
+        if let Some(last) = last {
+            counted.last = last.into();
         }
     }
     for (name, n) in counted.figures {

@@ -1,5 +1,6 @@
 //! Sessions by document 01's rule, with request F-2's of idle edits and request F-3's of commits: the only Rust in
 //! this part is that of the edits, lookups and runs.
+use crate::ask::{self, Cause};
 use crate::calls::{call, Answer};
 use crate::forms::{call_kinds, is_call, is_lookup, signature};
 use crate::records::Envelope;
@@ -276,18 +277,34 @@ impl Session {
     /// The merge of a ticket's parts. An envelope of it that is not valid comes first, then the step memory's length,
     /// then a bit that the session's envelope has otherwise than the ticket's first, then the merge's own refusals.
     fn commit(&mut self, other: bool, parts: &[Arg]) -> String {
-        let [Arg::E(first), second, offset] = parts else {
-            panic!("driver: the parts of a ticket")
-        };
-        let before = self.clone();
-        let stale = |s: &Session| (!same_bits(&s.envelope(), first)).then_some(14);
+        let (before, causes) = (self.clone(), self.causes(other, parts));
+        let stale = |s: &Session| (!same_bits(&s.envelope(), ask::parts(parts).0)).then_some(14);
         let text = self.edited(call("merge", parts, false), |s| {
             other.then_some(11).or_else(|| stale(s))
         });
-        if !other && text != "refuse 1" && stale(&before).is_none() {
-            self.hold_as_edit(before, &[second.clone(), offset.clone()], &text);
+        let refusal = causes.first().map(|c| format!("refuse {}", c.0));
+        hold(
+            refusal.as_ref() == Some(&text).filter(|t| t.starts_with("refuse")),
+            "a commit's refusal",
+        );
+        if !causes.iter().any(|c| matches!(c.0, 1 | 11 | 14)) {
+            self.hold_as_edit(before, &parts[1..], &text);
         }
         text
+    }
+
+    /// All causes for which a commit is refused, each by itself, in the papers' order: 1, 11, 14, then the others of
+    /// the merge.
+    pub fn causes(&self, other: bool, parts: &[Arg]) -> Vec<Cause> {
+        let (mut causes, rest): (Vec<_>, Vec<_>) = ask::causes(parts).into_iter().partition(|c| c.0 == 1);
+        if other {
+            causes.push((11, "the length"));
+        }
+        if packed(&self.envelope()) != packed(ask::parts(parts).0) {
+            causes.push((14, "a bit"));
+        }
+        causes.extend(rest);
+        causes
     }
 
     /// A commit whose ticket is good answers and leaves what the same merge as an edit does.

@@ -64,27 +64,20 @@ pub fn next(r: &mut Random, s: &Session, before: &[Ticket]) -> Ticket {
         let good: Vec<&Ticket> = before.iter().filter(|t| t.is_of(&e)).collect();
         (!good.is_empty()).then(|| r.one_of(&good).clone())
     };
-    let with = |r: &mut Random, first: Envelope| Ticket { first, ..fresh(r, s) };
     let again = match r.below(24) {
         0..=2 => before.last().cloned(),
         3 if !before.is_empty() => Some(r.one_of(before)),
         4..=8 => good(r),
         _ => None,
     };
-    again.unwrap_or_else(|| match r.below(16) {
-        0..=2 => {
-            let first = changed(r, &e);
-            with(r, first)
-        }
-        3 | 4 => {
-            let first = r.one_of(&s.envelopes());
-            with(r, first)
-        }
-        5 => {
-            let first = r.spoiled(e.clone());
-            with(r, first)
-        }
-        _ => fresh(r, s),
+    again.unwrap_or_else(|| {
+        let first = match r.below(16) {
+            0..=2 => changed(r, &e),
+            3 | 4 => r.one_of(&s.envelopes()),
+            5 => r.spoiled(e.clone()),
+            _ => e.clone(),
+        };
+        Ticket { first, ..fresh(r, s) }
     })
 }
 
@@ -110,8 +103,9 @@ fn fresh(r: &mut Random, s: &Session) -> Ticket {
 
 /// The parts of an ask.
 pub fn asked(r: &mut Random) -> Vec<Arg> {
-    const WAYS: [Way; 10] = [
-        to_merge, to_merge, to_merge, meeting, meeting, meeting, zeros, falling, far, past,
+    const WAYS: [Way; 16] = [
+        to_merge, to_merge, to_merge, to_merge, to_merge, meeting, meeting, meeting, meeting, meeting, zeros,
+        zeros, falling, falling, far, past,
     ];
     let first = r.envelope_of(points_of_first);
     let mut ticket = Ticket::new(r, first, &WAYS);

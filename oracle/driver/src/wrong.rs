@@ -7,6 +7,7 @@ use crate::random::Random;
 use crate::records::{controls, curve_of, AutomationPoint, CurveType, Envelope};
 use crate::session::Sessions;
 use crate::text::{arguments, Arg};
+use crate::wrong_commits;
 use std::collections::{BTreeMap, BTreeSet};
 use std::io::{Result, Write};
 
@@ -190,6 +191,7 @@ fn kind_of(right: &str) -> (String, bool, bool) {
     let has = |test: fn(&&str) -> bool| words.iter().any(test);
     let what = match words[1].trim_end_matches('~') {
         word if is_bits(word) => "bits",
+        word if words[0] == "ok" && word.parse().is_ok_and(|n: u64| n > 1) => "count",
         word => word,
     };
     let kind = format!("{} {what}", words[0]);
@@ -508,7 +510,14 @@ pub fn write(out: &mut impl Write, seed: u64) -> Result<()> {
             writeln!(out, "{line}")?;
         }
     }
-    for line in [replaced_parts(), not_run(), long_answers()].concat() {
+    for line in [
+        replaced_parts(),
+        not_run(),
+        long_answers(),
+        wrong_commits::asked(),
+    ]
+    .concat()
+    {
         assert!(
             printed::of_call(&line, &mut Sessions::new()) == Verdict::Differs,
             "{line}"

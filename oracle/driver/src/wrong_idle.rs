@@ -32,13 +32,13 @@ fn bases() -> Vec<String> {
 }
 
 /// What a session's answer says, with other counts of those kept and ahead.
-fn counts(answer: &str, kept: u64, ahead: usize) -> String {
+pub fn counts(answer: &str, kept: u64, ahead: usize) -> String {
     let envelope = answer.split_once('{').unwrap().1;
     format!("ok kept {kept} ahead {ahead} {{{envelope}")
 }
 
 /// An opening, some edits, and one more that is taken back: it stands ahead.
-fn one_ahead<W: Write>(script: &mut Script<W>, open: &str, edits: &str) -> Result<()> {
+pub fn one_ahead<W: Write>(script: &mut Script<W>, open: &str, edits: &str) -> Result<()> {
     script.wrong(open, 0)?;
     for (k, call) in edits.lines().enumerate() {
         script.wrong(call, k)?;
@@ -65,7 +65,7 @@ fn idle_edits<W: Write>(script: &mut Script<W>, r: &mut Random) -> Result<()> {
             for (k, a) in [(kept + 1, 0), (kept, 0), (kept + 1, 1)] {
                 script.answered(&idle, &counts(&right, k, a))?;
             }
-            script.answered(&idle, &format!("refuse {}", r.one_of(&[1, 3, 6, 10, 11, 12])))?;
+            script.answered(&idle, &format!("refuse {}", r.one_of(&[1, 3, 6, 10, 11, 12, 14])))?;
         }
     }
     assert!(left.is_empty(), "no wrong line of an idle {left:?}");
@@ -99,7 +99,7 @@ fn idle_now<W: Write>(script: &mut Script<W>, r: &mut Random, op: &'static str) 
 }
 
 /// Calls with the answers that they have if the idle edit before them counted.
-fn as_if_counted<W: Write>(script: &mut Script<W>, calls: &[&str]) -> Result<()> {
+pub fn as_if_counted<W: Write>(script: &mut Script<W>, calls: &[&str]) -> Result<()> {
     let wrong = script.answers(&script.session().with_idle_counted(), calls);
     for (call, wrong) in calls.iter().zip(wrong) {
         script.answered(call, &wrong)?;
@@ -126,7 +126,7 @@ fn refused<W: Write>(script: &mut Script<W>) -> Result<()> {
 }
 
 /// An envelope of which a bit of each kind of field can be changed.
-fn rich() -> String {
+pub fn rich() -> String {
     let points = [
         point(-1.0, Some(3), 0.25, CurveType::Bezier(0.0, 0.75)),
         point(-0.5, None, 0.75, CurveType::Linear),
@@ -155,7 +155,7 @@ fn nearly(r: &mut Random, e: &Envelope) -> Vec<Edit> {
 
 /// An edit that counts, as if it were idle: with the answer of an idle one, with its counts alone, and steps
 /// after it as an idle one leaves them.
-fn as_if_idle<W: Write>(script: &mut Script<W>, edit: &str) -> Result<()> {
+pub fn as_if_idle<W: Write>(script: &mut Script<W>, edit: &str) -> Result<()> {
     let s = script.session().clone();
     let [show, forward, back, after] =
         ["show", "forward", "back", edit].map(|call| script.answers(&s, &[call]).remove(0));

@@ -9,6 +9,7 @@ use crate::records::{AutomationPoint, CurveType, Envelope};
 use crate::session::{session, Session, Sessions};
 use crate::text::{arguments, Arg, Registers};
 use crate::wrong::{another_letter, chosen, lines_of, malformed, point, wrong_answers};
+use crate::wrong_commits;
 use crate::wrong_idle;
 use std::collections::BTreeSet;
 use std::io::{Result, Write};
@@ -80,7 +81,7 @@ impl<W: Write> Script<'_, W> {
     }
 
     /// All wrong answers of calls that together lead back to where they started.
-    fn all(&mut self, calls: &[&str]) -> Result<()> {
+    pub fn all(&mut self, calls: &[&str]) -> Result<()> {
         let mut k = 0;
         loop {
             let mut more = false;
@@ -213,6 +214,7 @@ impl<W: Write> Script<'_, W> {
             "damage x 1",
             "slot x",
             "words x 1",
+            "commit x",
             &edit("wobble", &[Arg::E(Envelope::new(7))]),
             "render 3FF0000000000000 0 0 0 1025",
             "to_buffer 3FF0000000000000 0000000000000000 0 1025",
@@ -238,6 +240,9 @@ impl<W: Write> Script<'_, W> {
     fn malformed(&mut self) -> Result<()> {
         let scale = edit("scale", &[Arg::F(3.0)]);
         let longer = format!("len 3100 {scale}");
+        let [first, second] = [7, 1].map(|target| Arg::E(Envelope::new(target)));
+        let commit = format!("commit{}", arguments(&[first, second, Arg::D(0.5)]));
+        let longer_commit = format!("len 3100 {commit}");
         let calls = [
             OPEN,
             &scale,
@@ -249,6 +254,8 @@ impl<W: Write> Script<'_, W> {
             "slot 0",
             "words 3084 1",
             &longer,
+            &commit,
+            &longer_commit,
             "len 3100 back",
         ];
         self.start()?;
@@ -287,6 +294,7 @@ pub fn write(out: &mut impl Write, r: &mut Random) -> Result<()> {
     script.counts()?;
     script.not_run()?;
     wrong_idle::write(&mut script, r)?;
+    wrong_commits::write(&mut script, r)?;
     for (call, _) in weighted_calls() {
         assert!(script.told.contains(call), "no wrong line of a session's {call}");
     }
