@@ -30,7 +30,8 @@ pub const WAYS: &[Way] = &[
         of_point(r, e, |_, p| p.value = turned(p.value.into()) as f32)
     }),
     ("curve", |r, e| of_point(r, e, |r, p| p.curve = other_curve(r, p))),
-    ("control", |r, e| of_point(r, e, other_control)),
+    ("control", other_control),
+    ("control", other_control),
     ("count", other_count),
 ];
 
@@ -101,8 +102,10 @@ fn other_curve(r: &mut Random, p: &AutomationPoint) -> CurveType {
     }
 }
 
-fn other_control(r: &mut Random, p: &mut AutomationPoint) {
-    if let Some((a, b)) = controls(&p.curve) {
+/// A control of the first point that has them.
+fn other_control(r: &mut Random, e: &mut Envelope) {
+    let mut points = e.rust.points.iter_mut();
+    if let Some((p, (a, b))) = points.find_map(|p| controls(&p.curve).map(|c| (p, c))) {
         let first = CurveType::Bezier(by_a_bit(a), b);
         p.curve = r.one_of(&[first, CurveType::Bezier(a, by_a_bit(b))]);
     }

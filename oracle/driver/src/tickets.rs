@@ -8,7 +8,7 @@ use crate::edits::to_merge;
 use crate::envelopes::{sort, NOT_FINITE};
 use crate::idle::{given, moved_back, part_of};
 use crate::random::Random;
-use crate::records::{AutomationPoint, Envelope};
+use crate::records::{AutomationPoint, CurveType, Envelope};
 use crate::same_bits::{differences, same_bits};
 use crate::session::Session;
 use crate::text::Arg::{self, *};
@@ -170,7 +170,12 @@ fn zeros(r: &mut Random, first: &Envelope) -> (Envelope, f64) {
     let mut second = r.envelope_of(|_| 0);
     for time in [-1.0, -least, -0.0, 0.0, least, 1.0] {
         if r.below(3) > 0 {
-            second.rust.points.push(AutomationPoint::new(time, r.single()));
+            let (value, control) = (r.single(), r.single());
+            let curve = r.one_of(&[CurveType::Linear, CurveType::Bezier(control, 0.75)]);
+            second
+                .rust
+                .points
+                .push(AutomationPoint::with_curve(time, value, curve));
         }
     }
     let at = first.rust.points.first().map_or(2.0, |p| p.time);
