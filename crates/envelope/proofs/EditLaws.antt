@@ -1,13 +1,15 @@
 -- What every edit does to an envelope: accepted it leaves a valid one, refused it changes nothing, and the target stays (`EditsFair` of specs/Promised). Assumes nothing.
 use Prim.Native.Nat.{ℕ}
-use mathlib.Core.Path.{_≡_, refl, sym, ap}
+use mathlib.Core.Path.{_≡_, refl, sym, ap, _∙_}
 use mathlib.Core.Bool.{Bool, true, false, _&&_}
+use mathlib.Core.Option.{Option, none, some}
 use Rattle.numbers.proofs.Tests.{and-both}
-use Rattle.points.proofs.CheckLaws.{never}
+use Rattle.points.specs.Checks.{firstFailing, unlessRefused}
+use Rattle.points.proofs.CheckLaws.{never, refused-among}
 use Rattle.points.specs.Refusal.{gives, refuses, number}
-use Rattle.points.specs.Points.{listOf}
+use Rattle.points.specs.Points.{every, listOf}
 use Rattle.points.specs.declared.refusal.Refusal.{Refusal}
-use Rattle.settle.specs.Settle.{Proposal}
+use Rattle.settle.specs.Settle.{Proposal, causes}
 use Rattle.settle.proofs.Judging.{Passes, one, causes-either}
 use Rattle.limits.specs.Limits.{finiteLimits}
 use Rattle.envelope.specs.Envelope.{limitsOf, validEnvelope}
@@ -34,6 +36,15 @@ module _ (e : AutomationEnvelope) (valid : Bool) (p : Proposal) (f : AutomationE
   pub outcome-one : valid ≡ false → outcome e valid p f ≡ declined e 1
   unfolding outcome
   outcome-one v = sym (one (λ r. declined e (number r)) (accepted f) p v)
+
+  -- what the numbers of its causes are, a refusal's is
+  pub outcome-among : (is : ℕ → Bool) → every (λ c. is (number (c .refusal))) (causes valid p) ≡ true → (n : ℕ) → outcome e valid p f .said ≡ refuses n → is n ≡ true
+  unfolding outcome
+  outcome-among is all n h = go (firstFailing (causes valid p)) refl h
+    where
+      go : (o : Option Refusal) → firstFailing (causes valid p) ≡ o → unlessRefused o (λ r. declined e (number r)) (accepted f) .said ≡ refuses n → is n ≡ true
+      go none k h = never (sym h)
+      go (some r) k h = let same : number r ≡ n = cc in ap is (sym same) ∙ refused-among (λ r. is (number r)) (causes valid p) r all k
 
 declines : (e : AutomationEnvelope) (n : ℕ) → Fair e (declined e n)
 declines e n = record { valid = λ h. never h; kept = λ k h. refl; target = refl }

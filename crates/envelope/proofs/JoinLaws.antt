@@ -1,11 +1,13 @@
 -- The edits that take a second envelope: accepted they leave a valid envelope, refused they change nothing, the target stays, and the numbers stay in range of their types. Assumes nothing.
+use Prim.Native.Nat.{ℕ, _<_}
 use mathlib.Core.Path.{_≡_, refl, ap}
 use mathlib.Core.Bool.{true, false, _&&_}
 use mathlib.Core.Option.{Option, none, some, Option·getD}
-use lib.Dec.{T}
+use lib.Dec.{T, ltb}
 use lib.Ieee.{Float, binary32, binary64, fits}
 use lib.Ieee.Bits.{ofBits-fits}
 use lib.Ieee.Fits.{add-fits, sub-fits, mul-fits}
+use borrow.Author.Tests.{ltb-true}
 use Rattle.points.specs.Point.{timeOf}
 use Rattle.points.proofs.Laws.{every-map}
 use Rattle.numbers.proofs.Tests.{yes as passes, and-left}
@@ -24,7 +26,7 @@ use Rattle.envelope.specs.Envelope.{validEnvelope}
 use Rattle.envelope.specs.Edit.{EditTold, sideOf, joinProposal, joinSuccessor, joinOf}
 use Rattle.envelope.specs.Typed.{typedPoint, typed}
 use Rattle.envelope.specs.Promised.{JoinsFair}
-use Rattle.envelope.proofs.EditLaws.{outcome-one, outcome-fair, kept-settings}
+use Rattle.envelope.proofs.EditLaws.{outcome-one, outcome-among, outcome-fair, kept-settings}
 use Rattle.envelope.proofs.TypedLists.{TypedList, linear-typed, pointWith-typed, listOf-typed, merged-typed}
 use Rattle.envelope.proofs.TypedLookup.{FitsIf, maxNum-fits, minNum-fits, valueAt-fits}
 use Rattle.envelope.proofs.TypedParts.{point-parts, parted}
@@ -107,3 +109,8 @@ join-typed j e other t u = outcome-typed e (validEnvelope e && validEnvelope oth
 pub join-one : (j : Join) (e o : AutomationEnvelope) → (validEnvelope e && validEnvelope o) ≡ false → joinOf j e o .said ≡ refuses 1
 unfolding joinOf
 join-one j e o h = ap (λ (t : EditTold). t .said) (outcome-one e (validEnvelope e && validEnvelope o) (joinProposal j e o) _ h)
+
+-- its own refusals have 01's numbers
+pub join-numbers : (j : Join) (e o : AutomationEnvelope) (n : ℕ) → joinOf j e o .said ≡ refuses n → n < 14
+unfolding joinOf every
+join-numbers j e o n h = ltb-true n 14 (outcome-among e (validEnvelope e && validEnvelope o) (joinProposal j e o) _ (λ n. ltb n 14) refl n h)

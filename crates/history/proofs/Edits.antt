@@ -33,7 +33,7 @@ ruled-refused : (y : Said (Unit {0})) (old new : Hist) (n : ℕ) → y ≡ refus
 ruled-refused y old new n h = ap (λ (y : Said (Unit {0})). ruledBy y old new) h
 
 module _ (start : AutomationEnvelope) (d : ℕ) (h : Hist) (s : Session) (m : List ℕ) (v : Inv start d h s m) where
-  module _ (x : Entry) (passed : firstFailing (inTurn (ruleTests h (edit x))) ≡ none) where
+  module _ (x : Entry) (passed : firstFailing (inTurn (ruleTests start h (edit x))) ≡ none) where
     abbrev told : EditTold
     told = madeBy x (s .envelope)
 

@@ -33,15 +33,15 @@ use Rattle.history.proofs.Played.{runs-of}
 
 -- what a call does
 module _ (start : AutomationEnvelope) (d : ℕ) (h : Hist) (s : Session) (m : List ℕ) (v : Inv start d h s m) where
-  passes : (c : Call) → firstFailing (inTurn (ruleTests h c)) ≡ none → CallStep start d h s m c
+  passes : (c : Call) → firstFailing (inTurn (ruleTests start h c)) ≡ none → CallStep start d h s m c
   passes (edit x) p = edit-stepped start d h s m v x p (madeBy x (s .envelope) .said) refl (bitEqual (s .envelope) (madeBy x (s .envelope) .envelope)) refl
   passes back p = yes-back start d h s m v p
   passes forward p = yes-forward start d h s m v p
 
   step : (c : Call) → CallStep start d h s m c
-  step c = go (firstFailing (inTurn (ruleTests h c))) refl
+  step c = go (firstFailing (inTurn (ruleTests start h c))) refl
     where
-      go : (o : Option Refusal) → firstFailing (inTurn (ruleTests h c)) ≡ o → CallStep start d h s m c
+      go : (o : Option Refusal) → firstFailing (inTurn (ruleTests start h c)) ≡ o → CallStep start d h s m c
       go none e = passes c e
       go (some r) e = refused-call start d h s m v c r e
 

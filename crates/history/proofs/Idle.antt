@@ -25,7 +25,7 @@ module _ (start : AutomationEnvelope) (d : ℕ) (h : Hist) where
   idle-call : (x : Entry) → bitEqual (envelopeOf start h) (madeBy x (envelopeOf start h) .envelope) ≡ true → ruleOf start d h (edit x) .hist ≡ h
   unfolding ruleOf
   idle-call x same =
-      gate-either (λ (r : Ruled). r .hist ≡ h) (firstFailing (inTurn (ruleTests h (edit x)))) (λ r. ruleRefuses (number r) h) (ruled start d h (edit x)) (λ r. refl)
+      gate-either (λ (r : Ruled). r .hist ≡ h) (firstFailing (inTurn (ruleTests start h (edit x)))) (λ r. ruleRefuses (number r) h) (ruled start d h (edit x)) (λ r. refl)
       (λ e. idle-ruled d h x (envelopeOf start h) (madeBy x (envelopeOf start h)) same)
 
 -- a list after another

@@ -2,6 +2,7 @@
 pub mod History
 pub mod Run
 pub mod Idle
+pub mod Tickets
 -- What it cites: the entries of an edit, a step of the rule, each kind of call, and what is played afterwards.
 pub mod Entries
 pub mod Steps

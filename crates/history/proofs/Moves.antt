@@ -49,9 +49,9 @@ module _ (start : AutomationEnvelope) (d : ℕ) (h : Hist) (s : Session) (m : Li
         → steppedOver s m p at kept ahead ≡ accepted (movedTo s (upTo start h k) at kept ahead) (stored p (pack (s .envelope)) m)
     stepped k at kept ahead e = ap (exchanged s m p (λ f. movedTo s f at kept ahead)) e
 
-  module _ (passed : firstFailing (inTurn (ruleTests h back)) ≡ none) where
+  module _ (passed : firstFailing (inTurn (ruleTests start h back)) ≡ none) where
     q : 0 < h .kept
-    q = ltb-true 0 (h .kept) (stands (ruleTests h back) passed)
+    q = ltb-true 0 (h .kept) (stands (ruleTests start h back) passed)
 
     pos-b : 0 < d
     pos-b = omega (arith, q)
@@ -131,9 +131,9 @@ module _ (start : AutomationEnvelope) (d : ℕ) (h : Hist) (s : Session) (m : Li
           stays = λ i out. put-stays (h .mark - 1) pb pos-b slot-b i (out (h .mark - 1) (omega (arith, q)) (omega (arith, q)));
         }
 
-  module _ (passed : firstFailing (inTurn (ruleTests h forward)) ≡ none) where
+  module _ (passed : firstFailing (inTurn (ruleTests start h forward)) ≡ none) where
     q′ : 0 < s .ahead
-    q′ = omega (arith, ltb-true (h .mark) (length (h .edits)) (stands (ruleTests h forward) passed))
+    q′ = omega (arith, ltb-true (h .mark) (length (h .edits)) (stands (ruleTests start h forward) passed))
 
     pos-f : 0 < d
     pos-f = omega (arith, q′)

@@ -17,11 +17,12 @@ use Rattle.envelope.proofs.EditLaws.{outcome-either}
 use Rattle.envelope.specs.Edit.{EditTold, proposal, editOf, joinProposal, joinOf}
 use Rattle.envelope.specs.declared.AutomationEnvelope.{AutomationEnvelope}
 use Rattle.envelope.specs.declared.edit.Join.{Join}
+use Rattle.envelope.specs.declared.edit.Join.the-variants.{Merge}
 use Rattle.envelope.specs.declared.edit.Edit.{Edit}
 use Rattle.equal.specs.Equal.{bitEqual}
 use Rattle.state.specs.State.{unpacked}
 use Rattle.session.specs.Session.{stateAt, Called, declined, settled, exchanged}
-use Rattle.session.specs.Calls.{Entry, alone, joined, madeBy, Call, edit, back, forward, inTurn, testsOf, ownOf, callOf, Obeys, Ran, done, call}
+use Rattle.session.specs.Calls.{Entry, alone, joined, committed, madeBy, Call, edit, back, forward, inTurn, testsOf, ownOf, callOf, Obeys, Ran, done, call}
 use Rattle.session.specs.declared.Session.{Session}
 use Rattle.session.specs.declared.SessionAnswer.{SessionAnswer}
 
@@ -52,6 +53,7 @@ join-answered j e o = outcome-either e (validEnvelope e && validEnvelope o) (joi
 made-answered : (x : Entry) (e : AutomationEnvelope) → Answered (madeBy x e .said)
 made-answered (alone d) e = edit-answered d e
 made-answered (joined j o) e = join-answered j e o
+made-answered (committed t) e = join-answered (Merge (t .offset)) e (t .second)
 
 -- ---- and so is what a call says
 

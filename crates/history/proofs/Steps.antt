@@ -23,7 +23,7 @@ use Rattle.equal.specs.Equal.{bitEqual}
 use Rattle.state.specs.State.{stateWords, pack}
 use Rattle.state.proofs.StateLaws.{length-pack, slot-fits}
 use Rattle.session.specs.Session.{statesIn, depth, placeBelow, inOrder, validSession, declined}
-use Rattle.session.specs.Calls.{Entry, madeBy, Call, edit, back, forward, callValid, stepStands, Tests, inTurn, testsOf, ownOf, callOf}
+use Rattle.session.specs.Calls.{Entry, madeBy, Call, edit, back, forward, callValid, callFits, stepStands, Tests, inTurn, testsOf, ownOf, callOf}
 use Rattle.session.specs.declared.Session.{Session}
 use Rattle.history.specs.Rule.{Hist, made, upTo, ruleRefuses, standsIn, ruleTests, ruled, ruleOf}
 use Rattle.history.specs.After.{Holds, Outside, placeOf, typedCall}
@@ -106,16 +106,17 @@ module _ (start : AutomationEnvelope) (d : ℕ) (h : Hist) (s : Session) (m : Li
       ⊎-elim (λ (z : s .ahead ≡ 0). rw z (sym (le-ltb (h .mark) (length (h .edits)) (omega arith))))
       (λ (p : 0 < s .ahead). lt-ltb 0 (s .ahead) p ∙ sym (lt-ltb (h .mark) (length (h .edits)) (omega arith))) (eq-zero-or-pos (s .ahead))
 
-  tests-agree : (c : Call) → testsOf c s m ≡ ruleTests h c
+  tests-agree : (c : Call) → testsOf c s m ≡ ruleTests start h c
   tests-agree c =
       λ i. record {
         valid = session-valid i && callValid c;
         admission = record { length = eq-eqb (length m) (s .length) (sym (v .words)) i };
+        ticket = callFits c (v .envelope i);
         step = stands-is c i;
       }
 
   -- a call by what becomes of its tests
-  module _ (c : Call) (o : Option Refusal) (e : firstFailing (inTurn (ruleTests h c)) ≡ o) where
+  module _ (c : Call) (o : Option Refusal) (e : firstFailing (inTurn (ruleTests start h c)) ≡ o) where
     pub rule-by : ruleOf start d h c ≡ unlessRefused o (λ r. ruleRefuses (number r) h) (ruled start d h c)
     unfolding ruleOf
     rule-by = ap (λ (p : Option Refusal). unlessRefused p (λ r. ruleRefuses (number r) h) (ruled start d h c)) e
@@ -127,7 +128,7 @@ module _ (start : AutomationEnvelope) (d : ℕ) (h : Hist) (s : Session) (m : Li
         (ap (λ (t : Tests). firstFailing (inTurn t)) (tests-agree c) ∙ e)
 
   -- one that a test refuses
-  pub refused-call : (c : Call) (r : Refusal) → firstFailing (inTurn (ruleTests h c)) ≡ some r → CallStep start d h s m c
+  pub refused-call : (c : Call) (r : Refusal) → firstFailing (inTurn (ruleTests start h c)) ≡ some r → CallStep start d h s m c
   refused-call c r e =
       record {
         answer = refuses (number r);
@@ -144,4 +145,4 @@ module _ (start : AutomationEnvelope) (d : ℕ) (h : Hist) (s : Session) (m : Li
 -- where none fails a step stands
 pub stands : (t : Tests) → firstFailing (inTurn t) ≡ none → t .step ≡ true
 unfolding every
-stands t h = and-left (t .step) _ (and-right (t .admission .length) _ (and-right (t .valid) _ (all-hold (inTurn t) h)))
+stands t h = and-left (t .step) _ (and-right (t .ticket) _ (and-right (t .admission .length) _ (and-right (t .valid) _ (all-hold (inTurn t) h))))

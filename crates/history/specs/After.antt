@@ -16,7 +16,7 @@ use Rattle.envelope.specs.declared.AutomationEnvelope.{AutomationEnvelope}
 use Rattle.equal.specs.Equal.{bitEqual}
 use Rattle.state.specs.State.{stateWords, pack}
 use Rattle.session.specs.Session.{statesIn, stateAt, validSession}
-use Rattle.session.specs.Calls.{Entry, alone, joined, Call, edit, back, forward, callOf}
+use Rattle.session.specs.Calls.{Entry, alone, joined, committed, Call, edit, back, forward, callOf}
 use Rattle.session.specs.Play.{sessionRender, sessionToBuffer, sessionPieces}
 use Rattle.session.specs.declared.Session.{Session}
 use Rattle.history.specs.Rule.{Hist, newHist, upTo, envelopeOf, aheadOf, ruleOf, histAfter, answersAfter}
@@ -48,6 +48,7 @@ pub record Runs (e : AutomationEnvelope) (s : Session) : Type 0 where
 abbrev pub typedEntry : Entry → Bool
 typedEntry (alone d) = typedEdit d
 typedEntry (joined j other) = typed other
+typedEntry (committed t) = typed (t .first) && typed (t .second)
 
 -- a call's numbers are in range of their types, as every program's are: the theorem speaks of lists of such calls
 abbrev pub typedCall : Call → Bool

@@ -1,4 +1,4 @@
--- 01, "The session": its rule over a list of calls, with no step memory in it; as 02's F-2 changes it.
+-- 01, "The session": its rule over a list of calls, with no step memory in it; as 02's F-2 and F-3 change it.
 use Prim.Native.Nat.{ℕ, _+_, _-_, min}
 use mathlib.Core.Bool.{Bool, true, cond}
 use mathlib.Core.List.{List, [], _∷_, _++_}
@@ -9,7 +9,7 @@ use Rattle.points.specs.Refusal.{Said, refuses, gives, number}
 use Rattle.envelope.specs.Edit.{EditTold}
 use Rattle.envelope.specs.declared.AutomationEnvelope.{AutomationEnvelope}
 use Rattle.equal.specs.Equal.{bitEqual}
-use Rattle.session.specs.Calls.{Entry, madeBy, Call, edit, back, forward, callValid, Tests, inTurn}
+use Rattle.session.specs.Calls.{Entry, madeBy, Call, edit, back, forward, callValid, callFits, Tests, inTurn}
 
 -- "State: the edits that count, in a list; a mark in it; kept."
 pub record Hist : Type 0 where
@@ -83,9 +83,10 @@ standsIn h (edit x) = true
 standsIn h back = ltb 0 (h .kept)
 standsIn h forward = ltb (h .mark) (length (h .edits))
 
--- the tests of a call by the rule: "Each call gets the session and step memory as the last left them", so 1 is only for another envelope and 11 for none
-abbrev pub ruleTests : Hist → Call → Tests
-ruleTests h c = record { valid = callValid c; admission = record { length = true }; step = standsIn h c }
+-- the tests of a call by the rule: "Each call gets the session and step memory as the last left them", so 1 is only for another envelope and 11 for none;
+-- 14 where the envelope differs by a bit from the ticket's first
+abbrev pub ruleTests : AutomationEnvelope → Hist → Call → Tests
+ruleTests start h c = record { valid = callValid c; admission = record { length = true }; ticket = callFits c (envelopeOf start h); step = standsIn h c }
 
 -- what a call does that has passed them, from this start and with a memory for d states
 abbrev pub ruled : AutomationEnvelope → ℕ → Hist → Call → Ruled
@@ -95,7 +96,7 @@ ruled start d h forward = ruleAccepts (steppedForward h)
 
 -- the rule for one call, in the session's order of refusals
 unfoldable pub ruleOf : AutomationEnvelope → ℕ → Hist → Call → Ruled
-ruleOf start d h c = gate (inTurn (ruleTests h c)) (λ r. ruleRefuses (number r) h) (ruled start d h c)
+ruleOf start d h c = gate (inTurn (ruleTests start h c)) (λ r. ruleRefuses (number r) h) (ruled start d h c)
 
 -- the history after a list of calls
 unfoldable pub histAfter : AutomationEnvelope → ℕ → Hist → List Call → Hist

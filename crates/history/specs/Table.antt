@@ -1,4 +1,4 @@
--- 01's "Proved examples": "These are one table in the specs, established together". P1 to P14, F-1's sibling of P7 and two of F-2, on envelopes; those of lookups and ranges are what the crates below establish.
+-- 01's "Proved examples": "These are one table in the specs, established together". P1 to P14, F-1's sibling of P7, two of F-2 and two of F-3, on envelopes; those of lookups and ranges are what the crates below establish.
 use mathlib.Core.Path.{_≡_, refl}
 use mathlib.Core.List.{List, [], _∷_}
 use mathlib.Core.Option.{none, some}
@@ -30,14 +30,15 @@ use Rattle.analysis.specs.Examples as ranges
 use Rattle.analysis.specs.Analysis.{givenValues, rangeOf, rawInside, getRange}
 use Rattle.envelope.specs.Envelope.{new}
 use Rattle.envelope.specs.Calls.{valueAtOf, valueAtSampleOf, rangeBetweenOf}
-use Rattle.envelope.specs.Edit.{withPoints, withSettings, editOf, edited, pointsEdited}
+use Rattle.envelope.specs.Edit.{withPoints, withSettings, editOf, joinOf, edited, pointsEdited}
 use Rattle.envelope.specs.declared.AutomationEnvelope.{AutomationEnvelope}
 use Rattle.settle.specs.Settle.{editPoints, settle}
 use Rattle.insert.specs.Insert.{insertPoint}
 use Rattle.shape.specs.Shape.{keepIf, firsts}
 use Rattle.equal.specs.Equal.{bitEqual}
+use Rattle.ask.specs.Ask.{askOf}
 use Rattle.history.specs.Rule.{newHist, made, upTo, ruleOf, answersAfter}
-use Rattle.history.specs.Examples.{p13-calls, idle-calls, zero-calls}
+use Rattle.history.specs.Examples.{p13-calls, idle-calls, zero-calls, one, commit-calls}
 
 -- ---- envelopes: 000's `new` with points and limits
 
@@ -61,7 +62,7 @@ limited max step v = pointWithin (limits max step) v
 
 -- ---- the table
 
--- P1 to P14, F-1's and F-2's
+-- P1 to P14, F-1's, F-2's and F-3's
 pub record Table : Type 0 where
   -- "P1 empty: silent."
   pub p1 : valueAtOf (new 0) t1 ≡ gives none
@@ -97,11 +98,15 @@ pub record Table : Type 0 where
   pub idle : answersAfter (new 3) 1 newHist idle-calls ≡ gives tt ∷ gives tt ∷ gives tt ∷ gives tt ∷ gives tt ∷ refuses 10 ∷ []
   -- F-2: "bit-equal": 0.0 and −0.0 are not
   pub idle-zero : answersAfter (new 3) 2 newHist zero-calls ≡ gives tt ∷ gives tt ∷ gives tt ∷ gives tt ∷ gives tt ∷ refuses 10 ∷ []
+  -- F-3: ask "how many points a merge will give": a point on itself is one
+  pub ask-count : askOf one one f0 .said ≡ gives 1
+  -- F-3: "It refuses with 14, after 11 and before 10, a commit whose session envelope differs by a bit from the ticket's first."
+  pub commit : answersAfter (new 3) 1 newHist commit-calls ≡ gives tt ∷ refuses 14 ∷ refuses 14 ∷ gives tt ∷ refuses 3 ∷ gives tt ∷ []
   -- "P14 square root of 2: 3FB504F3."
   pub p14 : sqrt binary32 f2 ≡ f32 0x3FB5_04F3
 
 pub table : Table
-unfolding answersAfter ruleOf firstFailing bitEqual everyPair keepIf firsts upTo made editOf edited pointsEdited editPoints settle insertPoint new getValueAt getValueAtSample getRange rangeOf givenValues rawInside run validPoints every risingBy foundAt foundAtSample surrounded placeBy fraction constrained code controls finiteControls clamped cubicBezier inOut eased interpolated finite minNum maxNum narrow orderKey sqrt roundAway ofBits toBits ofInt toUnsigned round neg add sub mul div lt le isNan
+unfolding answersAfter ruleOf askOf joinOf firstFailing bitEqual everyPair keepIf firsts upTo made editOf edited pointsEdited editPoints settle insertPoint new getValueAt getValueAtSample getRange rangeOf givenValues rawInside run validPoints every risingBy foundAt foundAtSample surrounded placeBy fraction constrained code controls finiteControls clamped cubicBezier inOut eased interpolated finite minNum maxNum narrow orderKey sqrt roundAway ofBits toBits ofInt toUnsigned round neg add sub mul div lt le isNan
 table =
     record {
       p1 = lookups.p1;
@@ -122,5 +127,7 @@ table =
       p13 = refl;
       idle = refl;
       idle-zero = refl;
+      ask-count = refl;
+      commit = refl;
       p14 = refl;
     }

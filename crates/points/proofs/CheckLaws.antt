@@ -1,16 +1,17 @@
 -- Laws of answers, and of checks in a row, by the first of them each time. Assumes nothing.
 use Prim.Native.Nat.{ℕ, _<_}
-use mathlib.Core.Path.{_≡_, refl, sym}
+use mathlib.Core.Path.{_≡_, refl, ap, sym, _∙_}
 use mathlib.Core.Bool.{Bool, true, false, cond, _&&_}
 use mathlib.Core.List.{List, [], _∷_, _++_}
-use mathlib.Core.Option.{Option, none, some, Option·none-ne-some}
+use mathlib.Core.Option.{Option, none, some, Option·none-ne-some, Option·some-injective}
 use native.Mathlib.Omega.{arith}
+use Rattle.numbers.proofs.Tests.{and-left, and-right}
 use Rattle.points.specs.Checks.{Check, orElse, firstFailing, unlessRefused}
 use Rattle.points.specs.Points.{every}
 use Rattle.points.specs.Refusal.{refuses, gives, number}
 use Rattle.points.specs.declared.refusal.Refusal.{Refusal}
 use Rattle.points.specs.declared.refusal.Refusal.the-variants.{NotValid, SheetCurve, NotFinite, BoundsCross, TooManyPoints, TimesDontRise, KeysDontRise, NoRoom, SheetForm, NoStep}
-use Rattle.points.specs.declared.refusal.Refusal.the-variants.{MemoryLength, StoredState, TooManySamples}
+use Rattle.points.specs.declared.refusal.Refusal.the-variants.{MemoryLength, StoredState, TooManySamples, OtherEnvelope}
 
 -- ---- an answer is a refusal or not
 
@@ -64,6 +65,18 @@ stopped-at (c ∷ cs) ds r h = go (c .holds) (firstFailing (cs ++ ds)) (λ k. st
     go true o rest k = rest k
     go false o rest k = k
 
+-- what all refusals of the checks are, the one that is given is
+pub refused-among : (is : Refusal → Bool) (cs : List Check) (r : Refusal) → every (λ c. is (c .refusal)) cs ≡ true → firstFailing cs ≡ some r → is r ≡ true
+unfolding firstFailing every
+refused-among is [] r a h = absurd (Option·none-ne-some r h)
+refused-among is (c ∷ cs) r a h =
+    go (c .holds) (and-left (is (c .refusal)) (every (λ c. is (c .refusal)) cs) a)
+    (λ k. refused-among is cs r (and-right (is (c .refusal)) (every (λ c. is (c .refusal)) cs) a) k) h
+  where
+    go : (b : Bool) → is (c .refusal) ≡ true → (firstFailing cs ≡ some r → is r ≡ true) → cond b (firstFailing cs) (some (c .refusal)) ≡ some r → is r ≡ true
+    go true p rest k = rest k
+    go false p rest k = ap is (sym (Option·some-injective (c .refusal) r k)) ∙ p
+
 -- ---- behind them
 
 -- what holds of every refusal and of the call's own holds of what comes of it
@@ -87,3 +100,4 @@ number-above NoStep = omega arith
 number-above MemoryLength = omega arith
 number-above StoredState = omega arith
 number-above TooManySamples = omega arith
+number-above OtherEnvelope = omega arith

@@ -2,14 +2,14 @@
 use Prim.Native.Nat.{ℕ}
 use Rattle.points.specs.declared.refusal.Refusal.{Refusal}
 use Rattle.points.specs.declared.refusal.Refusal.the-variants.{NotValid, SheetCurve, NotFinite, BoundsCross, TooManyPoints, TimesDontRise, KeysDontRise, NoRoom, SheetForm, NoStep}
-use Rattle.points.specs.declared.refusal.Refusal.the-variants.{MemoryLength, StoredState, TooManySamples}
+use Rattle.points.specs.declared.refusal.Refusal.the-variants.{MemoryLength, StoredState, TooManySamples, OtherEnvelope}
 use Rattle.points.specs.declared.refusal.Answer.{Answer}
 use Rattle.points.specs.declared.refusal.Answer.the-variants.{Accepted, Refused}
 use Rattle.points.specs.declared.refusal.Compared.{Compared}
 use Rattle.points.specs.declared.refusal.Compared.the-variants as equality
 use mathlib.Core.Bool.{Bool}
 
--- the table's first column
+-- the table's first column; "01's table" takes 14 by F-3, "and each later one" with its request
 abbrev pub number : Refusal → ℕ
 number NotValid = 1
 number SheetCurve = 2
@@ -24,6 +24,7 @@ number NoStep = 10
 number MemoryLength = 11
 number StoredState = 12
 number TooManySamples = 13
+number OtherEnvelope = 14
 
 -- what a call says: a refusal, by its number, or what an accepted call gives
 pub data Said (A : Type 0) : Type 0 where

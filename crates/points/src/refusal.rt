@@ -1,4 +1,4 @@
-// The refusals of document 01, by name; `number` in specs/Refusal.antt has the numbers.
+// The refusals of document 01, and of 02's requests, by name; `number` in specs/Refusal.antt has the numbers.
 ghost use mathlib.Core.Path.{_≡_};
 ghost use Rattle.points.specs.Refusal.{number};
 
@@ -16,6 +16,7 @@ pub enum Refusal {
     MemoryLength,
     StoredState,
     TooManySamples,
+    OtherEnvelope,
 }
 
 // What a call says that leaves its result elsewhere.
@@ -31,7 +32,7 @@ pub enum Compared {
 }
 
 impl Refusal {
-    // 01's number.
+    // 01's number, and from 14 on 02's.
     pub fn number(self) -> u32
         ensures { λ r. ⌜ r ≡ number self ⌝ }
     {
@@ -49,6 +50,7 @@ impl Refusal {
             Refusal::MemoryLength => 11,
             Refusal::StoredState => 12,
             Refusal::TooManySamples => 13,
+            Refusal::OtherEnvelope => 14,
         }
     }
 }

@@ -24,7 +24,7 @@ use Rattle.equal.specs.Equal.{bitEqual}
 use Rattle.state.specs.State.{stateWords, pack, unpacked, readAs, readState, stateOver}
 use Rattle.session.specs.Session.{depth, stateAt, stored, slotAfter, slotBefore, placeBelow, inOrder, validSession, Called, called, declined, movedTo, counted, settled, exchanged}
 use Rattle.session.specs.Session.{steppedOver, refusedBy, movedBy, stayedBy}
-use Rattle.session.specs.Calls.{Entry, madeBy, othersValid, Call, edit, back, forward, admission, admissionOf, afterwards, inTurn, testsOf, callValid, ownOf, callOf, behind}
+use Rattle.session.specs.Calls.{Entry, madeBy, othersValid, fitsTicket, Call, edit, back, forward, admission, admissionOf, afterwards, inTurn, testsOf, callValid, ownOf, callOf, behind}
 use Rattle.session.specs.declared.Session.{Session}
 use Rattle.session.specs.declared.SessionAnswer.{SessionAnswer}
 
@@ -105,7 +105,7 @@ part-written e part new h p =
 -- ---- the tests in turn
 
 module _ (c : Call) (s : Session) (m : List ℕ) where
-  -- where 1 is behind, the memory's checks and then 10 decide
+  -- where 1 is behind, the memory's checks and what comes after them decide
   valid-first : (validSession s && callValid c) ≡ true
       → firstFailing (inTurn (testsOf c s m)) ≡ firstFailing (admission (admissionOf s m) ++ afterwards (testsOf c s m))
   valid-first h = first-holds (validSession s && callValid c) NotValid _ h
@@ -121,6 +121,13 @@ module _ (c : Call) (s : Session) (m : List ℕ) where
   pub call-refused : (r : Refusal) → (validSession s && callValid c) ≡ true → firstFailing (admission (admissionOf s m)) ≡ some r
       → declined (number r) s m ≡ callOf c s m
   call-refused r h e = call-by (some r) (valid-first h ∙ stopped-at (admission (admissionOf s m)) (afterwards (testsOf c s m)) r e)
+
+  -- a refusal after 1, where `valid` says whether 1 is behind it
+  pub call-after : (valid : Bool) (r : Refusal) → valid ≡ (validSession s && callValid c)
+      → (valid ≡ true → firstFailing (admission (admissionOf s m) ++ afterwards (testsOf c s m)) ≡ some r)
+      → called (refusedBy s (cond valid r NotValid)) m ≡ callOf c s m
+  call-after true r p e = call-by (some r) (valid-first (sym p) ∙ e refl)
+  call-after false r p e = call-one (sym p)
 
   pub call-behind : (validSession s && callValid c) ≡ true → firstFailing (admission (admissionOf s m)) ≡ none → behind c s m ≡ callOf c s m
   call-behind h e = call-by (firstFailing (afterwards (testsOf c s m))) (valid-first h ∙ passed-over (admission (admissionOf s m)) (afterwards (testsOf c s m)) e)
@@ -163,16 +170,19 @@ module _ (x : Entry) (s : Session) (m : List ℕ) where
 
   pub edit-refused : (valid : Bool) (r : Refusal) → inOrder s ≡ true → firstFailing (admission (admissionOf s m)) ≡ some r → valid ≡ bothValid
       → called (refusedBy s (cond valid r NotValid)) m ≡ callOf (edit x) s m
-  edit-refused true r h e p = call-refused (edit x) s m r (in-order-both h ∙ sym p) e
-  edit-refused false r h e p = call-one (edit x) s m (in-order-both h ∙ sym p)
+  edit-refused valid r h e p =
+      call-after (edit x) s m valid r (p ∙ sym (in-order-both h)) (λ h. stopped-at (admission (admissionOf s m)) (afterwards (testsOf (edit x) s m)) r e)
 
-  pub edit-own : (bothValid ≡ false → madeBy x (s .envelope) .said ≡ refuses 1) → inOrder s ≡ true → firstFailing (admission (admissionOf s m)) ≡ none
-      → settles (madeBy x (s .envelope) .said) ≡ callOf (edit x) s m
+  pub edit-own : fitsTicket x (s .envelope) ≡ true → (bothValid ≡ false → madeBy x (s .envelope) .said ≡ refuses 1) → inOrder s ≡ true
+      → firstFailing (admission (admissionOf s m)) ≡ none → settles (madeBy x (s .envelope) .said) ≡ callOf (edit x) s m
   unfolding firstFailing
-  edit-own one h e = go bothValid refl
+  edit-own fit one h e = go bothValid refl
     where
+      own : settles (madeBy x (s .envelope) .said) ≡ behind (edit x) s m
+      own = rw fit
+
       go : (b : Bool) → bothValid ≡ b → settles (madeBy x (s .envelope) .said) ≡ callOf (edit x) s m
-      go true p = call-behind (edit x) s m (in-order-both h ∙ p) e
+      go true p = own ∙ call-behind (edit x) s m (in-order-both h ∙ p) e
       go false p = ap settles (one p) ∙ call-one (edit x) s m (in-order-both h ∙ p)
 
 -- what an edit's result makes of the session

@@ -8,30 +8,42 @@ use lib.ListN.{length}
 use lib.Dec.{ltb, eqb}
 use Rattle.points.specs.Checks.{Check, orElse, gate}
 use Rattle.points.specs.Refusal.{Said, said, number}
-use Rattle.points.specs.declared.refusal.Refusal.the-variants.{NotValid, NoStep, MemoryLength}
+use Rattle.points.specs.declared.refusal.Refusal.the-variants.{NotValid, NoStep, MemoryLength, OtherEnvelope}
 use Rattle.envelope.specs.Envelope.{validEnvelope}
 use Rattle.envelope.specs.Edit.{EditTold, editOf, joinOf}
 use Rattle.envelope.specs.declared.AutomationEnvelope.{AutomationEnvelope}
 use Rattle.envelope.specs.declared.edit.Edit.{Edit}
 use Rattle.envelope.specs.declared.edit.Join.{Join}
+use Rattle.envelope.specs.declared.edit.Join.the-variants.{Merge}
+use Rattle.equal.specs.Equal.{bitEqual}
+use Rattle.ask.specs.declared.Ticket.{Ticket}
 use Rattle.session.specs.Session.{depth, slotAfter, slotBefore, validSession, Called, called, declined, settled, steppedOver}
 use Rattle.session.specs.declared.Session.{Session}
 use Rattle.session.specs.declared.SessionAnswer.{SessionAnswer}
 
--- an edit with its arguments: of the envelope alone, or with another envelope
+-- an edit with its arguments: of the envelope alone, with another envelope, or a merge that was asked first (F-3): "Commit takes the ticket and the session."
 pub data Entry : Type 0 where
   alone : Edit → Entry
   joined : Join → AutomationEnvelope → Entry
+  committed : Ticket → Entry
 
--- what it makes of an envelope
+-- what it makes of an envelope. A commit is "`merge` on the ticket's parts": the envelope has to be the ticket's first (`fitsTicket`).
 abbrev pub madeBy : Entry → AutomationEnvelope → EditTold
 madeBy (alone edit) e = editOf edit e
 madeBy (joined join other) e = joinOf join e other
+madeBy (committed ticket) e = joinOf (Merge (ticket .offset)) e (ticket .second)
 
--- 1 is for the other envelope too
+-- 1 is for the other envelope too, and for both of a ticket: "Where that merge is refused, so is the commit, by the same number and in its usual place."
 abbrev pub othersValid : Entry → Bool
 othersValid (alone edit) = true
 othersValid (joined join other) = validEnvelope other
+othersValid (committed ticket) = validEnvelope (ticket .first) && validEnvelope (ticket .second)
+
+-- 14 is for "a commit whose session envelope differs by a bit from the ticket's first", of which e is the one
+abbrev pub fitsTicket : Entry → AutomationEnvelope → Bool
+fitsTicket (alone edit) e = true
+fitsTicket (joined join other) e = true
+fitsTicket (committed ticket) e = bitEqual e (ticket .first)
 
 -- demand 3's calls: "edits, steps back and steps forward"
 pub data Call : Type 0 where
@@ -52,6 +64,8 @@ pub record Tests : Type 0 where
   pub valid : Bool
   -- 11, of the memory
   pub admission : Admission
+  -- 14, a ticket for another envelope than the session's
+  pub ticket : Bool
   -- 10, "no step that way"
   pub step : Bool
 
@@ -59,12 +73,12 @@ pub record Tests : Type 0 where
 abbrev pub admission : Admission → List Check
 admission a = orElse (a .length) MemoryLength ∷ []
 
--- what comes after the memory's: 10
+-- what comes after the memory's: 14, "after 11 and before 10", and 10
 abbrev pub afterwards : Tests → List Check
-afterwards t = orElse (t .step) NoStep ∷ []
+afterwards t = orElse (t .ticket) OtherEnvelope ∷ (orElse (t .step) NoStep ∷ [])
 
--- "Order: 1, 11, 10, 12, argument 3, 4, 13, 8, 7, result 3, 6, 5." The first three of it, for every call of a session and for the rule of its history.
--- What comes after them is the call's own: a step's 12 (`exchanged`), and what an edit says (`settled`).
+-- "Order: 1, 11, 10, 12, argument 3, 4, 13, 8, 7, result 3, 6, 5.", and 14 "after 11 and before 10". The first four of it, for every call of a session and for the
+-- rule of its history. What comes after them is the call's own: a step's 12 (`exchanged`), and what an edit says (`settled`).
 abbrev pub inTurn : Tests → List Check
 inTurn t = orElse (t .valid) NotValid ∷ (admission (t .admission) ++ afterwards t)
 
@@ -75,6 +89,12 @@ abbrev pub callValid : Call → Bool
 callValid (edit x) = othersValid x
 callValid back = true
 callValid forward = true
+
+-- 14 is a commit's alone
+abbrev pub callFits : Call → AutomationEnvelope → Bool
+callFits (edit x) e = fitsTicket x e
+callFits back e = true
+callFits forward e = true
 
 -- "Step back, if kept > 0", "Step forward, if an entry stands after the mark"; an edit needs no step
 abbrev pub stepStands : Call → Session → Bool
@@ -88,7 +108,8 @@ admissionOf s m = record { length = eqb (length m) (s .length) }
 
 -- the tests of a call on session s and memory m
 abbrev pub testsOf : Call → Session → List ℕ → Tests
-testsOf c s m = record { valid = validSession s && callValid c; admission = admissionOf s m; step = stepStands c s }
+testsOf c s m =
+    record { valid = validSession s && callValid c; admission = admissionOf s m; ticket = callFits c (s .envelope); step = stepStands c s }
 
 -- what a call does that has passed them. An edit: by what it makes of the envelope.
 -- A step back: over the slot of the last edit before the mark, "mark − 1, kept − 1". A step forward: over the slot of the first entry after it, "both + 1".

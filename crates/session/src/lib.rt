@@ -120,7 +120,7 @@ impl Session {
     // ---- what every call asks, and its ends
 
     // What is asked of the lent memory, by every call.
-    fn admit(self, memory: &[u64]) -> Answer
+    pub fn admit(self, memory: &[u64]) -> Answer
         ensures { λ r. ⌜ refusalOf r ≡ firstFailing (admission (admissionOf self (now (memory .entry)))) ⌝ }
     {
         if memory.len() == self.length {
@@ -140,7 +140,7 @@ impl Session {
     }
 
     // A refusal that comes after 1; `valid` says whether the call's envelopes are valid, so that they give no 1.
-    fn refuse_after(self, valid: bool, refusal: Refusal) -> SessionAnswer
+    pub fn refuse_after(self, valid: bool, refusal: Refusal) -> SessionAnswer
         ensures { λ a. ⌜ a ≡ refusedBy self (cond valid refusal NotValid) ⌝ }
     {
         let first = if valid { refusal } else { Refusal::NotValid };

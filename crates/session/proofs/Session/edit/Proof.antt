@@ -1,6 +1,6 @@
 -- `session::Session::edit` meets its contract: the tests in turn: out of order is 1 (`edit-order`);
 -- what `admit` refuses, but 1 for the envelope first (`edit-refused`); the edit's own answer (`edit-own`), whose 1 (`edit-one`) is the session's too.
-use mathlib.Core.Path.{ap, sym, _∙_}
+use mathlib.Core.Path.{refl, ap, sym, _∙_}
 use denote.Ref.{now}
 use mathlib.Core.Bool.{and-true}
 use Rattle.envelope.specs.Envelope.{validEnvelope}
@@ -61,7 +61,7 @@ returns c =
     let a = tested .before .before .before .before .args in
     c .before .before .settle .ensures
     ∙ ap (λ (t : EditTold). settled (a .self) (now (a .memory)) (t .said) (t .envelope)) (made .edit .ensures)
-    ∙ edit-own (alone (a .e)) (a .self) (now (a .memory))
+    ∙ edit-own (alone (a .e)) (a .self) (now (a .memory)) refl
     (λ h. edit-one (a .e) (a .self .envelope) (sym (and-true (validEnvelope (a .self .envelope))) ∙ h))
     (sym (tested .before .in-order .ensures) ∙ tested .if1 .taken)
     (sym (admitted .admit .ensures) ∙ ap refusalOf (told .enum-told .given .1))

@@ -1,6 +1,6 @@
 -- `session::Session::join` meets its contract: the tests in turn, as in `edit`, with 1 for either envelope: out of order (`edit-order`);
 -- what `admit` refuses, but that 1 first (`edit-refused`); the join's own answer (`edit-own`), whose 1 (`join-one`) is the session's too.
-use mathlib.Core.Path.{ap, sym, _∙_}
+use mathlib.Core.Path.{refl, ap, sym, _∙_}
 use denote.Ref.{now}
 use mathlib.Core.Bool.{_&&_}
 use Rattle.envelope.specs.Edit.{EditTold}
@@ -64,7 +64,7 @@ returns c =
     let a = tested .before .before .before .before .args in
     settle .ensures
     ∙ ap (λ (t : EditTold). settled (a .self) (now (a .memory)) (t .said) (t .envelope)) (made .join .ensures)
-    ∙ edit-own (joined (a .join) (a .other)) (a .self) (now (a .memory)) (λ h. join-one (a .join) (a .self .envelope) (a .other) h)
+    ∙ edit-own (joined (a .join) (a .other)) (a .self) (now (a .memory)) refl (λ h. join-one (a .join) (a .self .envelope) (a .other) h)
     (sym (tested .before .in-order .ensures) ∙ tested .if1 .taken)
     (sym (admitted .admit .ensures) ∙ ap refusalOf (told .enum-told .given .1))
 

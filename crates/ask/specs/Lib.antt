@@ -1,0 +1,2 @@
+-- Merge, asked first: 02's F-3.
+pub mod Ask
