@@ -29,6 +29,8 @@ pair!(rattle_find_peaks, rust_find_peaks, (turns: u32, times: *mut f64, times_le
 
 pair!(rattle_session_edit, rust_session_edit, (which: u32, time: f64, turns: u32, memory: *mut u64, memory_len: usize));
 pair!(rattle_session_step, rust_session_step, (turns: u32, memory: *mut u64, memory_len: usize));
+pair!(rattle_ask, rust_ask, (offset: f64, turns: u32));
+pair!(rattle_session_merge, rust_session_merge, (which: u32, offset: f64, turns: u32, memory: *mut u64, memory_len: usize));
 
 /// What a call is given: times that rise from 0 to 1, and values from 0 up to 1.
 struct Input {
@@ -462,10 +464,86 @@ fn sessions() -> Vec<Figure> {
     all
 }
 
+/// The offset of a merge of an envelope into itself, as `merge` among the edits has it.
+const MERGED: f64 = 0.001;
+
+/// How many points a merge will give, each envelope of so many.
+fn asks() -> Vec<Figure> {
+    const TURNS: usize = 200;
+    [2, 16, 128]
+        .into_iter()
+        .map(|points| {
+            record!(
+                format!("ask, {points} and {points}"),
+                TURNS,
+                1,
+                (points == 128).then_some(3.0),
+                input(points, LINEAR),
+                rattle_ask,
+                rust_ask,
+                0,
+                |_left, turns| (MERGED, turns as u32)
+            )
+        })
+        .collect()
+}
+
+/// A session's merge and the commit of the same ticket, beside the Rust's; then the port's commit beside the port's merge.
+fn merges() -> Vec<Figure> {
+    const TURNS: usize = 200;
+    const MERGE: u32 = 0;
+    const COMMIT: u32 = 1;
+    let mut all = Vec::new();
+    for points in [2, 16, 128] {
+        let i = input(points, LINEAR);
+        for (name, which) in [("session merge", MERGE), ("session commit", COMMIT)] {
+            all.push(record!(
+                format!("{name}, {points} and {points}"),
+                TURNS,
+                1,
+                (points == 128).then_some(3.0),
+                i,
+                rattle_session_merge,
+                rust_session_merge,
+                16 * 1028,
+                |left, turns| (which, MERGED, turns as u32, left.memory.as_mut_ptr(), 16 * 1028)
+            ));
+        }
+        all.push(figure(
+            format!("session commit, beside Rattle's own session merge, {points} and {points}"),
+            TURNS,
+            1,
+            Some(1.25),
+            ("rattle_session_merge", "rattle_session_merge"),
+            16 * 1028,
+            move |commit, left, turns| unsafe {
+                let which = if commit { COMMIT } else { MERGE };
+                let memory = left.memory.as_mut_ptr();
+                let (times, values) = (&i.times, &i.values);
+                rattle_session_merge(
+                    times.as_ptr(),
+                    times.len(),
+                    values.as_ptr(),
+                    values.len(),
+                    LINEAR,
+                    which,
+                    MERGED,
+                    turns as u32,
+                    memory,
+                    16 * 1028,
+                )
+            },
+        ));
+    }
+    all
+}
+
 pub fn figures() -> Vec<Figure> {
     let mut all = rendering();
     all.extend(lookups());
     all.extend(analyses());
     all.extend(sessions());
+    all.extend(asks());
+    all.extend(merges());
     all
 }

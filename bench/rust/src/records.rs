@@ -1,7 +1,7 @@
 //! The counterparts of the exports on envelopes: the same work on the same lists, `turns` times.
 use crate::edits;
 use crate::fixed::{Edited, Envelope, Point, PLACES};
-use crate::session::{self, Session};
+use crate::session::{self, Session, Ticket};
 use source::curve::CurveType;
 use source::envelope::{AutomationEnvelope, AutomationPoint};
 use std::hint::black_box;
@@ -581,4 +581,84 @@ pub unsafe extern "C" fn rust_session_step(
         s = session::forward(*black_box(&s), black_box(memory)).accepted();
     }
     s.kept as u64
+}
+
+// ---- a merge that was asked first
+
+/// The offset, or its negative in every other turn.
+fn turned(offset: f64, i: u32) -> f64 {
+    if i % 2 == 0 {
+        offset
+    } else {
+        -offset
+    }
+}
+
+/// # Safety
+/// As above.
+#[no_mangle]
+#[inline(never)]
+pub unsafe extern "C" fn rust_ask(
+    times: *const f64,
+    times_len: usize,
+    values: *const f32,
+    values_len: usize,
+    curve: u32,
+    offset: f64,
+    turns: u32,
+) -> u64 {
+    let e = made(from_raw_parts(times, times_len), from_raw_parts(values, values_len), curve);
+    let mut ticket = Ticket {
+        first: e,
+        second: e,
+        offset,
+    };
+    let mut sum = 0u64;
+    for i in 0..turns {
+        let e = *black_box(&e);
+        let (answer, given) = session::ask(e, e, turned(offset, i));
+        ticket = given;
+        black_box(&ticket);
+        sum = sum.wrapping_add(answer.map_or(1000, |n| n as u64));
+    }
+    sum.wrapping_add(ticket.second.count as u64)
+}
+
+/// # Safety
+/// As above.
+#[no_mangle]
+#[inline(never)]
+pub unsafe extern "C" fn rust_session_merge(
+    times: *const f64,
+    times_len: usize,
+    values: *const f32,
+    values_len: usize,
+    curve: u32,
+    which: u32,
+    offset: f64,
+    turns: u32,
+    memory: *mut u64,
+    memory_len: usize,
+) -> u64 {
+    let e = made(from_raw_parts(times, times_len), from_raw_parts(values, values_len), curve);
+    let s = started(e, memory_len);
+    let memory = from_raw_parts_mut(memory, memory_len);
+    let mut ticket = Ticket {
+        first: e,
+        second: e,
+        offset,
+    };
+    let mut last = s;
+    for i in 0..turns {
+        ticket.offset = turned(offset, i);
+        let before = *black_box(&s);
+        let ticket = black_box(&ticket);
+        let after = match which {
+            0 => session::merge(before, ticket.second, ticket.offset, black_box(memory)),
+            _ => session::commit(before, *ticket, black_box(memory)),
+        };
+        last = after.accepted();
+        black_box(&last);
+    }
+    (last.kept as u64).wrapping_add(last.envelope.count as u64)
 }

@@ -265,6 +265,43 @@ pub fn add_point(s: Session, p: Point, memory: &mut [u64]) -> Answer {
     edit(s, |e| edits::add_point(e, p), memory)
 }
 
+/// An edit with another envelope: 1 for either comes first.
+#[inline(never)]
+pub fn merge(s: Session, other: Envelope, offset: f64, memory: &mut [u64]) -> Answer {
+    if memory.len() != s.length && !other.is_valid() {
+        return refused(s, 1);
+    }
+    edit(s, |e| edits::merge(e, other, offset), memory)
+}
+
+/// Request F-3's ticket.
+#[derive(Clone, Copy)]
+pub struct Ticket {
+    pub first: Envelope,
+    pub second: Envelope,
+    pub offset: f64,
+}
+
+/// How many points the merge will give, or its refusal, and the ticket.
+#[inline(never)]
+pub fn ask(first: Envelope, second: Envelope, offset: f64) -> (Result<usize, u32>, Ticket) {
+    let Edited { refusal, envelope } = edits::merge(first, second, offset);
+    let answer = if refusal == 0 { Ok(envelope.count) } else { Err(refusal) };
+    (answer, Ticket { first, second, offset })
+}
+
+/// The ticket's merge: 1 for the session and both of its envelopes, 11, then 14.
+#[inline(never)]
+pub fn commit(s: Session, t: Ticket, memory: &mut [u64]) -> Answer {
+    if t.first.is_valid() && bit_equal(&s.envelope, &t.first) {
+        return merge(s, t.second, t.offset, memory);
+    }
+    if !(s.in_order() && s.envelope.is_valid() && t.first.is_valid() && t.second.is_valid()) {
+        return refused(s, 1);
+    }
+    refused(s, if memory.len() == s.length { 14 } else { 11 })
+}
+
 /// A step: the envelope and the state in a slot change places.
 #[inline(always)]
 fn step(s: Session, left: usize, k: usize, at: usize, kept: usize, ahead: usize, memory: &mut [u64]) -> Answer {

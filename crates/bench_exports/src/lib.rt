@@ -14,6 +14,7 @@ mod player;
 mod ranges;
 mod rehearsal;
 mod sheets;
+mod tickets;
 
 use curve::CurveType;
 

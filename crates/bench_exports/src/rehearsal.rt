@@ -7,7 +7,7 @@ use points::AutomationPoint;
 use session::Session;
 
 // A new session, but from that envelope.
-fn started(envelope: AutomationEnvelope, memory: &[u64]) -> Session {
+pub(crate) fn started(envelope: AutomationEnvelope, memory: &[u64]) -> Session {
     let mut s = Session::open(7, memory);
     s.envelope = envelope;
     s

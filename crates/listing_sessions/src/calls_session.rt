@@ -1,6 +1,6 @@
 // The lines of a session: `session s CALL => ok kept KEPT ahead AHEAD E`, where a call is
-// `open TARGET WORDS`, `edit NAME ARGUMENTS`, `back`, `forward`, `show`, `damage SLOT WORD`, or
-// `len WORDS` and one of those, with a step memory of another length. One session is open at a time.
+// `open TARGET WORDS`, `edit NAME ARGUMENTS`, `commit E E OFFSET`, `back`, `forward`, `show`, `damage SLOT WORD`,
+// or `len WORDS` and one of those, with a step memory of another length. One session is open at a time.
 // The calls that alter nothing are in the crate listing_looks.
 use listing::text::Name;
 use listing::text::Outcome;
@@ -20,6 +20,7 @@ use listing_envelopes::records::says_envelope;
 use listing_looks::looks::look;
 use listing_looks::words;
 use listing_points::answers::answers_refusal;
+use listing_tickets::commits::commit_at;
 use points::refusal::Answer;
 use session::Session;
 use session::SessionAnswer;
@@ -117,13 +118,31 @@ fn edit(s: &[u8], at: usize, session: Session, memory: &mut [u64]) -> Played {
     answered(s, next, session.edit(edit, memory))
 }
 
+// Made twice; both have to answer the line.
+fn commit(s: &[u8], at: usize, session: Session, memory: &mut [u64]) -> Played {
+    let twice = commit_at(s, at, session, memory);
+    let asked = twice.asked;
+    let made = twice.made;
+    let end = twice.end;
+    let Place::At(next) = end else {
+        return stays(session, Outcome::Differs);
+    };
+    let first = answered(s, next, asked);
+    let outcome = first.outcome;
+    let Outcome::Same = outcome else {
+        return first;
+    };
+    answered(s, next, made)
+}
+
 fn call(s: &[u8], name: Name, session: Session, memory: &mut [u64]) -> Played {
     let at = name.to;
-    match name.among(s, b"back forward show edit ") {
+    match name.among(s, b"back forward show edit commit ") {
         0 => answered(s, at, session.back(memory)),
         1 => answered(s, at, session.forward(memory)),
         2 => shown(s, at, session),
         3 => edit(s, at, session, memory),
+        4 => commit(s, at, session, memory),
         _ => stays(session, Outcome::Unknown),
     }
 }

@@ -14,6 +14,7 @@ use listing_numbers::calls;
 use listing_numbers::curves;
 use listing_sessions::calls_session;
 use listing_sessions::calls_session::Played;
+use listing_tickets::asks;
 use session::Session;
 
 // What module k gives. `at` is the place after the call's name.
@@ -28,6 +29,7 @@ fn of_module(k: u64, s: &[u8], at: usize) -> Outcome {
         6 => sheets::run(s, at),
         7 => merge::run(s, at),
         8 => calls_edit::run(s, at),
+        9 => asks::run(s, at),
         _ => Outcome::Unknown,
     }
 }
