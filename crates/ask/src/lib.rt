@@ -1,9 +1,8 @@
 // Merge, asked first: 02's F-3. How many points a merge will give, and a ticket of what was asked.
 ghost use mathlib.Core.Path.{_≡_};
-ghost use Rattle.envelope.specs.Edit.{toldEdit};
-ghost use Rattle.ask.specs.Ask.{toldCount, countSaid, toldAsk, askOf};
+ghost use Rattle.points.specs.Refusal.{said};
+ghost use Rattle.ask.specs.Ask.{toldCount, countIf, toldAsk, askOf};
 use envelope::AutomationEnvelope;
-use envelope::Edited;
 use points::refusal::Answer;
 use points::refusal::Refusal;
 
@@ -25,16 +24,11 @@ pub struct Asked {
     pub ticket: Ticket,
 }
 
-fn count_of(merged: Edited) -> MergeCount
-    ensures { λ r. ⌜ toldCount r ≡ countSaid (toldEdit merged) ⌝ }
+fn counted(told: Answer, count: usize) -> MergeCount
+    ensures { λ r. ⌜ toldCount r ≡ countIf (said told) count ⌝ }
 {
-    let answer = merged.answer;
-    match answer {
-        Answer::Accepted => {
-            let envelope = merged.envelope;
-            let points = envelope.points;
-            MergeCount::Is(points.count)
-        }
+    match told {
+        Answer::Accepted => MergeCount::Is(count),
         Answer::Refused(refusal) => MergeCount::Refused(refusal),
     }
 }
@@ -43,7 +37,11 @@ fn count_of(merged: Edited) -> MergeCount
 pub fn ask_merge(first: AutomationEnvelope, second: AutomationEnvelope, offset: f64) -> Asked
     ensures { λ r. ⌜ toldAsk r ≡ askOf first second offset ⌝ }
 {
-    let answer = count_of(first.merge(second, offset));
+    let merged = first.merge(second, offset);
+    let told = merged.answer;
+    let envelope = merged.envelope;
+    let points = envelope.points;
+    let answer = counted(told, points.count);
     Asked {
         answer,
         ticket: Ticket {

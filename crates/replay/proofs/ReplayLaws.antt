@@ -30,12 +30,12 @@ use Rattle.envelope.specs.declared.edit.Edit.the-variants.{OfPoints, SetEnabled
 use Rattle.envelope.specs.declared.edit.PointsEdit.the-variants.{AddPoint, ShiftPoints, Scale}
 use Rattle.session.specs.Session.{openSession}
 use Rattle.session.proofs.Slots.{lt-or-le}
-use Rattle.session.specs.Calls.{alone, joined, Call, edit, back, forward, Obeys, Ran, done, call}
+use Rattle.session.specs.Calls.{alone, joined, committed, Call, edit, back, forward, Obeys, Ran, done, call}
 use Rattle.session.specs.declared.Session.{Session}
 use Rattle.session.specs.declared.SessionAnswer.{SessionAnswer}
 use Rattle.history.specs.After.{typedCall}
 use Rattle.history.proofs.History.{history-new}
-use Rattle.replay.specs.Replay.{otherFrom, callFrom, callsOf, replayed, saidOf, AfterReplay}
+use Rattle.replay.specs.Replay.{otherFrom, ticketFrom, callFrom, callsOf, replayed, saidOf, AfterReplay}
 
 -- a refusal's number says it, since it isn't 0
 number-said : (r : Refusal) → saidOf (number r) ≡ refuses (number r)
@@ -72,28 +72,34 @@ module _ (k : ℕ) (x y : Float) where
   unfolding callFrom
   is-scale h = rw h
 
-  pub is-add : (k ≡ 0 → ⊥) → (k ≡ 1 → ⊥) → (k ≡ 2 → ⊥) → (k ≡ 3 → ⊥) → (k ≡ 4 → ⊥) → (k ≡ 5 → ⊥) → (k ≡ 6 → ⊥)
+  pub is-add : (k ≡ 0 → ⊥) → (k ≡ 1 → ⊥) → (k ≡ 2 → ⊥) → (k ≡ 3 → ⊥) → (k ≡ 4 → ⊥) → (k ≡ 5 → ⊥) → (k ≡ 6 → ⊥) → (k ≡ 7 → ⊥)
       → callFrom k x y ≡ edit (alone (OfPoints (AddPoint (pointWith x y Linear))))
   unfolding callFrom
-  is-add a b c d e f g = rw (ne-eqb k 0 a, ne-eqb k 1 b, ne-eqb k 2 c, ne-eqb k 3 d, ne-eqb k 4 e, ne-eqb k 5 f, ne-eqb k 6 g)
+  is-add a b c d e f g h = rw (ne-eqb k 0 a, ne-eqb k 1 b, ne-eqb k 2 c, ne-eqb k 3 d, ne-eqb k 4 e, ne-eqb k 5 f, ne-eqb k 6 g, ne-eqb k 7 h)
 
   pub is-merge : k ≡ 6 → callFrom k x y ≡ edit (joined (Merge x) (otherFrom x y))
   unfolding callFrom
   is-merge h = rw h
 
+  pub is-commit : k ≡ 7 → callFrom k x y ≡ edit (committed (ticketFrom x y))
+  unfolding callFrom
+  is-commit h = rw h
+
   -- a call's numbers are in range of their types if these are
   pub call-typed : fits binary64 x ≡ true → fits binary32 y ≡ true → typedCall (callFrom k x y) ≡ true
-  unfolding callFrom otherFrom typedEdit typedPointsEdit
+  unfolding callFrom otherFrom ticketFrom typedEdit typedPointsEdit
   call-typed f g =
       let point-typed = pointWith-typed x y Linear (yes f) (yes g) linear-typed in
+      let other-typed = edit-typed (OfPoints (AddPoint (pointWith x y Linear))) (new 0) (new-typed 0 refl) point-typed in
       either (λ (c : Call). typedCall c ≡ true) (eqb k 0) (λ h. refl)
       (either (λ (c : Call). typedCall c ≡ true) (eqb k 1) (λ h. refl)
       (either (λ (c : Call). typedCall c ≡ true) (eqb k 2) (λ h. refl)
       (either (λ (c : Call). typedCall c ≡ true) (eqb k 3) (λ h. refl)
       (either (λ (c : Call). typedCall c ≡ true) (eqb k 4) (λ h. f)
       (either (λ (c : Call). typedCall c ≡ true) (eqb k 5) (λ h. g)
-      (either (λ (c : Call). typedCall c ≡ true) (eqb k 6) (λ h. edit-typed (OfPoints (AddPoint (pointWith x y Linear))) (new 0) (new-typed 0 refl) point-typed)
-      point-typed))))))
+      (either (λ (c : Call). typedCall c ≡ true) (eqb k 6) (λ h. other-typed)
+      (either (λ (c : Call). typedCall c ≡ true) (eqb k 7) (λ h. both other-typed other-typed)
+      point-typed)))))))
 
 -- ---- their number, and one more of them
 

@@ -16,13 +16,19 @@ use Rattle.envelope.specs.declared.edit.Join.the-variants.{Merge}
 use Rattle.envelope.specs.declared.edit.Edit.the-variants.{OfPoints, SetEnabled}
 use Rattle.envelope.specs.declared.edit.PointsEdit.the-variants.{AddPoint, ShiftPoints, Scale}
 use Rattle.session.specs.Session.{openSession}
-use Rattle.session.specs.Calls.{alone, joined, Call, edit, back, forward, Ran}
+use Rattle.ask.specs.declared.Ticket.{Ticket}
+use Rattle.session.specs.Calls.{alone, joined, committed, Call, edit, back, forward, Ran}
 use Rattle.session.specs.declared.Session.{Session}
 use Rattle.history.specs.After.{After}
 
 -- the envelope with one point: what a merge takes
 unfoldable pub otherFrom : Float → Float → AutomationEnvelope
 otherFrom x y = editOf (OfPoints (AddPoint (pointWith x y Linear))) (new 0) .envelope
+
+-- a ticket whose first is that one, and its second too
+unfoldable pub ticketFrom : Float → Float → Ticket
+unfolding otherFrom
+ticketFrom x y = record { first = otherFrom x y; second = otherFrom x y; offset = x }
 
 -- the call of a number and what an edit of that number takes
 unfoldable pub callFrom : ℕ → Float → Float → Call
@@ -34,7 +40,8 @@ callFrom kind x y =
     (cond (eqb kind 4) (edit (alone (OfPoints (ShiftPoints x))))
     (cond (eqb kind 5) (edit (alone (OfPoints (Scale y))))
     (cond (eqb kind 6) (edit (joined (Merge x) (otherFrom x y)))
-    (edit (alone (OfPoints (AddPoint (pointWith x y Linear)))))))))))
+    (cond (eqb kind 7) (edit (committed (ticketFrom x y)))
+    (edit (alone (OfPoints (AddPoint (pointWith x y Linear))))))))))))
 
 -- as many as the shortest of the lists has
 unfoldable pub callsOf : List ℕ → List Float → List Float → List Call

@@ -5,7 +5,8 @@ ghost use Prim.Native.Nat.{min};
 ghost use Rattle.points.specs.Refusal.{said};
 ghost use Rattle.session.specs.Calls.{Obeys};
 ghost use Rattle.history.specs.After.{typedCall};
-ghost use Rattle.replay.specs.Replay.{otherFrom, callFrom, replayed, saidOf, AfterReplay};
+ghost use Rattle.replay.specs.Replay.{otherFrom, ticketFrom, callFrom, replayed, saidOf, AfterReplay};
+use ask::Ticket;
 use envelope::AutomationEnvelope;
 use envelope::edit::Edit;
 use envelope::edit::Join;
@@ -24,6 +25,18 @@ fn other(x: f64, y: f32) -> AutomationEnvelope
     r.envelope
 }
 
+// A ticket whose first is that envelope: it fits a session that has come to be just this.
+fn ticket(x: f64, y: f32) -> Ticket
+    ensures { λ r. ⌜ r ≡ ticketFrom x y ⌝ }
+{
+    let first = other(x, y);
+    Ticket {
+        first,
+        second: first,
+        offset: x,
+    }
+}
+
 // One call, given by a number and what an edit of that number takes.
 fn call(session: Session, kind: u8, x: f64, y: f32, memory: &mut [u64]) -> SessionAnswer
     ensures { λ a. ⌜ Obeys session (now (memory .entry)) (callFrom kind x y) a (now (memory .exit)) ⌝ }
@@ -37,6 +50,7 @@ fn call(session: Session, kind: u8, x: f64, y: f32, memory: &mut [u64]) -> Sessi
         4 => session.edit(Edit::OfPoints(PointsEdit::ShiftPoints(x)), memory),
         5 => session.edit(Edit::OfPoints(PointsEdit::Scale(y)), memory),
         6 => session.join(Join::Merge(x), other(x, y), memory),
+        7 => commit::commit(session, ticket(x, y), memory),
         _ => session.edit(
             Edit::OfPoints(PointsEdit::AddPoint(AutomationPoint::new(x, y))),
             memory,

@@ -5,8 +5,9 @@ use Rattle.envelope.specs.declared.AutomationEnvelope.{AutomationEnvelope}
 use Rattle.envelope.specs.declared.edit.Edit.the-variants.{OfPoints}
 use Rattle.envelope.specs.declared.edit.Join.the-variants.{Merge}
 use Rattle.envelope.specs.declared.edit.PointsEdit.the-variants.{AddPoint}
-use Rattle.session.specs.Calls.{Call, edit, alone, joined, callOf}
-use Rattle.replay.proofs.ReplayLaws.{is-back, is-forward, is-off, is-on, is-shift, is-scale, is-merge, is-add, call-typed}
+use Rattle.ask.specs.declared.Ticket.{Ticket}
+use Rattle.session.specs.Calls.{Call, edit, alone, joined, committed, callOf}
+use Rattle.replay.proofs.ReplayLaws.{is-back, is-forward, is-off, is-on, is-shift, is-scale, is-merge, is-commit, is-add, call-typed}
 use borrow.Author.Needs.{needs}
 use Rattle.replay.proofs.call.Statement.{statement}
 use Rattle.replay.proofs.call.Tie as tie
@@ -34,6 +35,12 @@ other-requires c κs = search needs
 
 join-requires : tie.Need-join-requires
 join-requires c κs = search needs
+
+ticket-requires : tie.Need-ticket-requires
+ticket-requires c κs = search needs
+
+commit-requires : tie.Need-commit-requires
+commit-requires c κs = search needs
 
 new-requires : tie.Need-new-requires
 new-requires c κs = search needs
@@ -141,13 +148,28 @@ returns-8 : tie.Need-returns-8
 returns-8 c =
     let entry = c .before .before .before .before .before .before .before in
     let match = c .before .before .before .before .before .match in
+    let ticket = c .before .before .before .before .ticket in
+    let commit = c .before .before .commit in
+    let a = entry .args in (
+      commit .ensures ∙ ap (λ (t : Ticket). callOf (edit (committed t)) (a .session) (now (a .memory))) (ticket .ensures)
+          ∙ ap (λ (c : Call). callOf c (a .session) (now (a .memory))) (sym (is-commit (a .kind) (a .x) (a .y) (match .keys8))),
+      call-typed (a .kind) (a .x) (a .y) (entry .good .1 .1 .0 .1) (entry .good .1 .1 .1 .0 .1),
+    )
+
+same-length-9 : tie.Need-same-length-9
+same-length-9 c = search needs
+
+returns-9 : tie.Need-returns-9
+returns-9 c =
+    let entry = c .before .before .before .before .before .before .before in
+    let match = c .before .before .before .before .before .match in
     let new = c .before .before .before .before .new in
     let edit5 = c .before .before .edit5 in
     let a = entry .args in
     let r = match .rest in (
       edit5 .ensures ∙ ap (λ (p : AutomationPoint). callOf (edit (alone (OfPoints (AddPoint p)))) (a .session) (now (a .memory))) (new .ensures)
           ∙ ap (λ (c : Call). callOf c (a .session) (now (a .memory)))
-          (sym (is-add (a .kind) (a .x) (a .y) (r .0 .0 .0 .0 .0 .0 .1) (r .0 .0 .0 .0 .0 .1) (r .0 .0 .0 .0 .1) (r .0 .0 .0 .1) (r .0 .0 .1) (r .0 .1) (r .1))),
+          (sym (is-add (a .kind) (a .x) (a .y) (r .0 .0 .0 .0 .0 .0 .0 .1) (r .0 .0 .0 .0 .0 .0 .1) (r .0 .0 .0 .0 .0 .1) (r .0 .0 .0 .0 .1) (r .0 .0 .0 .1) (r .0 .0 .1) (r .0 .1) (r .1))),
       call-typed (a .kind) (a .x) (a .y) (entry .good .1 .1 .0 .1) (entry .good .1 .1 .1 .0 .1),
     )
 
@@ -163,6 +185,8 @@ call-spec =
     edit-requires-4
     other-requires
     join-requires
+    ticket-requires
+    commit-requires
     new-requires
     edit-requires-5
     same-length
@@ -180,4 +204,6 @@ call-spec =
     same-length-7
     returns-7
     same-length-8
-    returns-8)
+    returns-8
+    same-length-9
+    returns-9)

@@ -28,7 +28,7 @@ wrapping-add-u64-requires : tie.Need-wrapping-add-u64-requires Inv-loop μ-loop
 wrapping-add-u64-requires c κs = tt
 
 add-i : tie.Need-add-i Inv-loop μ-loop
-add-i c = 
+add-i c =
     let turn = c .before .before .before .before .before in
     let start = turn .before .before .before .before .before in
     omega (arith, turn .loop-test .taken, start .fits .turns .fits)

@@ -27,7 +27,7 @@ merged-requires : tie.Need-merged-requires Inv-loop μ-loop
 merged-requires c κs = tt
 
 add-i : tie.Need-add-i Inv-loop μ-loop
-add-i c = 
+add-i c =
     let turn = c .before .before .before .before .before .before in
     let start = turn .before .before .before .before .before .before .before .before in
     omega (arith, turn .loop-test .taken, start .fits .turns .fits)
@@ -36,7 +36,7 @@ loop-less : tie.Need-loop-less Inv-loop μ-loop
 loop-less c = omega arith
 
 loop-again : tie.Need-loop-again Inv-loop μ-loop
-loop-again c = 
+loop-again c =
     let loop = c .before .before .before .before .before .before .before .loop in
     let merged = c .before .before .before .merged in
     (omega arith, merged .kept .1 .1 .1 .0 ∙ loop .inv .1)
