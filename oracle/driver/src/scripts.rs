@@ -56,7 +56,7 @@ pub const COMMITS: Mix = Mix {
     nearly: 10,
     leading: 30,
     commits: 75,
-    lengths: &[0, 1027, 1028, 1029, 2056, 3000, 3084, 3100, 5141, 16448, 20480],
+    lengths: &[0, 1027, 1028, 1029, 2056, 3000, 3084, 3100, 5141, 16448, 19452],
 };
 
 /// A script: what its last line was, an opening at first, its last edit, and the tickets that were committed, of which

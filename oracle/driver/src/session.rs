@@ -6,7 +6,7 @@ use crate::forms::{call_kinds, is_call, is_lookup, signature};
 use crate::records::Envelope;
 use crate::rules::hold;
 use crate::same_bits::same_bits;
-use crate::state::{before_opening, packed, sum, STATE};
+use crate::state::{before_opening, packed, sum, MEMORY, STATE};
 use crate::text::{self, Arg, Read, Registers, Words};
 use std::collections::HashMap;
 use std::ops::Range;
@@ -335,6 +335,15 @@ impl Session {
     }
 }
 
+/// How many words are lent; there are no more than the step memory has.
+fn lent(words: &mut Words) -> Read<u64> {
+    let length = words.decimal()?;
+    if length > MEMORY {
+        return Err("more words than the step memory has".into());
+    }
+    Ok(length)
+}
+
 /// The answer to `NAME open ..`, `NAME edit ..` and so on.
 pub fn session(all: &mut Sessions, registers: &Registers, line: &[&str]) -> Read<String> {
     let mut words = Words::new(line, registers);
@@ -344,7 +353,7 @@ pub fn session(all: &mut Sessions, registers: &Registers, line: &[&str]) -> Read
         return Err(format!("no call {what}"));
     }
     if what == "open" {
-        let (target, length) = (words.decimal()? as u32, words.decimal()?);
+        let (target, length) = (words.decimal()? as u32, lent(&mut words)?);
         words.end()?;
         let s = Session::new(target, length);
         let answer = s.answer();
@@ -354,7 +363,7 @@ pub fn session(all: &mut Sessions, registers: &Registers, line: &[&str]) -> Read
     let s = all.get_mut(name).ok_or("no such session")?;
     let mut other = false;
     if what == "len" {
-        other = words.decimal()? != s.words;
+        other = lent(&mut words)? != s.words;
         what = words.word()?;
         if !matches!(what, "edit" | "commit" | "back" | "forward") {
             return Err("a length is an edit's, a commit's or a step's".into());

@@ -5,7 +5,7 @@ use crate::records::{code_of, controls, AutomationPoint, Envelope};
 pub const STATE: usize = 1028;
 
 /// All words of the step memory. A session is lent the first ones.
-const MEMORY: u64 = 20480;
+pub const MEMORY: u64 = 20480;
 
 /// Before the opening the word i holds 2^64 - 1 - i.
 pub fn before_opening() -> Vec<u64> {
