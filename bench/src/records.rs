@@ -513,7 +513,7 @@ fn merges() -> Vec<Figure> {
             format!("session commit, beside Rattle's own session merge, {points} and {points}"),
             TURNS,
             1,
-            Some(1.25),
+            (points == 128).then_some(1.25),
             ("rattle_session_merge", "rattle_session_merge"),
             16 * 1028,
             move |commit, left, turns| unsafe {
