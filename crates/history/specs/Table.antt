@@ -99,7 +99,7 @@ pub record Table : Type 0 where
   -- F-2: "bit-equal": 0.0 and −0.0 are not
   pub idle-zero : answersAfter (new 3) 2 newHist zero-calls ≡ gives tt ∷ gives tt ∷ gives tt ∷ gives tt ∷ gives tt ∷ refuses 10 ∷ []
   -- F-3: ask "how many points a merge will give": a point on itself is one
-  pub ask-count : askOf one one f0 .said ≡ gives 1
+  pub ask-count : askOf one one t0 .said ≡ gives 1
   -- F-3: "It refuses with 14, after 11 and before 10, a commit whose session envelope differs by a bit from the ticket's first."
   pub commit : answersAfter (new 3) 1 newHist commit-calls ≡ gives tt ∷ refuses 14 ∷ refuses 14 ∷ gives tt ∷ refuses 3 ∷ gives tt ∷ []
   -- "P14 square root of 2: 3FB504F3."

@@ -39,7 +39,7 @@ othersValid (alone edit) = true
 othersValid (joined join other) = validEnvelope other
 othersValid (committed ticket) = validEnvelope (ticket .first) && validEnvelope (ticket .second)
 
--- 14 is for "a commit whose session envelope differs by a bit from the ticket's first", of which e is the one
+-- 14 is for "a commit whose session envelope differs by a bit from the ticket's first", where e is the session's
 abbrev pub fitsTicket : Entry → AutomationEnvelope → Bool
 fitsTicket (alone edit) e = true
 fitsTicket (joined join other) e = true
