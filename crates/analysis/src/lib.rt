@@ -1,4 +1,6 @@
 // Ranges, slope, peaks and valleys, over an envelope's points, switch and limits. Source: envelope.rs (000).
+#![tactic(auto)]
+
 ghost use Rattle.std.specs.Prelude.{◌≡◌, true, ◌+◌, ◌*◌, ◌/◌, ◌<◌, ◌≤◌, max, ltb, length, drop};
 ghost use mathlib.Core.List.{map, foldl, ◌++◌};
 ghost use Rattle.points.specs.Point.{time_of};
@@ -15,7 +17,7 @@ use points::refusal::Refusal;
 use points::{AutomationPoint, Points};
 
 // 000's Option<(f32, f32)>: the least and the greatest.
-#[derive(Drop)]
+#[derive(Clone, Copy)]
 pub enum Range {
     None,
     Pair(f32, f32),
@@ -23,14 +25,14 @@ pub enum Range {
 }
 
 // How many places of the two lists were filled.
-#[derive(Drop)]
+#[derive(Clone, Copy)]
 pub enum Found {
     Count(usize),
     Refused(Refusal),
 }
 
 // The least and the greatest value so far.
-#[derive(Drop)]
+#[derive(Clone, Copy)]
 struct Bounds {
     low: f32,
     high: f32,
@@ -382,7 +384,7 @@ fn find_middles(
     times: &mut [f64],
     values: &mut [f32],
 ) -> Found
-    ensures result_value { found_told result ≡ (find_middles (middle_test valley) points limits times.old values.old).said }
+    ensures answer { found_told result ≡ (find_middles (middle_test valley) points limits times.old values.old).said }
     ensures times_after { times.new ≡ (find_middles (middle_test valley) points limits times.old values.old).times }
     ensures values_after { values.new ≡ (find_middles (middle_test valley) points limits times.old values.old).values }
 {
@@ -401,7 +403,7 @@ fn find_middles(
 
 // 000's find_peaks: times and values from the start of the two lists.
 pub fn find_peaks(points: Points, limits: Limits, times: &mut [f64], values: &mut [f32]) -> Found
-    ensures result_value { found_told result ≡ (find_middles is_peak points limits times.old values.old).said }
+    ensures answer { found_told result ≡ (find_middles is_peak points limits times.old values.old).said }
     ensures times_after { times.new ≡ (find_middles is_peak points limits times.old values.old).times }
     ensures values_after { values.new ≡ (find_middles is_peak points limits times.old values.old).values }
 {
@@ -410,7 +412,7 @@ pub fn find_peaks(points: Points, limits: Limits, times: &mut [f64], values: &mu
 
 // 000's find_valleys.
 pub fn find_valleys(points: Points, limits: Limits, times: &mut [f64], values: &mut [f32]) -> Found
-    ensures result_value { found_told result ≡ (find_middles is_valley points limits times.old values.old).said }
+    ensures answer { found_told result ≡ (find_middles is_valley points limits times.old values.old).said }
     ensures times_after { times.new ≡ (find_middles is_valley points limits times.old values.old).times }
     ensures values_after { values.new ≡ (find_middles is_valley points limits times.old values.old).values }
 {

@@ -1,4 +1,6 @@
 // Merge, asked first: 02's F-3. How many points a merge will give, and a ticket of what was asked.
+#![tactic(auto)]
+
 ghost use Rattle.std.specs.Prelude.{◌≡◌};
 ghost use Rattle.points.specs.Refusal.{said};
 ghost use Rattle.ask.specs.Ask.{told_count, count_if, told_ask, ask_of};
@@ -7,7 +9,7 @@ use envelope::AutomationEnvelope;
 use points::refusal::{Answer, Refusal};
 
 // What was asked, bit for bit. It is plain data: one that no ask gave is as good.
-#[derive(Drop)]
+#[derive(Clone, Copy)]
 pub struct Ticket {
     pub first: AutomationEnvelope,
     pub second: AutomationEnvelope,
@@ -15,13 +17,13 @@ pub struct Ticket {
 }
 
 // How many points a merge will give, or its refusal.
-#[derive(Drop)]
+#[derive(Clone, Copy)]
 pub enum MergeCount {
     Is(usize),
     Refused(Refusal),
 }
 
-#[derive(Drop)]
+#[derive(Clone, Copy)]
 pub struct Asked {
     pub answer: MergeCount,
     pub ticket: Ticket,

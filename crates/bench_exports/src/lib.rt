@@ -1,4 +1,6 @@
 // What bench/ measures, as C functions on numbers and slices. Those here pass their arguments on; those of the modules repeat a call on an envelope. A tool, on which no caller stands: the latter are proved safe and ending, and state no result.
+#![tactic(auto)]
+
 ghost use Rattle.std.specs.Prelude.{◌≡◌, pos, from_bits};
 ghost use Rattle.std.specs.Float.{binary32, binary64};
 ghost use Rattle.std.specs.Float.Ieee.{of_int, to_unsigned};

@@ -1,4 +1,6 @@
 // The six combinations of two envelopes, over each one's points, switch and limits. Source: envelope.rs (000), `combine` and its uses.
+#![tactic(auto)]
+
 ghost use Rattle.std.specs.Prelude.{◌≡◌, true, ◌≤◌};
 ghost use Rattle.points.specs.Points.{valid_points};
 ghost use Rattle.combine.specs.Combine.{finite_operation, applied, valid_side, combined_points};
@@ -12,7 +14,7 @@ use points::{AutomationPoint, Points};
 use settle::EditedPoints;
 
 // 000's closures, by name.
-#[derive(Drop)]
+#[derive(Clone, Copy)]
 pub enum Operation {
     Blend(f32),
     Add,
@@ -23,7 +25,7 @@ pub enum Operation {
 }
 
 // What a combination takes of an envelope.
-#[derive(Drop)]
+#[derive(Clone, Copy)]
 pub struct Side {
     pub points: Points,
     pub enabled: bool,
@@ -31,7 +33,7 @@ pub struct Side {
 }
 
 // The first point and the last of a side, and what its lookups need besides.
-#[derive(Drop)]
+#[derive(Clone, Copy)]
 struct Ends {
     count: usize,
     first: AutomationPoint,
@@ -41,7 +43,7 @@ struct Ends {
 }
 
 // The next time of the walk, and the places after it.
-#[derive(Drop)]
+#[derive(Clone, Copy)]
 struct Next {
     time: f64,
     i: usize,
@@ -49,7 +51,7 @@ struct Next {
 }
 
 // What the walk gives: whether every value is finite, how many times there are, and the first 256 points.
-#[derive(Drop)]
+#[derive(Clone, Copy)]
 struct Walked {
     ok: bool,
     total: usize,

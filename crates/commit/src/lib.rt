@@ -1,4 +1,6 @@
 // The commit of a merge that was asked first: 02's F-3. The ticket is plain data, and none of it is trusted.
+#![tactic(auto)]
+
 ghost use Rattle.std.specs.Prelude.{◌≡◌, false, ◌&&◌};
 ghost use Rattle.envelope.specs.Envelope.{valid_envelope};
 ghost use Rattle.equal.specs.Equal.{bit_equal};

@@ -1,9 +1,11 @@
 // Source 001: the curves between two points.
+#![tactic(auto)]
+
 ghost use Rattle.std.specs.Prelude.{◌≡◌};
 ghost use Rattle.curve.specs.Curve.{clamped, cubic_bezier, in_out, quad_in_out, stepped, bounced, eased, interpolated, code, is_linear, controls, curve_of, finite_controls, same_curve};
 ghost use Rattle.curve.specs.declared.CurveType.TheVariants.{CubicInOut, QuartInOut, QuintInOut};
 
-#[derive(Drop)]
+#[derive(Clone, Copy)]
 pub enum CurveType {
     Linear,
     Exponential,
@@ -29,7 +31,7 @@ pub enum CurveType {
 }
 
 // The control numbers of a Bezier curve; 0.0 for the others.
-#[derive(Drop)]
+#[derive(Clone, Copy)]
 pub struct Controls {
     pub cp1: f32,
     pub cp2: f32,

@@ -40,7 +40,7 @@ impl AutomationEnvelope {
 
     // The times and the values of the peaks, from the start of each list.
     pub fn find_peaks(self, times: &mut [f64], values: &mut [f32]) -> Found
-        ensures result_value { found_told result ≡ (find_middles_of is_peak self times.old values.old).said }
+        ensures answer { found_told result ≡ (find_middles_of is_peak self times.old values.old).said }
         ensures times_after { times.new ≡ (find_middles_of is_peak self times.old values.old).times }
         ensures values_after { values.new ≡ (find_middles_of is_peak self times.old values.old).values }
     {
@@ -49,7 +49,7 @@ impl AutomationEnvelope {
     }
 
     pub fn find_valleys(self, times: &mut [f64], values: &mut [f32]) -> Found
-        ensures result_value { found_told result ≡ (find_middles_of is_valley self times.old values.old).said }
+        ensures answer { found_told result ≡ (find_middles_of is_valley self times.old values.old).said }
         ensures times_after { times.new ≡ (find_middles_of is_valley self times.old values.old).times }
         ensures values_after { values.new ≡ (find_middles_of is_valley self times.old values.old).values }
     {

@@ -14,7 +14,7 @@ use points::{AutomationPoint, Points};
 use settle::EditedPoints;
 
 // The edits of the points.
-#[derive(Drop)]
+#[derive(Clone, Copy)]
 pub enum PointsEdit {
     AddPoint(AutomationPoint),
     RemovePointAt(f64),
@@ -37,7 +37,7 @@ pub enum PointsEdit {
 }
 
 // 000's constructors, given the target the envelope has.
-#[derive(Drop)]
+#[derive(Clone, Copy)]
 pub enum Replacement {
     FadeIn(f64, CurveType),
     FadeOut(f64, CurveType),
@@ -45,7 +45,7 @@ pub enum Replacement {
     Ramp(f64, f32, f32, CurveType),
 }
 
-#[derive(Drop)]
+#[derive(Clone, Copy)]
 pub enum Edit {
     OfPoints(PointsEdit),
     Replace(Replacement),
@@ -57,7 +57,7 @@ pub enum Edit {
 }
 
 // The edits that take a second envelope.
-#[derive(Drop)]
+#[derive(Clone, Copy)]
 pub enum Join {
     Merge(f64),
     Combine(Operation),

@@ -1,4 +1,6 @@
 // The automation envelope: the record and its methods. Source: envelope.rs (000).
+#![tactic(auto)]
+
 ghost use Rattle.std.specs.Prelude.{◌≡◌, true, false};
 ghost use Rattle.points.specs.Refusal.{compared};
 ghost use Rattle.envelope.specs.Envelope.{new, limits_of, valid_envelope, same_limit, same_settings, envelopes_equal};
@@ -12,7 +14,7 @@ use limits::{Limit, Limits};
 use points::Points;
 use points::refusal::{Answer, Compared, Refusal};
 
-#[derive(Drop)]
+#[derive(Clone, Copy)]
 pub struct AutomationEnvelope {
     pub target: u32,
     // sorted by time
@@ -26,7 +28,7 @@ pub struct AutomationEnvelope {
 }
 
 // What an edit gives: the changed envelope, or the old one with its refusal.
-#[derive(Drop)]
+#[derive(Clone, Copy)]
 pub struct Edited {
     pub answer: Answer,
     pub envelope: AutomationEnvelope,

@@ -25,7 +25,7 @@ impl AutomationEnvelope {
 
     // `count` samples from `first` on, written into `out` from `place` on.
     pub fn render(self, rate: f64, first: u64, count: u64, out: &mut [f32], place: usize) -> Answer
-        ensures result_value { said result ≡ (render_of self rate first count place out.old).said }
+        ensures answer { said result ≡ (render_of self rate first count place out.old).said }
         ensures out_after { out.new ≡ (render_of self rate first count place out.old).buffer }
     {
         let points = self.points;
@@ -43,7 +43,7 @@ impl AutomationEnvelope {
 
     // The samples from 0 on, as many as the duration times the rate.
     pub fn to_buffer(self, rate: f64, duration: f64, out: &mut [f32], place: usize) -> Answer
-        ensures result_value { said result ≡ (to_buffer_of self rate duration place out.old).said }
+        ensures answer { said result ≡ (to_buffer_of self rate duration place out.old).said }
         ensures out_after { out.new ≡ (to_buffer_of self rate duration place out.old).buffer }
     {
         let points = self.points;

@@ -1,4 +1,6 @@
 // Whether two envelopes are bit-equal, settings and count included: 02's F-2. 000's `eq_exact` is another comparison.
+#![tactic(auto)]
+
 ghost use Rattle.std.specs.Prelude.{◌≡◌};
 ghost use Rattle.std.specs.Float.{binary32, binary64};
 ghost use Rattle.points.specs.Points.{list_of, every_pair};

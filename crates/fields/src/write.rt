@@ -18,8 +18,8 @@ fn digit_byte(d: u64) -> u8
 
 // A number in so many digits, and the byte `end`.
 fn put_number(out: &mut [u8], at: usize, v: u64, base: u64, width: usize, end: u8) -> usize
-    requires base_nonzero { (0 < base) × (base ≤ 16) }
-    requires v_in_bounds { at + length (number_text base width end v) ≤ length out.old }
+    requires known_base { (0 < base) × (base ≤ 16) }
+    requires room { at + length (number_text base width end v) ≤ length out.old }
     ensures { Put out.old at (number_text base width end v) out.new result }
 {
     out[at + width] = end;

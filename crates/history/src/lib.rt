@@ -1,1 +1,2 @@
 // The history theorem: specs/ and proofs/ alone.
+#![tactic(auto)]

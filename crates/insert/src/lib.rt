@@ -1,4 +1,6 @@
 // The edits of 000 that put points in. Source: envelope.rs (000).
+#![tactic(auto)]
+
 ghost use Rattle.std.specs.Prelude.{◌≡◌, true, ◌&&◌, [], ◌∷◌};
 ghost use Rattle.numbers.specs.Bounds.{finite};
 ghost use Rattle.curve.specs.Curve.{finite_controls};
@@ -15,7 +17,7 @@ use points::{AutomationPoint, Points};
 use pointwise::{Change, map_points};
 use settle::{EditedPoints, refuse};
 
-#[derive(Drop)]
+#[derive(Clone, Copy)]
 struct Inserted {
     // whether there was a place for each
     fits: bool,

@@ -1,5 +1,7 @@
 // Merge, with the other points as a lent list. `merge_points` is the one function over a lent slice of points: it takes each out of the list and hands it to
 // `merge_step`, which calls `add_point`. The state of the fold is a struct by value, so the three functions that it calls are covered.
+#![tactic(auto)]
+
 ghost use Rattle.std.specs.Prelude.{◌≡◌};
 ghost use Rattle.envelope.specs.Edit.{told_edit};
 ghost use Rattle.lent.specs.Merge.{is_accepted, merge_start, merge_step, merge_end, merge_list_of};
@@ -9,7 +11,7 @@ use points::refusal::{Answer, Refusal};
 use points::{AutomationPoint, Points};
 use settle::EditedPoints;
 
-#[derive(Drop)]
+#[derive(Clone, Copy)]
 struct Merging {
     before: AutomationEnvelope,
     offset: f64,

@@ -1,16 +1,18 @@
 // The limits of an envelope's values: a minimum, a maximum and a step, each a number or none, and whether the bounds hold after the
 // step. Source: envelope.rs (000) and 02's F-1.
+#![tactic(auto)]
+
 ghost use Rattle.std.specs.Prelude.{◌≡◌};
 ghost use Rattle.limits.specs.Limits.{finite_limit, finite_limits, at_least, at_most, bounded, constrained};
 
 // 000's Option<f32>: a minimum, a maximum or a step.
-#[derive(Drop)]
+#[derive(Clone, Copy)]
 pub enum Limit {
     None,
     Number(f32),
 }
 
-#[derive(Drop)]
+#[derive(Clone, Copy)]
 pub struct Limits {
     pub min_value: Limit,
     pub max_value: Limit,

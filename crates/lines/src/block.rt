@@ -8,31 +8,31 @@ use crate::field::Number;
 use points::refusal::Refusal;
 
 // The block's numbers as they stand.
-#[derive(Drop)]
+#[derive(Clone, Copy)]
 pub struct RawBlock {
     pub rate: u64,
     pub duration: u64,
 }
 
-#[derive(Drop)]
+#[derive(Clone, Copy)]
 pub struct Block {
     pub rate: f64,
     pub duration: f64,
 }
 
-#[derive(Drop)]
+#[derive(Clone, Copy)]
 pub enum BlockForm {
     Bad,
     Is(RawBlock, usize),
 }
 
-#[derive(Drop)]
+#[derive(Clone, Copy)]
 pub enum BlockSaid {
     Refused(Refusal),
     Is(Block),
 }
 
-#[derive(Drop)]
+#[derive(Clone, Copy)]
 pub enum BlockLine {
     Refused(Refusal),
     Is(Block, usize),
@@ -40,8 +40,8 @@ pub enum BlockLine {
 
 fn block_form(t: &[u8; 256], s: &[u8], at: usize) -> BlockForm
     requires { DigitTable t.now }
-    ensures result_value { told_block_form s.now result ≡ block_form (drop at s.now) }
-    ensures result_in_bounds { block_form_end result ≤ length s.now }
+    ensures answer { told_block_form s.now result ≡ block_form (drop at s.now) }
+    ensures within { block_form_end result ≤ length s.now }
 {
     let Number::Is(rate, at2) = crate::field::number_at(t, s, at, 16, 16, b' ') else {
         return BlockForm::Bad;
@@ -69,8 +69,8 @@ fn block_of(r: RawBlock) -> BlockSaid
 
 // The line at the place: its form, then its meaning.
 pub fn block_line(s: &[u8], at: usize) -> BlockLine
-    ensures result_value { told_block_line s.now result ≡ block_line (drop at s.now) }
-    ensures result_in_bounds { block_end result ≤ length s.now }
+    ensures answer { told_block_line s.now result ≡ block_line (drop at s.now) }
+    ensures within { block_end result ≤ length s.now }
 {
     let t = fields::digits::table();
     let BlockForm::Is(raw, next) = block_form(&t, s, at) else {

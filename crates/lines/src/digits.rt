@@ -17,8 +17,8 @@ pub(crate) fn digit_of(t: &[u8; 256], b: u8) -> u64
 
 // `width` digits of a base from the place on.
 pub(crate) fn digits_at(t: &[u8; 256], s: &[u8], at: usize, base: u64, width: usize) -> Number
-    requires digit_table { DigitTable t.now }
-    requires width_nonzero { (0 < width) × (base ^ width ≤ 2 ^ 64) }
+    requires digits { DigitTable t.now }
+    requires width_fits { (0 < width) × (base ^ width ≤ 2 ^ 64) }
     ensures { told_number s.now result ≡ read_digits base width 0 (drop at s.now) }
 {
     if s.len() < width {

@@ -6,19 +6,19 @@ ghost use Rattle.lines.specs.Told.{told_number, told_single, told_optional, numb
 
 use fields::Optional;
 
-#[derive(Drop)]
+#[derive(Clone, Copy)]
 pub enum Number {
     Bad,
     Is(u64, usize),
 }
 
-#[derive(Drop)]
+#[derive(Clone, Copy)]
 pub enum Single {
     Bad,
     Is(u32, usize),
 }
 
-#[derive(Drop)]
+#[derive(Clone, Copy)]
 pub enum OptionalAt {
     Bad,
     Is(Optional, usize),
@@ -33,10 +33,10 @@ pub(crate) fn number_at(
     width: usize,
     end: u8,
 ) -> Number
-    requires digit_table { DigitTable t.now }
-    requires width_nonzero { (0 < width) × (base ^ width ≤ 2 ^ 64) }
-    ensures result_value { told_number s.now result ≡ number_form base width end (drop at s.now) }
-    ensures result_in_bounds { number_end result ≤ length s.now }
+    requires digits { DigitTable t.now }
+    requires width_fits { (0 < width) × (base ^ width ≤ 2 ^ 64) }
+    ensures answer { told_number s.now result ≡ number_form base width end (drop at s.now) }
+    ensures within { number_end result ≤ length s.now }
 {
     let Number::Is(v, next) = crate::digits::digits_at(t, s, at, base, width) else {
         return Number::Bad;
@@ -57,10 +57,10 @@ pub(crate) fn single_at(
     width: usize,
     end: u8,
 ) -> Single
-    requires digit_table { DigitTable t.now }
-    requires width_nonzero { (0 < width) × (base ^ width ≤ 2 ^ 32) }
-    ensures result_value { told_single s.now result ≡ number_form base width end (drop at s.now) }
-    ensures result_in_bounds { single_end result ≤ length s.now }
+    requires digits { DigitTable t.now }
+    requires width_fits { (0 < width) × (base ^ width ≤ 2 ^ 32) }
+    ensures answer { told_single s.now result ≡ number_form base width end (drop at s.now) }
+    ensures within { single_end result ≤ length s.now }
 {
     match number_at(t, s, at, base, width, end) {
         Number::Is(v, next) => Single::Is(v as u32, next),
@@ -70,10 +70,10 @@ pub(crate) fn single_at(
 
 // A number in hexadecimal, or '-' for none.
 pub(crate) fn optional_at(t: &[u8; 256], s: &[u8], at: usize, width: usize, end: u8) -> OptionalAt
-    requires digit_table { DigitTable t.now }
-    requires width_nonzero { (0 < width) × (width ≤ 16) }
-    ensures result_value { told_optional s.now result ≡ optional_form width end (drop at s.now) }
-    ensures result_in_bounds { optional_end result ≤ length s.now }
+    requires digits { DigitTable t.now }
+    requires width_fits { (0 < width) × (width ≤ 16) }
+    ensures answer { told_optional s.now result ≡ optional_form width end (drop at s.now) }
+    ensures within { optional_end result ≤ length s.now }
 {
     if fields::bytes::next_is(s, at, b'-') {
         let next = at + 1;

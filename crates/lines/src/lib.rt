@@ -1,4 +1,6 @@
 // The lines of a sheet and of the program's input, read.
+#![tactic(auto)]
+
 pub mod block;
 mod digits;
 mod field;

@@ -10,14 +10,14 @@ use fields::Optional;
 use points::refusal::Refusal;
 use points::{AutomationPoint, SamplePosition};
 
-#[derive(Drop)]
+#[derive(Clone, Copy)]
 pub enum ControlsAt {
     Bad,
     Is(u32, u32, usize),
 }
 
 // The line's numbers as they stand; a plain curve's controls are 0.
-#[derive(Drop)]
+#[derive(Clone, Copy)]
 pub struct RawPoint {
     pub time: u64,
     pub position: Optional,
@@ -27,19 +27,19 @@ pub struct RawPoint {
     pub cp2: u32,
 }
 
-#[derive(Drop)]
+#[derive(Clone, Copy)]
 pub enum PointForm {
     Bad,
     Is(RawPoint, usize),
 }
 
-#[derive(Drop)]
+#[derive(Clone, Copy)]
 pub enum PointSaid {
     Refused(Refusal),
     Is(AutomationPoint),
 }
 
-#[derive(Drop)]
+#[derive(Clone, Copy)]
 pub enum PointLine {
     Refused(Refusal),
     Is(AutomationPoint, usize),

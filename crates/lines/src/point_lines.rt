@@ -10,7 +10,7 @@ use points::Points;
 use points::refusal::{Answer, Refusal};
 
 // The points of the lines, and the place after them; beside a refusal its line, no points and 0.
-#[derive(Drop)]
+#[derive(Clone, Copy)]
 pub struct PointLines {
     pub answer: Answer,
     pub line: u32,
@@ -55,8 +55,8 @@ fn after_last(s: &[u8], at: usize, program: bool) -> Refusal
 }
 
 fn no_points(refusal: Refusal, line: u32) -> PointLines
-    ensures by_index { (s : List ℕ) → told_point_lines s result ≡ stop (number refusal) line }
-    ensures by_index_2 { (s : List ℕ) → result ≡ point_lines_held s result.answer (stop (number refusal) line) }
+    ensures answer { (s : List ℕ) → told_point_lines s result ≡ stop (number refusal) line }
+    ensures held { (s : List ℕ) → result ≡ point_lines_held s result.answer (stop (number refusal) line) }
 {
     let points = points::list::none();
     PointLines {
@@ -77,8 +77,8 @@ fn place_within(s: &[u8], at: usize) -> usize
 // The point lines from the place on, through the table.
 fn lines_from(t: &[u8; 256], s: &[u8], start: usize, program: bool) -> PointLines
     requires { DigitTable t.now }
-    ensures result_value { told_point_lines s.now result ≡ point_lines program 256 [] (drop start s.now) }
-    ensures value { result ≡ point_lines_held s.now result.answer (point_lines program 256 [] (drop start s.now)) }
+    ensures answer { told_point_lines s.now result ≡ point_lines program 256 [] (drop start s.now) }
+    ensures held { result ≡ point_lines_held s.now result.answer (point_lines program 256 [] (drop start s.now)) }
 {
     let unused = points::point::unused();
     let mut places = [unused; 256];
@@ -116,8 +116,8 @@ fn lines_from(t: &[u8; 256], s: &[u8], start: usize, program: bool) -> PointLine
 
 // The point lines from the place on.
 pub fn point_lines(s: &[u8], start: usize, program: bool) -> PointLines
-    ensures result_value { told_point_lines s.now result ≡ point_lines program 256 [] (drop start s.now) }
-    ensures value { result ≡ point_lines_held s.now result.answer (point_lines program 256 [] (drop start s.now)) }
+    ensures answer { told_point_lines s.now result ≡ point_lines program 256 [] (drop start s.now) }
+    ensures held { result ≡ point_lines_held s.now result.answer (point_lines program 256 [] (drop start s.now)) }
 {
     let t = fields::digits::table();
     lines_from(&t, s, start, program)

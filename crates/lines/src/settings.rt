@@ -10,7 +10,7 @@ use limits::Limit;
 use points::refusal::Refusal;
 
 // The line's numbers as they stand.
-#[derive(Drop)]
+#[derive(Clone, Copy)]
 pub struct RawSettings {
     pub target: u32,
     pub enabled: u32,
@@ -20,13 +20,13 @@ pub struct RawSettings {
     pub hard: u32,
 }
 
-#[derive(Drop)]
+#[derive(Clone, Copy)]
 pub enum SettingsForm {
     Bad,
     Is(RawSettings, usize),
 }
 
-#[derive(Drop)]
+#[derive(Clone, Copy)]
 pub struct Settings {
     pub target: u32,
     pub enabled: bool,
@@ -36,13 +36,13 @@ pub struct Settings {
     pub hard: bool,
 }
 
-#[derive(Drop)]
+#[derive(Clone, Copy)]
 pub enum SettingsSaid {
     Refused(Refusal),
     Is(Settings),
 }
 
-#[derive(Drop)]
+#[derive(Clone, Copy)]
 pub enum SettingsLine {
     Refused(Refusal),
     Is(Settings, usize),
@@ -50,8 +50,8 @@ pub enum SettingsLine {
 
 fn settings_form(t: &[u8; 256], s: &[u8], at: usize) -> SettingsForm
     requires { DigitTable t.now }
-    ensures result_value { told_settings_form s.now result ≡ settings_form (drop at s.now) }
-    ensures result_in_bounds { settings_form_end result ≤ length s.now }
+    ensures answer { told_settings_form s.now result ≡ settings_form (drop at s.now) }
+    ensures within { settings_form_end result ≤ length s.now }
 {
     let Single::Is(target, at2) = crate::field::target_at(t, s, at) else {
         return SettingsForm::Bad;
@@ -137,8 +137,8 @@ fn settings_of(r: RawSettings) -> SettingsSaid
 
 // The line at the place: its form, then its meaning.
 pub fn settings_line(s: &[u8], at: usize) -> SettingsLine
-    ensures result_value { told_settings_line s.now result ≡ settings_line (drop at s.now) }
-    ensures result_in_bounds { settings_end result ≤ length s.now }
+    ensures answer { told_settings_line s.now result ≡ settings_line (drop at s.now) }
+    ensures within { settings_end result ≤ length s.now }
 {
     let t = fields::digits::table();
     let SettingsForm::Is(raw, next) = settings_form(&t, s, at) else {

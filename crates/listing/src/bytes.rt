@@ -5,14 +5,14 @@ ghost use Rattle.listing.specs.Places.{After, AtMost};
 use crate::text::digit;
 
 // A byte, and the place after it.
-#[derive(Drop)]
+#[derive(Clone, Copy)]
 pub enum Byte {
     Bad,
     Is(u8, usize),
 }
 
 // How many bytes were put.
-#[derive(Drop)]
+#[derive(Clone, Copy)]
 pub enum Bytes {
     Bad,
     Are(usize),

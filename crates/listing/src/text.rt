@@ -4,45 +4,45 @@ ghost use Rattle.std.specs.Prelude.{◌≡◌, true, ◌≤◌, ◌^◌, min, le
 ghost use Rattle.listing.specs.Fields.{Within, Below};
 
 // The place after what was looked for.
-#[derive(Drop)]
+#[derive(Clone, Copy)]
 pub enum Place {
     Nowhere,
     At(usize),
 }
 
 // A number, and the place after it.
-#[derive(Drop)]
+#[derive(Clone, Copy)]
 pub enum Word {
     Bad,
     Is(u64, usize),
 }
 
-#[derive(Drop)]
+#[derive(Clone, Copy)]
 pub enum Single {
     Bad,
     Is(f32, usize),
 }
 
-#[derive(Drop)]
+#[derive(Clone, Copy)]
 pub enum Double {
     Bad,
     Is(f64, usize),
 }
 
-#[derive(Drop)]
+#[derive(Clone, Copy)]
 pub enum Doubles {
     Bad,
     Are(f64, f64, usize),
 }
 
-#[derive(Drop)]
+#[derive(Clone, Copy)]
 pub enum Singles {
     Bad,
     Are(f32, f32, usize),
 }
 
 // What a line comes to: our answer is the line's, or another, or the call is none that we have.
-#[derive(Drop)]
+#[derive(Clone, Copy)]
 pub enum Outcome {
     Same,
     Differs,
@@ -87,7 +87,7 @@ pub fn after(s: &[u8], at: usize, w: &[u8]) -> Place
 }
 
 // A name in the line, from a place up to another.
-#[derive(Drop)]
+#[derive(Clone, Copy)]
 pub struct Name {
     pub from: usize,
     pub to: usize,

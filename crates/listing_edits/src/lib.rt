@@ -1,6 +1,8 @@
 // The edits in a line: a name, and arguments by its shape. D is an f64, F an f32, C a curve, P a
 // point, B a switch, O a limit. A library of the tool `vectors`: its functions are proved safe and
 // ending, and state no result.
+#![tactic(auto)]
+
 use combine::Operation;
 use envelope::edit::{Edit, Join, PointsEdit, Replacement};
 use listing::text::{
@@ -10,14 +12,14 @@ use listing_numbers::curves::{Curve, curve_at};
 use listing_points::records::{LimitField, PointField, SwitchField, limit_at, point_at, switch_at};
 
 // An edit and the place after its arguments; none where the name has another shape.
-#[derive(Drop)]
+#[derive(Clone, Copy)]
 pub enum EditField {
     None,
     Is(Edit, usize),
 }
 
 // The same of an edit with a second envelope.
-#[derive(Drop)]
+#[derive(Clone, Copy)]
 pub enum JoinField {
     None,
     Is(Join, usize),

@@ -8,21 +8,21 @@ use listing::text::{
 use listing_points::buffers::{answers_buffer, marked};
 
 // The stated place of a buffer, and the buffer's length.
-#[derive(Drop)]
+#[derive(Clone, Copy)]
 enum Lent {
     Bad,
     At(usize, usize, usize),
 }
 
 // A run's rate, first sample and count, its place and the buffer's length.
-#[derive(Drop)]
+#[derive(Clone, Copy)]
 pub enum RunField {
     Bad,
     Is(f64, u64, u64, usize, usize, usize),
 }
 
 // The rate and duration of `to_buffer`, its place and the buffer's length.
-#[derive(Drop)]
+#[derive(Clone, Copy)]
 pub enum WholeField {
     Bad,
     Is(f64, f64, usize, usize, usize),

@@ -7,13 +7,13 @@ use listing_points::records::{
 };
 
 // An envelope, and the place after it; nowhere where the line has none that can be read.
-#[derive(Drop)]
+#[derive(Clone, Copy)]
 pub struct EnvelopeField {
     pub envelope: AutomationEnvelope,
     pub end: Place,
 }
 
-#[derive(Drop)]
+#[derive(Clone, Copy)]
 pub struct EnvelopePair {
     pub first: AutomationEnvelope,
     pub second: AutomationEnvelope,

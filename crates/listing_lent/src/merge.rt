@@ -11,7 +11,7 @@ use listing_points::records::{PointField, point_at};
 use points::AutomationPoint;
 
 // Points, more than a valid envelope has, and the place after them.
-#[derive(Drop)]
+#[derive(Clone, Copy)]
 struct ListField {
     list: [AutomationPoint; 320],
     end: Place,

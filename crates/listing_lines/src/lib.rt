@@ -7,6 +7,8 @@
 //
 // A `##` ends a part of the list: the counts start anew after it, the lines' numbers go on. Lines are
 // numbered from 1, comments and empty ones included.
+#![tactic(auto)]
+
 mod reader;
 mod report;
 

@@ -10,7 +10,7 @@ use std::num::wrapping_add_u64;
 // A list that is being read. The buffer's first `full` bytes are the list's, and the next line begins
 // at `at`. `cut` is set while the rest of a line goes by that is longer than the buffer. `number` is
 // the last line's; `run` and `differ` count the lines of a part.
-#[derive(Drop)]
+#[derive(Clone, Copy)]
 pub struct Reader {
     pub at: usize,
     pub full: usize,
@@ -22,7 +22,7 @@ pub struct Reader {
 }
 
 // The next line to be run, from a place of the buffer up to another, where one was found.
-#[derive(Drop)]
+#[derive(Clone, Copy)]
 pub struct NextLine {
     pub reader: Reader,
     pub found: bool,
@@ -122,7 +122,7 @@ fn to_front(buf: &mut [u8], from: usize, to: usize) -> usize
 }
 
 // After a read: how many bytes the buffer holds, and whether the read failed.
-#[derive(Drop)]
+#[derive(Clone, Copy)]
 struct Read {
     full: usize,
     failed: bool,

@@ -5,7 +5,7 @@ use listing::text::{
 };
 
 // A curve, and the place after it.
-#[derive(Drop)]
+#[derive(Clone, Copy)]
 pub enum Curve {
     Bad,
     Is(CurveType, usize),

@@ -12,51 +12,51 @@ use points::{AutomationPoint, Points, SamplePosition};
 
 // ---- reading
 
-#[derive(Drop)]
+#[derive(Clone, Copy)]
 enum PositionField {
     Bad,
     Is(SamplePosition, usize),
 }
 
-#[derive(Drop)]
+#[derive(Clone, Copy)]
 pub enum SwitchField {
     Bad,
     Is(bool, usize),
 }
 
-#[derive(Drop)]
+#[derive(Clone, Copy)]
 pub enum LimitField {
     Bad,
     Is(Limit, usize),
 }
 
-#[derive(Drop)]
+#[derive(Clone, Copy)]
 pub enum LimitsField {
     Bad,
     Are(Limits, usize),
 }
 
 // The target and the switch.
-#[derive(Drop)]
+#[derive(Clone, Copy)]
 pub enum HeadField {
     Bad,
     Is(u32, bool, usize),
 }
 
-#[derive(Drop)]
+#[derive(Clone, Copy)]
 pub enum PointField {
     Bad,
     Is(AutomationPoint, usize),
 }
 
-#[derive(Drop)]
+#[derive(Clone, Copy)]
 pub enum PointsPair {
     Bad,
     Are(AutomationPoint, AutomationPoint, usize),
 }
 
 // Points, and the place after them; nowhere where the line has none that can be read.
-#[derive(Drop)]
+#[derive(Clone, Copy)]
 pub struct PointsField {
     pub points: Points,
     pub end: Place,

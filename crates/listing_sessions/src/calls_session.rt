@@ -13,7 +13,7 @@ use points::refusal::Answer;
 use session::{Session, SessionAnswer};
 
 // What a line comes to, and the session after it.
-#[derive(Drop)]
+#[derive(Clone, Copy)]
 pub struct Played {
     pub outcome: Outcome,
     pub session: Session,

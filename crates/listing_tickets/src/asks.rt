@@ -9,7 +9,7 @@ use listing_envelopes::records::two_envelopes_at;
 use listing_points::answers::answers_refusal;
 
 // A ticket, put together of the three that a line has, and the place after them.
-#[derive(Drop)]
+#[derive(Clone, Copy)]
 pub struct TicketField {
     pub ticket: Ticket,
     pub end: Place,

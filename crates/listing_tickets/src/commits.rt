@@ -9,7 +9,7 @@ use session::{Session, SessionAnswer};
 
 // What both commits gave, and the place after the call; nowhere where the line has no ticket, or where the
 // memories that they left differ.
-#[derive(Drop)]
+#[derive(Clone, Copy)]
 pub struct Twice {
     pub asked: SessionAnswer,
     pub made: SessionAnswer,

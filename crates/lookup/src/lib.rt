@@ -1,4 +1,6 @@
 // Lookup by time and by sample, over an envelope's points, switch and limits. Source: envelope.rs (000).
+#![tactic(auto)]
+
 ghost use Rattle.std.specs.Prelude.{◌≡◌};
 ghost use Rattle.lookup.specs.Valid.{valid};
 ghost use Rattle.lookup.specs.Lookup.{constrained_answer};
@@ -12,7 +14,7 @@ pub mod sample;
 pub mod time;
 
 // A lookup's answer.
-#[derive(Drop)]
+#[derive(Clone, Copy)]
 pub enum Lookup {
     Silent,
     Value(f32),

@@ -2,6 +2,8 @@
 // bounds.
 // Each public function is total, and equals a definition over whole numbers: of `specs/`, or of the
 // kit's IEEE 754 library.
+#![tactic(auto)]
+
 pub mod bits;
 pub mod convert;
 pub mod order;

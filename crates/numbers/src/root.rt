@@ -51,8 +51,8 @@ fn root_bits(d: u64, a: u64) -> u64
 
 // The pattern of the root of the `f32` of the pattern b.
 fn sqrt_bits(b: u64) -> u64
-    requires fact_1 { b < 2 ^ 32 }
-    requires fact_2 { T (Ieee.lt (fin false 0 (pos 0)) (Ieee.of_bits binary32 b)) }
+    requires pattern { b < 2 ^ 32 }
+    requires positive { T (Ieee.lt (fin false 0 (pos 0)) (Ieee.of_bits binary32 b)) }
     ensures { result ≡ Ieee.to_bits binary32 (sqrt binary32 (Ieee.of_bits binary32 b)) }
 {
     let e = b / 8388608;

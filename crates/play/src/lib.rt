@@ -1,4 +1,6 @@
 // Playing a sheet: the bytes that the program prints, block after block.
+#![tactic(auto)]
+
 ghost use Rattle.std.specs.Prelude.{◌≡◌, ◌-◌, min};
 ghost use Rattle.points.specs.Refusal.{number};
 ghost use Rattle.sheet.specs.Sheet.{declined, play_input};
@@ -14,7 +16,7 @@ use sheet::write::Written;
 mod text;
 
 // What is left to play: the samples from `next` on, up to `count`.
-#[derive(Drop)]
+#[derive(Clone, Copy)]
 pub struct Play {
     pub envelope: AutomationEnvelope,
     pub rate: f64,
@@ -23,13 +25,13 @@ pub struct Play {
 }
 
 // How many bytes were written, and what is left to play.
-#[derive(Drop)]
+#[derive(Clone, Copy)]
 pub struct Opened {
     pub bytes: usize,
     pub play: Play,
 }
 
-#[derive(Drop)]
+#[derive(Clone, Copy)]
 pub struct Piece {
     pub written: Written,
     pub play: Play,
@@ -94,8 +96,8 @@ fn block_count(count: u64, next: u64) -> u64
 
 // Writes the lines of the next samples, 1024 at most: a line has 20 bytes at most.
 pub fn next_block(play: Play, out: &mut [u8; 20480]) -> Piece
-    ensures written_value { told_written result.written ≡ (next_block play out.old).said }
-    ensures play_value { result.play ≡ (next_block play out.old).play }
+    ensures answer { told_written result.written ≡ (next_block play out.old).said }
+    ensures left { result.play ≡ (next_block play out.old).play }
     ensures out_after { out.new ≡ (next_block play out.old).bytes }
 {
     let envelope = play.envelope;

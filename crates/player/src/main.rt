@@ -1,4 +1,6 @@
 // Reads a sheet and a block of rate and duration from standard input, and prints the samples.
+#![tactic(auto)]
+
 ghost use Rattle.std.specs.Prelude.{◌≡◌, true, ◌<◌, ◌≤◌, length};
 
 use libc::{STDIN_FILENO, STDOUT_FILENO};
@@ -6,7 +8,7 @@ use play::Play;
 use sheet::write::Written;
 
 // Whether to go on, and what is left to play.
-#[derive(Drop)]
+#[derive(Clone, Copy)]
 struct Turn {
     on: bool,
     play: Play,

@@ -8,7 +8,7 @@ use sheet::write::Written;
 use std::num::{wrapping_add_u64, wrapping_add_usize};
 
 // The bytes so far: whether they are those of the line up to a place, how many there are, and their sum.
-#[derive(Drop)]
+#[derive(Clone, Copy)]
 struct Compared {
     same: bool,
     at: usize,
@@ -17,7 +17,7 @@ struct Compared {
 }
 
 // Whether to go on, what is left to play, and what was compared.
-#[derive(Drop)]
+#[derive(Clone, Copy)]
 struct Turn {
     on: bool,
     play: Play,

@@ -1,5 +1,7 @@
 // Plays the inputs of a list: reads lines `input => output` from standard input, plays each input through the functions that the
 // program uses, and reports the lines whose output is not ours, as the library `listing_lines` says.
+#![tactic(auto)]
+
 ghost use Rattle.std.specs.Prelude.{◌≡◌, length};
 
 mod compare;

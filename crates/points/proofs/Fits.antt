@@ -2,7 +2,7 @@
 use Prim.Native.Nat.{ℕ}
 use mathlib.Core.Path.{◌≡◌, refl}
 use mathlib.Core.Bool.{Bool, true}
-use mathlib.Core.List.{List, [], ◌∷◌, map}
+use mathlib.Core.List.{List, [], ◌∷◌}
 use lib.Dec.{T}
 use lib.ListN.{get_or}
 use lib.Ieee.{binary64, fits}
@@ -17,13 +17,13 @@ use Rattle.points.specs.Points.{every, list_of}
 use Rattle.points.proofs.Laws.{every_get_d, every_take}
 use Rattle.points.specs.declared.AutomationPoint.{AutomationPoint}
 use Rattle.points.specs.declared.Points.{Points}
-use Rattle.points.specs.contracts.AutomationPoint.{the_field}
+use Rattle.points.specs.contracts.AutomationPoint.{the_row}
 use Rattle.points.specs.contracts.Points.{the_type}
 
 abbrev pub time_fits : AutomationPoint → Bool
 time_fits p = fits binary64 p.time
 
-each_fits : (xs : List AutomationPoint) (us : List Val) → shadow (each the_field.row.Denot the_field.row.own_val (map the_field.into xs) us) → every time_fits xs ≡ true
+each_fits : (xs : List AutomationPoint) (us : List Val) → shadow (each the_row.Denot the_row.own_val xs us) → every time_fits xs ≡ true
 unfolding every
 each_fits [] us s = refl
 each_fits (x ∷ xs) [] s = absurd s

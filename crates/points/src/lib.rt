@@ -1,4 +1,6 @@
 // The point and the list of points: 256 places and a count, by value. Source: envelope.rs (000).
+#![tactic(auto)]
+
 pub mod list;
 pub mod point;
 pub mod refusal;
@@ -6,13 +8,13 @@ pub mod refusal;
 use curve::CurveType;
 
 // 000's Option<u64>.
-#[derive(Drop)]
+#[derive(Clone, Copy)]
 pub enum SamplePosition {
     None,
     At(u64),
 }
 
-#[derive(Drop)]
+#[derive(Clone, Copy)]
 pub struct AutomationPoint {
     pub time: f64,
     pub sample_position: SamplePosition,
@@ -22,7 +24,7 @@ pub struct AutomationPoint {
 }
 
 // 000's Vec of points.
-#[derive(Drop)]
+#[derive(Clone, Copy)]
 pub struct Points {
     pub count: usize,
     pub places: [AutomationPoint; 256],

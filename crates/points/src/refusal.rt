@@ -2,7 +2,7 @@
 ghost use Rattle.std.specs.Prelude.{◌≡◌};
 ghost use Rattle.points.specs.Refusal.{number};
 
-#[derive(Drop)]
+#[derive(Clone, Copy)]
 pub enum Refusal {
     NotValid,
     SheetCurve,
@@ -21,14 +21,14 @@ pub enum Refusal {
 }
 
 // What a call says that leaves its result elsewhere.
-#[derive(Drop)]
+#[derive(Clone, Copy)]
 pub enum Answer {
     Accepted,
     Refused(Refusal),
 }
 
 // What an equality says.
-#[derive(Drop)]
+#[derive(Clone, Copy)]
 pub enum Compared {
     Is(bool),
     Refused(Refusal),

@@ -1,4 +1,6 @@
 // The edits of 000 that change each point by itself. Source: envelope.rs (000).
+#![tactic(auto)]
+
 ghost use Rattle.std.specs.Prelude.{◌≡◌, ◌&&◌, map};
 ghost use Rattle.numbers.specs.Bounds.{finite, clamped_to};
 ghost use Rattle.curve.specs.Curve.{finite_controls};
@@ -16,7 +18,7 @@ use points::{AutomationPoint, Points};
 use settle::{EditedPoints, finish, refuse};
 
 // What 000's loops do to a point.
-#[derive(Drop)]
+#[derive(Clone, Copy)]
 pub enum Change {
     Shift(f64),
     ScaleTime(f64),
@@ -155,7 +157,7 @@ impl Change {
 }
 
 // The points after a change, and what the tests of them say.
-#[derive(Drop)]
+#[derive(Clone, Copy)]
 struct Tested {
     finite: bool,
     rise: bool,
@@ -266,7 +268,7 @@ pub fn invert_values(points: Points, min: f32, max: f32) -> EditedPoints
 }
 
 // The least and the greatest value.
-#[derive(Drop)]
+#[derive(Clone, Copy)]
 struct ValueRange {
     low: f32,
     high: f32,

@@ -1,4 +1,6 @@
 // Rendering into a lent buffer, and the walk over the samples, over an envelope's points, switch and limits. Source: envelope.rs (000).
+#![tactic(auto)]
+
 ghost use Rattle.std.specs.Prelude.{◌≡◌, true, ◌+◌, ◌<◌, ◌≤◌, length, replicate};
 ghost use Rattle.points.specs.Points.{valid_points};
 ghost use Rattle.points.specs.Refusal.{said};
@@ -17,7 +19,7 @@ use points::{AutomationPoint, Points};
 const MOST_SAMPLES: u64 = 4294967295;
 
 // 000's SampleIterator, without its borrow.
-#[derive(Drop)]
+#[derive(Clone, Copy)]
 pub struct SampleIterator {
     pub sample_rate: f64,
     pub current_sample: u64,
@@ -25,21 +27,21 @@ pub struct SampleIterator {
 }
 
 // What opening a walk says.
-#[derive(Drop)]
+#[derive(Clone, Copy)]
 pub enum Walk {
     Over(SampleIterator),
     Refused(Refusal),
 }
 
 // What a call on a walk says, and the walk it leaves.
-#[derive(Drop)]
+#[derive(Clone, Copy)]
 pub struct SampleStep {
     pub answer: Lookup,
     pub walk: SampleIterator,
 }
 
 // The way from one point to the next.
-#[derive(Drop)]
+#[derive(Clone, Copy)]
 struct Segment {
     from: f64,
     to: f64,
@@ -49,7 +51,7 @@ struct Segment {
 }
 
 // The times of the first point and the last, their values, constrained, and the number for a silent sample.
-#[derive(Drop)]
+#[derive(Clone, Copy)]
 struct Ends {
     first: f64,
     early: f32,
@@ -230,7 +232,7 @@ fn run_into(
     place: usize,
 ) -> Answer
     requires { valid_points points ≡ true }
-    ensures result_value { said result ≡ (run_into (sample_at points enabled limits rate) first count place out.old).said }
+    ensures answer { said result ≡ (run_into (sample_at points enabled limits rate) first count place out.old).said }
     ensures out_after { out.new ≡ (run_into (sample_at points enabled limits rate) first count place out.old).buffer }
 {
     if first > MOST_SAMPLES {
@@ -272,7 +274,7 @@ pub fn render(
     out: &mut [f32],
     place: usize,
 ) -> Answer
-    ensures result_value { said result ≡ (render points enabled limits rate first count place out.old).said }
+    ensures answer { said result ≡ (render points enabled limits rate first count place out.old).said }
     ensures out_after { out.new ≡ (render points enabled limits rate first count place out.old).buffer }
 {
     if lookup::is_valid(points, limits) {
@@ -296,7 +298,7 @@ pub fn to_buffer(
     out: &mut [f32],
     place: usize,
 ) -> Answer
-    ensures result_value { said result ≡ (to_buffer points enabled limits rate duration place out.old).said }
+    ensures answer { said result ≡ (to_buffer points enabled limits rate duration place out.old).said }
     ensures out_after { out.new ≡ (to_buffer points enabled limits rate duration place out.old).buffer }
 {
     if lookup::is_valid(points, limits) {

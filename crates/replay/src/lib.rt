@@ -1,4 +1,6 @@
 // Replays a list of calls on a new session, through the session's own functions: what the history theorem says, said of one function.
+#![tactic(auto)]
+
 ghost use Rattle.std.specs.Prelude.{◌≡◌, true, min};
 ghost use Rattle.points.specs.Refusal.{said};
 ghost use Rattle.session.specs.Calls.{Obeys};
@@ -36,7 +38,7 @@ fn ticket(x: f64, y: f32) -> Ticket
 // One call, given by a number and what an edit of that number takes.
 fn call(session: Session, kind: u8, x: f64, y: f32, memory: &mut [u64]) -> SessionAnswer
     ensures obeys { Obeys session memory.old (call_from kind x y) result memory.new }
-    ensures y_value { typed_call (call_from kind x y) ≡ true }
+    ensures typed { typed_call (call_from kind x y) ≡ true }
 {
     match kind {
         0 => session.back(memory),

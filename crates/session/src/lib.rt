@@ -1,4 +1,6 @@
 // The session: edits of one envelope, with steps back and forward over a lent step memory. docs/STATE.md says where it keeps what.
+#![tactic(auto)]
+
 ghost use Rattle.std.specs.Prelude.{◌≡◌, true, cond, ◌+◌, ◌*◌, ◌/◌, ◌≤◌, ◌<◌, min, length};
 ghost use Rattle.points.specs.Refusal.{said};
 ghost use Rattle.points.specs.declared.refusal.Refusal.TheVariants.{NotValid};
@@ -14,7 +16,7 @@ use envelope::edit::{Edit, Join};
 use envelope::{AutomationEnvelope, Edited};
 use points::refusal::{Answer, Refusal};
 
-#[derive(Drop)]
+#[derive(Clone, Copy)]
 pub struct Session {
     pub envelope: AutomationEnvelope,
     // words lent at opening
@@ -26,7 +28,7 @@ pub struct Session {
 }
 
 // What a call gives: the session after it, or the one it got with its refusal.
-#[derive(Drop)]
+#[derive(Clone, Copy)]
 pub struct SessionAnswer {
     pub answer: Answer,
     pub session: Session,
@@ -178,8 +180,8 @@ impl Session {
 
     // An edit that counts: the envelope before it goes into its slot, if there is one.
     fn count(mut self, made: AutomationEnvelope, memory: &mut [u64]) -> SessionAnswer
-        requires self_value { in_order self ≡ true }
-        requires memory_len { length memory.old ≡ self.length }
+        requires sound { in_order self ≡ true }
+        requires memory_fits { length memory.old ≡ self.length }
         ensures { called result memory.new ≡ counted self memory.old made }
     {
         let depth = self.length / 1028;
@@ -197,8 +199,8 @@ impl Session {
 
     // What an edit's result makes of the session. An accepted one counts if it altered a bit.
     fn settle(mut self, r: Edited, memory: &mut [u64]) -> SessionAnswer
-        requires self_value { in_order self ≡ true }
-        requires memory_len { length memory.old ≡ self.length }
+        requires sound { in_order self ≡ true }
+        requires memory_fits { length memory.old ≡ self.length }
         ensures { called result memory.new ≡ settled self memory.old (said r.answer) r.envelope }
     {
         let answer = r.answer;
@@ -285,8 +287,8 @@ impl Session {
 
     // A step back where 1 and 11 are behind it.
     fn step_back(mut self, memory: &mut [u64]) -> SessionAnswer
-        requires self_value { valid_session self ≡ true }
-        requires memory_len { length memory.old ≡ self.length }
+        requires sound { valid_session self ≡ true }
+        requires memory_fits { length memory.old ≡ self.length }
         ensures { called result memory.new ≡ behind back self memory.old }
     {
         let kept = self.kept;
@@ -300,8 +302,8 @@ impl Session {
 
     // A step forward where 1 and 11 are behind it.
     fn step_forward(mut self, memory: &mut [u64]) -> SessionAnswer
-        requires self_value { valid_session self ≡ true }
-        requires memory_len { length memory.old ≡ self.length }
+        requires sound { valid_session self ≡ true }
+        requires memory_fits { length memory.old ≡ self.length }
         ensures { called result memory.new ≡ behind forward self memory.old }
     {
         let ahead = self.ahead;

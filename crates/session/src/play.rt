@@ -33,7 +33,7 @@ impl Session {
 
     // `count` samples from `first` on, written into `out` from `place` on.
     pub fn render(self, rate: f64, first: u64, count: u64, out: &mut [f32], place: usize) -> Answer
-        ensures result_value { said result ≡ (session_render self rate first count place out.old).said }
+        ensures answer { said result ≡ (session_render self rate first count place out.old).said }
         ensures out_after { out.new ≡ (session_render self rate first count place out.old).buffer }
     {
         if self.in_order() {
@@ -46,7 +46,7 @@ impl Session {
 
     // The samples from 0 on, as many as the duration times the rate.
     pub fn to_buffer(self, rate: f64, duration: f64, out: &mut [f32], place: usize) -> Answer
-        ensures result_value { said result ≡ (session_to_buffer self rate duration place out.old).said }
+        ensures answer { said result ≡ (session_to_buffer self rate duration place out.old).said }
         ensures out_after { out.new ≡ (session_to_buffer self rate duration place out.old).buffer }
     {
         if self.in_order() {

@@ -1,4 +1,6 @@
 // What an edit of the points answers, and the end of those that build their points before the tests: the refusals in 01's order as far as the points decide them, or the new points.
+#![tactic(auto)]
+
 ghost use Rattle.std.specs.Prelude.{◌≡◌};
 ghost use Rattle.points.specs.Points.{list_of, holding};
 ghost use Rattle.settle.specs.Settle.{refused, edit_points};
@@ -7,7 +9,7 @@ ghost use Rattle.settle.specs.Finish.{finished};
 use points::Points;
 use points::refusal::{Answer, Refusal};
 
-#[derive(Drop)]
+#[derive(Clone, Copy)]
 pub struct EditedPoints {
     pub answer: Answer,
     pub points: Points,
@@ -25,8 +27,8 @@ pub fn refuse(points: Points, refusal: Refusal) -> EditedPoints
 // `ok` says that the edit's arguments are finite, and `new` is what it makes of the points. Whoever calls it hands over new points that hold their list.
 // The loop stands in the body: a function of its own for the tests would copy the places.
 pub fn finish(points: Points, ok: bool, new: Points) -> EditedPoints
-    ensures value { result ≡ finished points ok new }
-    ensures value_2 { holding (list_of new) ≡ new → result ≡ edit_points points ok (list_of new) }
+    ensures finished { result ≡ finished points ok new }
+    ensures edit { holding (list_of new) ≡ new → result ≡ edit_points points ok (list_of new) }
 {
     if points.is_valid() {
         if ok {

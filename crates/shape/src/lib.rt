@@ -1,4 +1,6 @@
 // The edits of 000 that change which points there are. Each builds its points anew. Source: envelope.rs (000).
+#![tactic(auto)]
+
 ghost use Rattle.std.specs.Prelude.{◌≡◌, true, ◌&&◌, reverse, take};
 ghost use Rattle.numbers.specs.Bounds.{finite};
 ghost use Rattle.points.specs.Points.{list_of, holding};

@@ -13,7 +13,7 @@ use lines::block::BlockLine;
 use points::refusal::{Answer, Refusal};
 
 // What the program is to play; beside a refusal an empty envelope and zeros.
-#[derive(Drop)]
+#[derive(Clone, Copy)]
 pub struct PlayInput {
     pub answer: SheetAnswer,
     pub envelope: AutomationEnvelope,
@@ -22,8 +22,8 @@ pub struct PlayInput {
 }
 
 fn no_input(refusal: Refusal, line: u32) -> PlayInput
-    ensures result_value { told_input result ≡ declined (number refusal) line }
-    ensures value { result ≡ input_held result.answer (declined (number refusal) line) }
+    ensures answer { told_input result ≡ declined (number refusal) line }
+    ensures held { result ≡ input_held result.answer (declined (number refusal) line) }
 {
     let envelope = AutomationEnvelope::new(0);
     PlayInput {
@@ -37,8 +37,8 @@ fn no_input(refusal: Refusal, line: u32) -> PlayInput
 // The block whose names stand at the place, and the end after it.
 fn block_at(s: &[u8], at: usize, envelope: AutomationEnvelope) -> PlayInput
     requires { (envelope.points.count ≤ 256) × (starts_with block_names (drop at s.now) ≡ true) }
-    ensures result_value { told_input result ≡ last_line envelope (envelope.points.count + 5) (block_line (drop (length block_names) (drop at s.now))) }
-    ensures value { result ≡ input_held result.answer (last_line envelope (envelope.points.count + 5) (block_line (drop (length block_names) (drop at s.now)))) }
+    ensures answer { told_input result ≡ last_line envelope (envelope.points.count + 5) (block_line (drop (length block_names) (drop at s.now))) }
+    ensures held { result ≡ input_held result.answer (last_line envelope (envelope.points.count + 5) (block_line (drop (length block_names) (drop at s.now)))) }
 {
     let points = envelope.points;
     let line = (points.count + 5) as u32;
@@ -61,8 +61,8 @@ fn block_at(s: &[u8], at: usize, envelope: AutomationEnvelope) -> PlayInput
 
 // What the program is to play, or the first refusal with its line.
 pub fn read_play(s: &[u8]) -> PlayInput
-    ensures result_value { told_input result ≡ play_input s.now }
-    ensures value { result ≡ input_held result.answer (play_input s.now) }
+    ensures answer { told_input result ≡ play_input s.now }
+    ensures held { result ≡ input_held result.answer (play_input s.now) }
 {
     let r = crate::read::sheet_lines(s, true);
     let answer = r.answer;

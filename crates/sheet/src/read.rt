@@ -12,13 +12,13 @@ use lines::settings::{Settings, SettingsLine};
 use points::refusal::{Answer, Refusal};
 
 // A refusal has its line, counted from 1.
-#[derive(Drop)]
+#[derive(Clone, Copy)]
 pub enum SheetAnswer {
     Accepted,
     Refused(Refusal, u32),
 }
 
-#[derive(Drop)]
+#[derive(Clone, Copy)]
 pub struct SheetLines {
     pub answer: Answer,
     pub line: u32,
@@ -27,7 +27,7 @@ pub struct SheetLines {
 }
 
 // The envelope of an accepted sheet; beside a refusal an empty one.
-#[derive(Drop)]
+#[derive(Clone, Copy)]
 pub struct ReadSheet {
     pub answer: SheetAnswer,
     pub envelope: AutomationEnvelope,
@@ -94,8 +94,8 @@ pub(crate) fn sheet_lines(s: &[u8], program: bool) -> SheetLines
 
 // The envelope on the sheet, or the first refusal with its line.
 pub fn read_sheet(s: &[u8]) -> ReadSheet
-    ensures result_value { told_read result ≡ read_sheet s.now }
-    ensures value { result ≡ read_held result.answer (read_sheet s.now) }
+    ensures answer { told_read result ≡ read_sheet s.now }
+    ensures held { result ≡ read_held result.answer (read_sheet s.now) }
 {
     let r = sheet_lines(s, false);
     let answer = r.answer;

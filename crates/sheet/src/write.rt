@@ -18,7 +18,7 @@ use points::refusal::Refusal;
 use points::{AutomationPoint, Points, SamplePosition};
 
 // How many bytes were written.
-#[derive(Drop)]
+#[derive(Clone, Copy)]
 pub enum Written {
     Bytes(usize),
     Refused(Refusal),
@@ -196,8 +196,8 @@ fn sheet_length(e: AutomationEnvelope) -> usize
 
 // The points' lines.
 fn put_points(out: &mut [u8], start: usize, points: Points) -> usize
-    requires points_value { every finite_point (list_of points) ≡ true }
-    requires points_in_bounds { start + length (point_texts (list_of points)) ≤ length out.old }
+    requires finite { every finite_point (list_of points) ≡ true }
+    requires room { start + length (point_texts (list_of points)) ≤ length out.old }
     ensures { Put out.old start (point_texts (list_of points)) out.new result }
 {
     let n = points.used();
@@ -212,8 +212,8 @@ fn put_points(out: &mut [u8], start: usize, points: Points) -> usize
 }
 
 fn put_sheet(out: &mut [u8], e: AutomationEnvelope) -> usize
-    requires e_value { valid_envelope e ≡ true }
-    requires e_in_bounds { length (sheet_text e) ≤ length out.old }
+    requires sound { valid_envelope e ≡ true }
+    requires room { length (sheet_text e) ≤ length out.old }
     ensures { Put out.old 0 (sheet_text e) out.new result }
 {
     let points = e.points;
@@ -225,7 +225,7 @@ fn put_sheet(out: &mut [u8], e: AutomationEnvelope) -> usize
 
 // The envelope's sheet from the start of the lent bytes; the places after it stay.
 pub fn write_sheet(envelope: AutomationEnvelope, out: &mut [u8]) -> Written
-    ensures result_value { told_written result ≡ (write_sheet envelope out.old).said }
+    ensures answer { told_written result ≡ (write_sheet envelope out.old).said }
     ensures out_after { out.new ≡ (write_sheet envelope out.old).bytes }
 {
     if !envelope.is_valid() {

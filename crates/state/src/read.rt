@@ -85,7 +85,7 @@ fn same_point(p: AutomationPoint, words: &[u64], at: usize) -> bool
 }
 
 // The places of a state, and whether they pack to the same words.
-#[derive(Drop)]
+#[derive(Clone, Copy)]
 struct Places {
     same: bool,
     places: [AutomationPoint; 256],
@@ -93,8 +93,8 @@ struct Places {
 
 fn read_places(words: &[u64]) -> Places
     requires { length words.now ≡ 1028 }
-    ensures places_value { result.places ≡ points_of 256 (drop 4 words.now) }
-    ensures same_value { result.same ≡ every_pair eqb (pack_points (points_of 256 (drop 4 words.now))) (drop 4 words.now) }
+    ensures read { result.places ≡ points_of 256 (drop 4 words.now) }
+    ensures packs { result.same ≡ every_pair eqb (pack_points (points_of 256 (drop 4 words.now))) (drop 4 words.now) }
 {
     let unused = points::point::unused();
     let mut places = [unused; 256];
@@ -119,8 +119,8 @@ fn read_places(words: &[u64]) -> Places
 
 // The envelope that stands in the words, with its places read before.
 fn with_places(words: &[u64], places: [AutomationPoint; 256]) -> AutomationEnvelope
-    requires words_len { length words.now ≡ 1028 }
-    requires places_value { places ≡ points_of 256 (drop 4 words.now) }
+    requires whole { length words.now ≡ 1028 }
+    requires read { places ≡ points_of 256 (drop 4 words.now) }
     ensures { result ≡ state_of words.now }
 {
     let first = words[0];

@@ -13,14 +13,14 @@ use points::{AutomationPoint, SamplePosition};
 
 fn flag(b: bool) -> u32
     ensures value { result ≡ flag b }
-    ensures upper_bound { result < 2 }
+    ensures bit { result < 2 }
 {
     if b { 1 } else { 0 }
 }
 
 fn limit_flag(l: Limit) -> u32
     ensures value { result ≡ flag (has_limit l) }
-    ensures upper_bound { result < 2 }
+    ensures bit { result < 2 }
 {
     match l {
         Limit::None => 0,
@@ -39,7 +39,7 @@ pub(crate) fn limit_bits(l: Limit) -> u32
 
 fn position_flag(p: SamplePosition) -> u32
     ensures value { result ≡ flag (has_position p) }
-    ensures upper_bound { result < 2 }
+    ensures bit { result < 2 }
 {
     match p {
         SamplePosition::None => 0,
@@ -169,7 +169,7 @@ pub fn fit_state(envelope: AutomationEnvelope, words: &mut [u64])
 
 // The same with the refusals of a call: 1, then 8.
 pub fn write_state(envelope: AutomationEnvelope, words: &mut [u64]) -> Answer
-    ensures result_value { said result ≡ (write_state envelope words.old).said }
+    ensures answer { said result ≡ (write_state envelope words.old).said }
     ensures words_after { words.new ≡ (write_state envelope words.old).words }
 {
     if !envelope.is_valid() {

@@ -1,5 +1,7 @@
 // Replays lists of the Rust's answers: reads lines `call => answer` from standard input, runs each
 // call, and reports the lines whose answer is not ours, as the library `listing_lines` says.
+#![tactic(auto)]
+
 ghost use Rattle.std.specs.Prelude.{◌≡◌, length};
 
 use listing_lines::Reader;
@@ -23,7 +25,7 @@ fn memory() -> [u64; 20480]
 }
 
 // The list that is being read, and the session that is open.
-#[derive(Drop)]
+#[derive(Clone, Copy)]
 struct Progress {
     reader: Reader,
     session: Session,

@@ -1,0 +1,8 @@
+-- `envelope::AutomationEnvelope::get_range` meets its contract: `limits` answers `limitsOf self`,
+-- and with those limits the contract of `analysis::get_range` is this one, by definition of `rangeBetweenOf`.
+use mathlib.Core.Path.{sym}
+use borrow.Author.Rules.{rules}
+use Rattle.envelope.proofs.AutomationEnvelope.get_range.Goals as goal
+
+pub returns : goal.returns
+returns c = rw (sym c.limits.ensures) c.get_range.ensures

@@ -1,0 +1,8 @@
+-- `envelope::AutomationEnvelope::get_value_at` meets its contract: `limits` answers `limitsOf self`,
+-- and with those limits the contract of `lookup::time::get_value_at` is this one, by definition of `valueAtOf`.
+use mathlib.Core.Path.{sym}
+use borrow.Author.Rules.{rules}
+use Rattle.envelope.proofs.AutomationEnvelope.get_value_at.Goals as goal
+
+pub returns : goal.returns
+returns c = rw (sym c.limits.ensures) c.get_value_at.ensures

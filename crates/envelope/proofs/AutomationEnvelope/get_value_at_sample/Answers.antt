@@ -1,0 +1,8 @@
+-- `envelope::AutomationEnvelope::get_value_at_sample` meets its contract: `limits` answers `limitsOf self`,
+-- and with those limits the contract of `lookup::sample::get_value_at_sample` is this one, by definition of `valueAtSampleOf`.
+use mathlib.Core.Path.{sym}
+use borrow.Author.Rules.{rules}
+use Rattle.envelope.proofs.AutomationEnvelope.get_value_at_sample.Goals as goal
+
+pub returns : goal.returns
+returns c = rw (sym c.limits.ensures) c.get_value_at_sample.ensures

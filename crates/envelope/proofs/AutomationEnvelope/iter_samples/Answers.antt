@@ -1,0 +1,8 @@
+-- `envelope::AutomationEnvelope::iter_samples` meets its contract: `limits` answers `limitsOf self`,
+-- and with those limits the contract of `render::iter_samples` is this one, by definition of `iterSamplesOf`.
+use mathlib.Core.Path.{sym}
+use borrow.Author.Rules.{rules}
+use Rattle.envelope.proofs.AutomationEnvelope.iter_samples.Goals as goal
+
+pub returns : goal.returns
+returns c = rw (sym c.limits.ensures) c.iter_samples.ensures

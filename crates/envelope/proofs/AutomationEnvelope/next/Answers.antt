@@ -1,0 +1,8 @@
+-- `envelope::AutomationEnvelope::next` meets its contract: `limits` answers `limitsOf self`,
+-- and with those limits the contract of `render::SampleIterator::next` is this one, by definition of `nextSampleOf`.
+use mathlib.Core.Path.{sym}
+use borrow.Author.Rules.{rules}
+use Rattle.envelope.proofs.AutomationEnvelope.next.Goals as goal
+
+pub returns : goal.returns
+returns c = rw (sym c.limits.ensures) c.next.ensures

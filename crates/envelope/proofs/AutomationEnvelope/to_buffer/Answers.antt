@@ -1,0 +1,11 @@
+-- `envelope::AutomationEnvelope::to_buffer` meets its contract: `limits` answers `limitsOf self`,
+-- and with those limits both clauses of `render::to_buffer` are its own, by definition of `toBufferOf`.
+use mathlib.Core.Path.{sym}
+use borrow.Author.Rules.{rules}
+use Rattle.envelope.proofs.AutomationEnvelope.to_buffer.Goals as goal
+
+pub returns-clause-answer : goal.returns-clause-answer
+returns-clause-answer c = rw (sym c.limits.ensures) c.to_buffer.ensures.answer
+
+pub returns-clause-out_after : goal.returns-clause-out_after
+returns-clause-out_after c = rw (sym c.limits.ensures) c.to_buffer.ensures.out_after

@@ -1,0 +1,6 @@
+-- `equal::same_position` meets its contract: its four cases are those of `bitEqualPosition`.
+use borrow.Author.Rules.{rules}
+use Rattle.equal.proofs.same_position.Goals as goal
+
+pub returns-in-At-b-2 : goal.returns-in-At-b-2
+returns-in-At-b-2 c = cc

@@ -1,0 +1,6 @@
+-- `lookup::is_valid` meets its contract: by definition of `valid`, the `&` of what the two calls ensure.
+use borrow.Author.Rules.{rules}
+use Rattle.lookup.proofs.is_valid.Goals as goal
+
+pub returns : goal.returns
+returns c = cc

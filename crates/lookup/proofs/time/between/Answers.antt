@@ -1,0 +1,6 @@
+-- `lookup::time::between` meets its contract: by definition of `between`, by what `fraction` and `interpolate` ensure.
+use borrow.Author.Rules.{rules}
+use Rattle.lookup.proofs.time.between.Goals as goal
+
+pub returns : goal.returns
+returns c = cc

@@ -1,0 +1,12 @@
+-- `numbers::bits::from_bits` meets its contract: above the patterns of the infinities there are only NaNs.
+-- Assumes nothing.
+use Rattle.std.proofs.Common.{le_trans, lit≤, rules}
+use lib.Ieee.{binary64}
+use Rattle.numbers.proofs.BitLaws.{nan_read, number_read}
+use Rattle.numbers.proofs.bits.from_bits.Goals as goal
+
+pub float_from_bits-result : goal.float_from_bits-result
+float_from_bits-result c = number_read binary64 c.args.b (le_trans c.if-b-gt9218868437227405312.false (lit≤ tt))
+
+pub returns-then-b-gt9218868437227405312 : goal.returns-then-b-gt9218868437227405312
+returns-then-b-gt9218868437227405312 c = nan_read binary64 c.args.b c.if-b-gt9218868437227405312.true

@@ -1,0 +1,5 @@
+use borrow.Author.Rules.{rules}
+use Rattle.points.proofs.AutomationPoint.same_exact.Goals as goal
+
+pub returns : goal.returns
+returns c = cc

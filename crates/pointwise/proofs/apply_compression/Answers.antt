@@ -1,0 +1,5 @@
+use borrow.Author.Rules.{rules}
+use Rattle.pointwise.proofs.apply_compression.Goals as goal
+
+pub returns : goal.returns
+returns c = rw (← c.is_finitef.ensures, ← c.is_finitef-2.ensures) c.edit_each.ensures

@@ -1,0 +1,38 @@
+use mathlib.Core.Path.{sym, ap, ◌∙◌}
+use mathlib.Core.Bool.{Bool}
+use mathlib.Core.List.{map}
+use mathlib.Core.Logic.{⊎_elim}
+use Rattle.numbers.proofs.Tests.{and_both}
+use Rattle.points.specs.Points.{list_of}
+use Rattle.settle.specs.Settle.{edit_points}
+use Rattle.pointwise.specs.Each.{changed}
+use Rattle.pointwise.specs.declared.Change.TheVariants.{Clamp}
+use Rattle.pointwise.proofs.Clamped.{in_order_lem, not_finite, invalid, crossed}
+use borrow.Author.Rules.{rules}
+use Rattle.pointwise.proofs.clamp_values.Goals as goal
+
+pub returns-then-is_valid : goal.returns-then-is_valid
+returns-then-is_valid c =
+    let is-finitef = c.is_finitef in
+    let is-finitef2 = c.is_finitef-2 in
+    let if1 = c.if-min-max in
+    let if2 = c.if-ok in
+    let is-valid = c.is_valid in
+    let args = c.args in
+    let ok = and_both is-finitef.ensures is-finitef2.ensures in
+    c.refuse.ensures
+    ∙ crossed args.points args.min args.max (sym is-valid.ensures ∙ c.if-is_valid.true)
+    (sym ok ∙ if2.true) if1.true
+
+pub returns : goal.returns
+returns c =
+    let args = c.args in
+    let is-finitef = c.is_finitef in
+    let is-finitef2 = c.is_finitef-2 in
+    let ps = args.points in
+    let low = args.min in
+    let high = args.max in
+    let ok = and_both is-finitef.ensures is-finitef2.ensures in
+    c.edit_each.ensures ∙ ap (λ (b : Bool). edit_points ps b (map (changed (Clamp low high)) (list_of ps))) ok
+    ∙ ⊎_elim (λ w. invalid ps low high (sym w.2.ensures ∙ w.3.left))
+    (λ u. ⊎_elim (λ w. not_finite ps low high (sym ok ∙ w.1.left)) (λ w. in_order_lem ps low high w.left) u) c.if-min-max.branch

@@ -1,0 +1,5 @@
+use borrow.Author.Rules.{rules}
+use Rattle.pointwise.proofs.map_points.Goals as goal
+
+pub returns : goal.returns
+returns c = c.map_tested-made.ensures.0

@@ -1,0 +1,5 @@
+use borrow.Author.Rules.{rules}
+use Rattle.pointwise.proofs.shift_points.Goals as goal
+
+pub returns : goal.returns
+returns c = rw (← c.is_finite.ensures) c.edit_each.ensures

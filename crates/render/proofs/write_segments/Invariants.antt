@@ -1,0 +1,20 @@
+-- `render::write_segments` meets its contract: the loop has the first i samples written, and fewer are left each turn. Between the first point and the last
+-- the search ends between two (`search-inside`) and a stretch is added (`stretch-written`, `run-part`), elsewhere one sample (`outside-sample`, `run-turn`).
+use Prim.Native.Nat.{ℕ, ◌+◌, ◌≤◌, ◌<◌, ◌-◌}
+use mathlib.Core.Path.{◌≡◌, refl, ap, ◌∙◌}
+use mathlib.Core.Bool.{true}
+use mathlib.Core.List.{◌++◌}
+use native.Mathlib.Omega.{arith}
+use lib.ListN.{length, take, drop, length-set}
+use Rattle.lookup.proofs.LookupLaws.{valid_count}
+use Rattle.render.specs.Render.{sample_or}
+use Rattle.lookup.specs.Runs.{run}
+use Rattle.lookup.proofs.RunLaws.{run_turn, run_over, run_part, run_end, part_long}
+use Rattle.render.proofs.Writing.{search_inside, stretch_written, outside_sample}
+use Rattle.render.proofs.write_segments.Given as goal
+
+abbrev pub invariant-loop-i : goal.invariant-loop-i
+invariant-loop-i l = (l.i ≤ length l.initial.out) × (length l.out ≡ length l.initial.out) × (l.k ≡ l.first + l.i) × (l.out ≡ run (sample_or l.silent l.points true l.limits l.rate) l.first l.i ++ drop l.i l.initial.out)
+
+abbrev pub decreases-loop-i : goal.decreases-loop-i
+decreases-loop-i l = length l.initial.out - l.i

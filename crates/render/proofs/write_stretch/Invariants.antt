@@ -1,0 +1,25 @@
+-- `render::write_stretch` meets its contract: the loop has i samples of the segment written (`run-turn`), the times of all but the first inside it
+-- (`below_more`), and i rises; out at a time that lies outside, or at the buffer's end, that is `Stretch` (`stretch-end`).
+use Prim.Native.Nat.{ℕ, ◌+◌, ◌≤◌, ◌<◌, ◌-◌}
+use mathlib.Core.Path.{◌≡◌, refl, sym, ap, ◌∙◌}
+use mathlib.Core.Bool.{true}
+use mathlib.Core.List.{List, ◌++◌}
+use native.Mathlib.Nat.{add-zero}
+use native.Mathlib.Omega.{arith}
+use lib.ListN.{length, drop, set, length-set}
+use lib.Seq.{drop-set-lt}
+use lib.Ieee.{Float}
+use borrow.Author.Count.{below_more}
+use Rattle.lookup.specs.Runs.{run}
+use Rattle.lookup.proofs.RunLaws.{run_turn}
+use Rattle.render.specs.Render.{sample_time}
+use Rattle.render.specs.Writer.{inside, segment_at}
+use Rattle.render.proofs.Segments.{stretch_end}
+use Rattle.render.proofs.write_stretch.Given as goal
+
+abbrev pub invariant-loop-i : goal.invariant-loop-i
+invariant-loop-i l = (1 ≤ l.i) × (l.i ≤ length l.initial.out) × (length l.out ≡ length l.initial.out) × (l.k ≡ l.first + l.i) × ((j : ℕ) → j < l.i → 0 < j → inside l.seg (sample_time l.rate (l.first + j)) ≡ true)
+    × (l.out ≡ run (λ n. segment_at l.limits l.seg (sample_time l.rate n)) l.first l.i ++ drop l.i l.initial.out)
+
+abbrev pub decreases-loop-i : goal.decreases-loop-i
+decreases-loop-i l = length l.initial.out - l.i

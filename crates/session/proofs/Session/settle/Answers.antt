@@ -1,0 +1,28 @@
+-- `session::Session::settle` meets its contract: by what the edit says: accepted, `bit_equal` says whether it altered a bit: if none, the session stays
+-- (`settle-idle`), else `count` makes what `settled` names (`settle-counted`); refused, its refusal is the call's (`settle-refused`).
+use mathlib.Core.Path.{sym, ◌∙◌}
+use Rattle.session.proofs.Ways.{settle_idle, settle_counted, settle_refused}
+use borrow.Author.Rules.{rules}
+use Rattle.session.proofs.Session.settle.Goals as goal
+
+pub count-requires : goal.count-requires
+count-requires c = record {
+  sound = c.requires.0;
+  memory_fits = c.requires.1;
+}
+
+pub returns-then-bit_equal : goal.returns-then-bit_equal
+returns-then-bit_equal c =
+    let a = c.args in
+    settle_idle a.self a.memory.now a.r _ c.stay.ensures c.in-Accepted.is (sym c.bit_equal.ensures ∙ c.if-bit_equal.true)
+
+pub returns-else-bit_equal : goal.returns-else-bit_equal
+returns-else-bit_equal c =
+    let a = c.args in
+    settle_counted a.self a.memory.now a.r c.count.result _ c.count.ensures c.in-Accepted.is
+    (sym c.bit_equal.ensures ∙ c.if-bit_equal.false)
+
+pub returns-in-Refused : goal.returns-in-Refused
+returns-in-Refused c =
+    let a = c.args in
+    settle_refused a.self a.memory.now a.r _ _ c.refuse.ensures c.in-Refused.is

@@ -1,0 +1,9 @@
+-- `sheet::read::no_sheet` meets its contract: by definition of `toldSheetLines`: a refusal with its line, whatever the bytes.
+use mathlib.Core.Path.{refl}
+use Rattle.sheet.specs.Told.{told_sheet_lines}
+use borrow.Author.Rules.{rules}
+use Rattle.sheet.proofs.read.no_sheet.Goals as goal
+
+pub returns : goal.returns
+unfolding told_sheet_lines
+returns c = λ s. refl

@@ -1,0 +1,8 @@
+-- `state::read::limit_of` meets its contract: the flag's two cases are those of `limitOf`, and the number is what `from_bitsf` ensures.
+use mathlib.Core.Path.{ap}
+use Rattle.limits.specs.declared.Limit.TheVariants as limit
+use borrow.Author.Rules.{rules}
+use Rattle.state.proofs.read.limit_of.Goals as goal
+
+pub returns-then-has : goal.returns-then-has
+returns-then-has c = rw c.if-has.true (ap limit.Number c.from_bitsf.ensures)

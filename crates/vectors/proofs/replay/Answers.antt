@@ -1,0 +1,13 @@
+-- `vectors::replay` ends: the measure is the number of lines that are left.
+-- Assumes nothing.
+use native.Mathlib.Omega.{arith}
+use borrow.Author.Rules.{rules}
+use lib.ListN.{length}
+use mathlib.Core.Path.{◌≡◌}
+use Rattle.vectors.proofs.replay.Goals as goal
+
+pub overflow_sub-lines : goal.overflow_sub-lines
+overflow_sub-lines c = omega arith
+
+pub loop-lines-smaller : goal.loop-lines-smaller
+loop-lines-smaller c = omega arith
