@@ -19,8 +19,8 @@ zero_by_zero binary32 = refl
 zero_by_zero binary64 = refl
 
 -- writing: what differs from itself is the NaN
-pub nan_bits : (f : Format) (x : Float) → ne x x ≡ true → to_bits f nan ≡ to_bits f x
-nan_bits f x h = ap (to_bits f) (sym (differs_from_itself x (yes h)))
+pub nan_bits_lem : (f : Format) (x : Float) → ne x x ≡ true → to_bits f nan ≡ to_bits f x
+nan_bits_lem f x h = ap (to_bits f) (sym (differs_from_itself x (yes h)))
 
 -- reading: above the patterns of the infinities there are only NaNs
 pub nan_read : (f : Format) (n : ℕ) → ones f * hid f < n % top f → div f (of_bits f 0) (of_bits f 0) ≡ of_bits f n

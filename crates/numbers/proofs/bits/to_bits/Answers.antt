@@ -3,7 +3,7 @@
 use lib.Ieee.{binary64, to_bits}
 use Rattle.std.proofs.Common.{rules}
 use Rattle.numbers.proofs.Tests.{equals_itself}
-use Rattle.numbers.proofs.BitLaws.{nan_bits}
+use Rattle.numbers.proofs.BitLaws.{nan_bits_lem}
 use Rattle.numbers.proofs.bits.to_bits.Goals as goal
 
 pub float_to_bits-result : goal.float_to_bits-result
@@ -11,4 +11,4 @@ float_to_bits-result c = equals_itself c.args.x c.if-x.false
 
 pub returns-then-x : goal.returns-then-x
 unfolding to_bits
-returns-then-x c = nan_bits binary64 c.args.x c.if-x.true
+returns-then-x c = nan_bits_lem binary64 c.args.x c.if-x.true

@@ -6,9 +6,6 @@ use lib.Ieee.Fits.{down_pos}
 use Rattle.numbers.proofs.Tests.{yes, no}
 use Rattle.numbers.proofs.convert.f64_to_u64.Goals as goal
 
-abbrev x : goal.Start → Float
-x c = c.args.x
-
 -- not above -1: the cast gives 0
 under : (x : Float) → T (not (lt (fin true 1 (pos 0)) x)) → 0 ≡ to_unsigned 64 x
 unfolding lt to_unsigned
@@ -48,8 +45,8 @@ truncating_f64_to_u64-requires c = record {
 
 pub returns-else-x-2 : goal.returns-else-x-2
 unfolding of_bits neg
-returns-else-x-2 c = at_end (x c.before.before) (yes c.if-x.true) (no c.if-x-2.false)
+returns-else-x-2 c = at_end c.args.x (yes c.if-x.true) (no c.if-x-2.false)
 
 pub returns-else-x : goal.returns-else-x
 unfolding of_bits neg
-returns-else-x c = under (x c.before) (no c.if-x.false)
+returns-else-x c = under c.args.x (no c.if-x.false)

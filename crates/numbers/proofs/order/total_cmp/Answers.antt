@@ -19,17 +19,15 @@ is x y = refl
 by_keys : (x y : Float) → T (fits binary64 x) → T (fits binary64 y) → (a b : ℕ) → a ≡ order_key x → b ≡ order_key y → order (ltb a b) (ltb b a) ≡ total_of x y
 by_keys x y F G a b p q = sym (is x y ∙ rw (before_key x y F G, before_key y x G F, p, q))
 
-at : (c : goal.After-order_key-b) →
-    let args = c.args in
-    order (ltb c.order_key-a.result c.order_key-b.result) (ltb c.order_key-b.result c.order_key-a.result) ≡ total_of args.x args.y
-at c =
-    by_keys c.args.x c.args.y (yes c.well_formed.0.1) (yes c.well_formed.1.0.1) _ _ c.order_key-a.ensures c.order_key-b.ensures
-
 pub returns-then-a-b : goal.returns-then-a-b
-returns-then-a-b c = rw (lt-ltb _ _ c.if-a-b.true) at (at c.before)
+returns-then-a-b c =
+    rw (lt-ltb _ _ c.if-a-b.true)
+    at (by_keys c.args.x c.args.y (yes c.well_formed.0.1) (yes c.well_formed.1.0.1) _ _ c.order_key-a.ensures c.order_key-b.ensures)
 
 pub returns-then-b-a : goal.returns-then-b-a
-returns-then-b-a c = rw (le-ltb _ _ c.if-a-b.false, lt-ltb _ _ c.if-b-a.true) at (at c.before.before)
+returns-then-b-a c = rw (le-ltb _ _ c.if-a-b.false, lt-ltb _ _ c.if-b-a.true)
+    at (by_keys c.args.x c.args.y (yes c.well_formed.0.1) (yes c.well_formed.1.0.1) _ _ c.order_key-a.ensures c.order_key-b.ensures)
 
 pub returns : goal.returns
-returns c = rw (le-ltb _ _ c.if-a-b.false, le-ltb _ _ c.if-b-a.false) at (at c.before.before)
+returns c = rw (le-ltb _ _ c.if-a-b.false, le-ltb _ _ c.if-b-a.false)
+    at (by_keys c.args.x c.args.y (yes c.well_formed.0.1) (yes c.well_formed.1.0.1) _ _ c.order_key-a.ensures c.order_key-b.ensures)

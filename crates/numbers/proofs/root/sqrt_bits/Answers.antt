@@ -9,10 +9,10 @@ abbrev digits : goal.Then-e-eq0 → ℕ
 digits c = c.args.b % 2 ^ 23
 
 at : (c : goal.Then-e-eq0) → Moved (digits c)
-at c = low_moved c.args.b c.requires.1 c.if-e-eq0.true
+at c = low_moved c.args.b c.requires.positive c.if-e-eq0.true
 
 pub returns-then-e-ge255 : goal.returns-then-e-ge255
-returns-then-e-ge255 c = infinite c.args.b c.requires.1 c.if-e-ge255.true
+returns-then-e-ge255 c = infinite c.args.b c.requires.positive c.if-e-ge255.true
 
 pub overflow_sub-s : goal.overflow_sub-s
 overflow_sub-s c = (at c).some
@@ -31,9 +31,9 @@ root_bits-requires c = (le_trans (at c).reaches (le_of_eq (sym (at c).is)), lt_o
 
 pub returns-then-e-eq0 : goal.returns-then-e-eq0
 returns-then-e-eq0 c =
-    c.root_bits.ensures ∙ ap (to_bits binary32) (subnormal c.args.b c.requires.1 c.if-e-eq0.true)
+    c.root_bits.ensures ∙ ap (to_bits binary32) (subnormal c.args.b c.requires.positive c.if-e-eq0.true)
 
 pub returns : goal.returns
 returns c =
     let if1 = c.if-e-ge255 in
-    c.root_bits-2.ensures ∙ ap (to_bits binary32) (normal c.args.b c.requires.1 if1.false c.if-e-eq0.false)
+    c.root_bits-2.ensures ∙ ap (to_bits binary32) (normal c.args.b c.requires.positive if1.false c.if-e-eq0.false)

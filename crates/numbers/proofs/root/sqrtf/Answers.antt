@@ -27,10 +27,6 @@ module _ (c : goal.Then-x) where
 is : (c : goal.After-sqrt_bits) → c.sqrt_bits.result ≡ to_bits binary32 (sqrt binary32 (x c.before))
 is c = c.sqrt_bits.ensures ∙ ap (λ (v : Float). to_bits binary32 (sqrt binary32 v)) (back c.before)
 
-none : (c : goal.Else-x-2) → nan ≡ sqrt binary32 c.args.x
-unfolding of_bits
-none c = no_root binary32 c.args.x (no c.if-x.false) (no c.if-x-2.false)
-
 pub float_to_bits-x : goal.float_to_bits-x
 float_to_bits-x c = over_number (x c) (over c)
 
@@ -63,4 +59,5 @@ unfolding of_bits
 returns-then-x-2 c = zero_root binary32 c.args.x c.if-x-2.true
 
 pub returns : goal.returns
-returns c = zero_by_zero binary32 ∙ none c
+unfolding of_bits
+returns c = zero_by_zero binary32 ∙ no_root binary32 c.args.x (no c.if-x.false) (no c.if-x-2.false)

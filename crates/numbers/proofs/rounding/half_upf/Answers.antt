@@ -6,19 +6,16 @@ use Rattle.numbers.proofs.Tests.{yes, no}
 use Rattle.numbers.proofs.Halves.{Up, up_of, stays}
 use Rattle.numbers.proofs.rounding.half_upf.Goals as goal
 
-held : (c : goal.Start) → T (fits binary32 c.args.x)
-held c = yes c.well_formed.0.1
-
 at : (c : goal.Then-x) → Up binary32 c.args.x
 unfolding of_bits
-at c = up_of binary32 c.args.x (held c.before) c.requires (yes c.if-x.true)
+at c = up_of binary32 c.args.x (yes c.well_formed.0.1) c.requires (yes c.if-x.true)
 
 little : (c : goal.After-truncating_f32_to_u64) → c.truncating_f32_to_u64.result < 2 ^ 24
 little c = subst (λ (z : ℕ). z < 2 ^ 24) (sym c.truncating_f32_to_u64.ensures) (at c.before).little
 
-in_float : (n : ℕ) → n ≤ 2 ^ 24 → T (in_float binary32 (pos n))
+whole_in_float : (n : ℕ) → n ≤ 2 ^ 24 → T (in_float binary32 (pos n))
 unfolding in_float
-in_float n h = le→leb n (2 ^ 24) h
+whole_in_float n h = le→leb n (2 ^ 24) h
 
 pub truncating_f32_to_u64-requires : goal.truncating_f32_to_u64-requires
 truncating_f32_to_u64-requires c = record {
@@ -30,11 +27,11 @@ pub overflow_add-result : goal.overflow_add-result
 overflow_add-result c = omega (arith, little c)
 
 pub int_to_float-result : goal.int_to_float-result
-int_to_float-result c = in_float _ (omega (arith, little c.before))
+int_to_float-result c = whole_in_float _ (omega (arith, little c.before))
 
 pub returns-then-x : goal.returns-then-x
 returns-then-x c = ap (λ (z : ℕ). of_int binary32 (pos ((z + 1) / 2))) c.truncating_f32_to_u64.ensures ∙ (at c.before.before).is_up
 
 pub returns-else-x : goal.returns-else-x
 unfolding of_bits
-returns-else-x c = stays binary32 c.args.x (held c.before) c.requires (no c.if-x.false)
+returns-else-x c = stays binary32 c.args.x (yes c.well_formed.0.1) c.requires (no c.if-x.false)
