@@ -10,4 +10,4 @@ unfolding controls
 returns-in-Bezier c = rw c.in-Bezier.is
 
 pub returns-in_default : goal.returns-in_default
-returns-in_default c = sym (no-controls _ c.in_default.keys2)
+returns-in_default c = sym (no-controls _ c.in_default.not-Bezier)

@@ -84,4 +84,4 @@ unfolding curve_of
 returns-in-21 c = rw c.in-21.is
 
 pub returns-in_default : goal.returns-in_default
-returns-in_default c = no_code _ _ _ c.in_default.rest
+returns-in_default c = no_code _ _ _ c.in_default.in_default-own.rest
