@@ -1,6 +1,5 @@
 -- `curve::CurveType::code` meets its contract: one return for each case. Assumes nothing.
 use Rattle.curve.specs.Curve.{code}
-use borrow.Author.Rules.{rules}
 use Rattle.curve.proofs.CurveType.code.Goals as goal
 
 pub returns-in-Linear : goal.returns-in-Linear

@@ -2,7 +2,6 @@
 use Rattle.curve.specs.Curve.{controls}
 use Rattle.curve.proofs.Plain.{no-controls}
 use mathlib.Core.Path.{sym}
-use borrow.Author.Rules.{rules}
 use Rattle.curve.proofs.CurveType.controls.Goals as goal
 
 pub returns-in-Bezier : goal.returns-in-Bezier

@@ -1,6 +1,5 @@
 -- `curve::CurveType::ease` meets its contract: one return for each case, and there the definition's line for it. Assumes nothing.
 use Rattle.curve.specs.Curve.{eased}
-use borrow.Author.Rules.{rules}
 use Rattle.curve.proofs.CurveType.ease.Goals as goal
 
 pub returns-in-Linear : goal.returns-in-Linear

@@ -1,6 +1,5 @@
 -- `curve::CurveType::eq` meets its contract, by what `code` and `controls` ensure. Assumes nothing.
 use Rattle.curve.specs.Curve.{same_curve}
-use borrow.Author.Rules.{rules}
 use Rattle.curve.proofs.CurveType.eq.Goals as goal
 
 pub returns : goal.returns

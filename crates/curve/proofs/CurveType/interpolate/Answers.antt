@@ -1,6 +1,5 @@
 -- `curve::CurveType::interpolate` meets its contract, by what `clamp` and `ease` ensure. Assumes nothing.
 use Rattle.curve.specs.Curve.{interpolated}
-use borrow.Author.Rules.{rules}
 use Rattle.curve.proofs.CurveType.interpolate.Goals as goal
 
 pub returns : goal.returns

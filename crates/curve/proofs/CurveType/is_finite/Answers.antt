@@ -1,6 +1,5 @@
 -- `curve::CurveType::is_finite` meets its contract, by what `controls` and `is_finitef` ensure. Assumes nothing.
 use Rattle.curve.specs.Curve.{finite_controls}
-use borrow.Author.Rules.{rules}
 use Rattle.curve.proofs.CurveType.is_finite.Goals as goal
 
 pub returns : goal.returns

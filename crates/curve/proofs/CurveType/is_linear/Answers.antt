@@ -1,5 +1,4 @@
 -- `curve::CurveType::is_linear` meets its contract, by the curve's number. Assumes nothing.
-use borrow.Author.Rules.{rules}
 use Rattle.curve.proofs.CurveType.is_linear.Goals as goal
 
 pub returns : goal.returns

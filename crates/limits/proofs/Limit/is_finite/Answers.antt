@@ -1,5 +1,4 @@
 -- `limits::Limit::is_finite` meets its contract: by the limit's two cases: none is finite, and a number is so by what `is_finitef` ensures.
-use borrow.Author.Rules.{rules}
 use Rattle.limits.proofs.Limit.is_finite.Goals as goal
 
 pub returns-in-Number : goal.returns-in-Number

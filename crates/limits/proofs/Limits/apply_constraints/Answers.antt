@@ -2,7 +2,6 @@
 -- where nothing is stepped these change nothing (`hard-bounded`).
 use mathlib.Core.Path.{sym, ap, ◌∙◌}
 use lib.Ieee.{Float, binary32, mul, of_bits}
-use borrow.Author.Rules.{rules}
 use Rattle.numbers.specs.Whole.{nearest_multiple}
 use Rattle.limits.specs.Limits.{bounded, constrained}
 use Rattle.limits.proofs.TwiceLaws.{hard_bounded}

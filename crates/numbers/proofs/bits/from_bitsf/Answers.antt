@@ -1,6 +1,6 @@
 -- `numbers::bits::from_bitsf` meets its contract: above the patterns of the infinities there are only NaNs.
 -- Assumes nothing.
-use Rattle.std.proofs.Common.{le_trans, lit≤, rules}
+use Rattle.std.proofs.Common.{le_trans, lit≤}
 use lib.Ieee.{binary32}
 use Rattle.numbers.proofs.BitLaws.{nan_read, number_read}
 use Rattle.numbers.proofs.bits.from_bitsf.Goals as goal

@@ -1,7 +1,6 @@
 -- `numbers::bits::to_bits` meets its contract: what differs from itself is the NaN.
 -- Assumes nothing.
 use lib.Ieee.{binary64, to_bits}
-use Rattle.std.proofs.Common.{rules}
 use Rattle.numbers.proofs.Tests.{equals_itself}
 use Rattle.numbers.proofs.BitLaws.{nan_bits_lem}
 use Rattle.numbers.proofs.bits.to_bits.Goals as goal

@@ -1,6 +1,6 @@
 -- `numbers::convert::f64_to_u64` meets its contract.
 -- Assumes nothing.
-use Rattle.std.proofs.Common.{◌≡◌, ℕ, ◌+◌, ◌-◌, ◌*◌, ◌/◌, ◌^◌, ◌<◌, ◌≤◌, min, true, false, not, T, ltb, pos, sym, refl, subst, le-div_iff_mul-le, arith, lt→ltb, nltb→le, T_not, rules}
+use Rattle.std.proofs.Common.{◌≡◌, ℕ, ◌+◌, ◌-◌, ◌*◌, ◌/◌, ◌^◌, ◌<◌, ◌≤◌, min, true, false, not, T, ltb, pos, sym, refl, subst, le-div_iff_mul-le, arith, lt→ltb, nltb→le, T_not}
 use lib.Ieee.{Float, nan, inf, fin, up, down, lt, to_unsigned, of_bits, neg}
 use lib.Ieee.Fits.{down_pos}
 use Rattle.numbers.proofs.Tests.{yes, no}

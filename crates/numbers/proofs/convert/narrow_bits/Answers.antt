@@ -1,6 +1,6 @@
 -- `numbers::convert::narrow_bits` meets its contract. The three fields of b are those that `of_bits` reads, and `Narrowing.antt` has the result's pattern for each of the code's four cases.
 -- Assumes nothing.
-use Rattle.std.proofs.Common.{◌≡◌, ℕ, ◌+◌, ◌-◌, ◌*◌, ◌/◌, ◌^◌, ◌<◌, ◌≤◌, Bool, true, false, cond, not, T, sym, refl, ap, ◌∙◌, subst, le_trans, le_of_eq, lt_of_lt_of_le, le-add_right, mod-lt, zero-lt-suc, arith, pow_pos, pow_mono, pow-add, rules}
+use Rattle.std.proofs.Common.{◌≡◌, ℕ, ◌+◌, ◌-◌, ◌*◌, ◌/◌, ◌^◌, ◌<◌, ◌≤◌, Bool, true, false, cond, not, T, sym, refl, ap, ◌∙◌, subst, le_trans, le_of_eq, lt_of_lt_of_le, le-add_right, mod-lt, zero-lt-suc, arith, pow_pos, pow_mono, pow-add}
 use lib.Ieee.{Float, binary32, binary64, of_fields, of_bits, to_bits, is_nan}
 use lib.Ieee.Nearest.{closest}
 use Rattle.numbers.specs.Narrow.{narrow}

@@ -1,6 +1,6 @@
 -- `numbers::convert::nearest_shr` meets its contract: `carried` of `Closest.antt` at half of 2 ^ k.
 -- Assumes nothing.
-use Rattle.std.proofs.Common.{◌≡◌, ℕ, suc, ◌+◌, ◌-◌, ◌*◌, ◌/◌, ◌%◌, ◌^◌, ◌<◌, ◌≤◌, sym, ap, ◌∙◌, subst, le_trans, mod-lt, zero-lt-suc, mul_comm, mul-le-mul_left, le-div_iff_mul-le, div-mul-le_self, arith, pow_pos, pow_mono, rules}
+use Rattle.std.proofs.Common.{◌≡◌, ℕ, suc, ◌+◌, ◌-◌, ◌*◌, ◌/◌, ◌%◌, ◌^◌, ◌<◌, ◌≤◌, sym, ap, ◌∙◌, subst, le_trans, mod-lt, zero-lt-suc, mul_comm, mul-le-mul_left, le-div_iff_mul-le, div-mul-le_self, arith, pow_pos, pow_mono}
 use native.Mathlib.Nat.{pow-succ'}
 use lib.Ieee.Nearest.{closest}
 use Rattle.numbers.proofs.Closest.{one_shl, carried}

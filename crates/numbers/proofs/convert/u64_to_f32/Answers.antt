@@ -1,6 +1,6 @@
 -- `numbers::convert::u64_to_f32` meets its contract. Up to 2 ^ 24 the cast is exact. Above, `Rounded.antt` has the pattern of n rounded, at a width of 64 digits.
 -- Assumes nothing.
-use Rattle.std.proofs.Common.{◌≡◌, ℕ, suc, ◌+◌, ◌-◌, ◌*◌, ◌%◌, ◌^◌, ◌<◌, ◌≤◌, false, not, T, pos, sym, ap, ◌∙◌, subst, zero-le, le_trans, le_of_eq, lt_of_lt_of_le, lt_of_le_of_lt, le_of_lt, mul-le-mul_right, mod-eq_of_lt, zero-lt-suc, add_comm, mul-le-mul_left, zero-add, mul-one, arith, lit≤, le→leb, pow_pos, pow-add, shl_lt, rules}
+use Rattle.std.proofs.Common.{◌≡◌, ℕ, suc, ◌+◌, ◌-◌, ◌*◌, ◌%◌, ◌^◌, ◌<◌, ◌≤◌, false, not, T, pos, sym, ap, ◌∙◌, subst, zero-le, le_trans, le_of_eq, lt_of_lt_of_le, lt_of_le_of_lt, le_of_lt, mul-le-mul_right, mod-eq_of_lt, zero-lt-suc, add_comm, mul-le-mul_left, zero-add, mul-one, arith, lit≤, le→leb, pow_pos, pow-add, shl_lt}
 use native.Mathlib.Nat.{pow-succ'}
 use lib.Count.{count_leading_zeros, leading_top}
 use lib.Ieee.{Float, binary32, round, of_int, to_bits, in_float, is_nan, fits}

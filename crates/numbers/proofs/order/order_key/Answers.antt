@@ -1,6 +1,6 @@
 -- `numbers::order::order_key` meets its contract.
 -- Assumes nothing.
-use Rattle.std.proofs.Common.{sym, ap, ◌∙◌, arith, rules, le-ltb, lt-ltb}
+use Rattle.std.proofs.Common.{sym, ap, ◌∙◌, arith, le-ltb, lt-ltb}
 use lib.Ieee.{binary64, to_bits}
 use lib.Ieee.Bits.{to_bits-lt}
 use lib.Ieee.Compare.{differs_from_itself}

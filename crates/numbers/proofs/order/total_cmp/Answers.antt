@@ -1,6 +1,6 @@
 -- `numbers::order::total_cmp` meets its contract: the order is that of the keys.
 -- Assumes nothing.
-use Rattle.std.proofs.Common.{◌≡◌, ℕ, Bool, cond, T, ltb, sym, refl, ◌∙◌, rules, le-ltb, lt-ltb}
+use Rattle.std.proofs.Common.{◌≡◌, ℕ, Bool, cond, T, ltb, sym, refl, ◌∙◌, le-ltb, lt-ltb}
 use lib.Ieee.{Float, binary64, fits}
 use Rattle.numbers.specs.Order.{before, total_of, order_key}
 use Rattle.numbers.proofs.OrderLaws.{before_key}

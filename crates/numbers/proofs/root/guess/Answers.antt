@@ -1,6 +1,6 @@
 -- `numbers::root::guess` meets its contract.
 -- Assumes nothing.
-use Rattle.std.proofs.Common.{◌^◌, arith, le→leb, rules}
+use Rattle.std.proofs.Common.{◌^◌, arith, le→leb}
 use lib.Ieee.{in_float}
 use Rattle.numbers.proofs.Tests.{no}
 use Rattle.numbers.proofs.Compare.{lt_right}

@@ -1,7 +1,6 @@
 -- `numbers::root::nearest_root` meets its contract. The first loop takes the guess up until n is at most the square of r and a half, and the second down until it is above the square of r less a half.
 -- Assumes nothing.
-use Rattle.std.proofs.Common.{◌≡◌, ℕ, zero, suc, ◌+◌, ◌-◌, ◌*◌, ◌^◌, ◌<◌, ◌≤◌, refl, ap, ◌∙◌, mul-le-mul, zero-mul, arith}
-use Rattle.numbers.proofs.Squares.{below, square_next}
+use Rattle.std.proofs.Common.{◌+◌, ◌-◌, ◌*◌, ◌^◌, ◌<◌, ◌≤◌}
 use Rattle.numbers.proofs.root.nearest_root.Given as goal
 
 abbrev pub invariant-loop-r : goal.invariant-loop-r

@@ -1,6 +1,6 @@
 -- `numbers::root::root_bits` meets its contract: `pattern` of `Roots.antt` at `binary32`.
 -- Assumes nothing.
-use Rattle.std.proofs.Common.{◌≡◌, ℕ, suc, ◌+◌, ◌-◌, ◌*◌, ◌/◌, ◌%◌, ◌^◌, ◌<◌, ◌≤◌, sym, ap, ◌∙◌, subst, le_trans, le_of_eq, lt_of_lt_of_le, mul_assoc, add_comm, mul-le-mul_left, mul-one, arith, pow_pos, pow_mono, pow-add, shl_lt, shl_exact, rules}
+use Rattle.std.proofs.Common.{◌≡◌, ℕ, suc, ◌+◌, ◌-◌, ◌*◌, ◌/◌, ◌%◌, ◌^◌, ◌<◌, ◌≤◌, sym, ap, ◌∙◌, subst, le_trans, le_of_eq, lt_of_lt_of_le, mul_assoc, add_comm, mul-le-mul_left, mul-one, arith, pow_pos, pow_mono, pow-add, shl_lt, shl_exact}
 use lib.Ieee.{binary32}
 use Rattle.numbers.proofs.Squares.{Near, near_lt}
 use Rattle.numbers.proofs.Roots.{pattern}

@@ -1,6 +1,6 @@
 -- `numbers::root::sqrt_bits` meets its contract: `RootFields.antt` has each of the code's cases.
 -- Assumes nothing.
-use Rattle.std.proofs.Common.{ℕ, ◌%◌, ◌^◌, sym, ap, ◌∙◌, le_trans, le_of_eq, lt_of_le_of_lt, arith, rules}
+use Rattle.std.proofs.Common.{ℕ, ◌%◌, ◌^◌, sym, ap, ◌∙◌, le_trans, le_of_eq, lt_of_le_of_lt, arith}
 use lib.Ieee.{binary32, to_bits}
 use Rattle.numbers.proofs.RootFields.{infinite, Moved, low_moved, subnormal, normal}
 use Rattle.numbers.proofs.root.sqrt_bits.Goals as goal

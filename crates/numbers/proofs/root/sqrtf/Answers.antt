@@ -1,7 +1,7 @@
 -- `numbers::root::sqrtf` meets its contract: above zero the root is read back from its pattern, a zero is its own root, and all else is a NaN.
 -- Assumes nothing.
 use Rattle.std.proofs.Common.{◌≡◌, T, sym, ap, ◌∙◌, subst, lt_of_lt_of_le, lit≤}
-use lib.Ieee.{Float, nan, binary32, lt, fits, of_bits, to_bits}
+use lib.Ieee.{Float, binary32, lt, fits, of_bits, to_bits}
 use lib.Ieee.Bits.{of_bits-to_bits, to_bits-lt}
 use Rattle.numbers.specs.Root.{sqrt}
 use Rattle.numbers.proofs.Tests.{yes, no}

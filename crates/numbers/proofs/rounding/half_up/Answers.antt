@@ -1,7 +1,7 @@
 -- `numbers::rounding::half_up` meets its contract: `Halves.antt` at binary64.
 -- Assumes nothing.
 use Rattle.std.proofs.Common.{ℕ, ◌+◌, ◌/◌, ◌^◌, ◌<◌, ◌≤◌, T, pos, sym, ap, ◌∙◌, subst, arith, le→leb}
-use lib.Ieee.{binary64, fits, of_int, of_bits, in_float}
+use lib.Ieee.{binary64, of_int, of_bits, in_float}
 use Rattle.numbers.proofs.Tests.{yes, no}
 use Rattle.numbers.proofs.Halves.{Up, up_of, stays}
 use Rattle.numbers.proofs.rounding.half_up.Goals as goal

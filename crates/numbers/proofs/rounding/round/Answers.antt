@@ -1,6 +1,6 @@
 -- `numbers::rounding::round` meets its contract: `Halves.antt` at binary64.
 -- Assumes nothing.
-use Rattle.std.proofs.Common.{ap, ◌∙◌, rules}
+use Rattle.std.proofs.Common.{ap, ◌∙◌}
 use lib.Ieee.{binary64, neg, of_bits}
 use Rattle.numbers.proofs.Tests.{yes, no}
 use Rattle.numbers.proofs.Halves.{turned, turned_over, neither}

@@ -1,6 +1,6 @@
 -- `numbers::rounding::roundf` meets its contract: `Halves.antt` at binary32.
 -- Assumes nothing.
-use Rattle.std.proofs.Common.{ap, ◌∙◌, rules}
+use Rattle.std.proofs.Common.{ap, ◌∙◌}
 use lib.Ieee.{binary32, neg, of_bits}
 use Rattle.numbers.proofs.Tests.{yes, no}
 use Rattle.numbers.proofs.Halves.{turned, turned_over, neither}

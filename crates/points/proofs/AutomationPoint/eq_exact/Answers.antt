@@ -2,7 +2,6 @@ use mathlib.Core.Path.{sym, ap, ◌∙◌}
 use Rattle.numbers.proofs.Tests.{and_both}
 use Rattle.points.specs.Refusal.{gives}
 use Rattle.points.specs.Point.{points_equal}
-use borrow.Author.Rules.{rules}
 use Rattle.points.proofs.AutomationPoint.eq_exact.Goals as goal
 
 pub returns-then-is_finite : goal.returns-then-is_finite

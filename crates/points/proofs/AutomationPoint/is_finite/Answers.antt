@@ -1,4 +1,3 @@
-use borrow.Author.Rules.{rules}
 use Rattle.points.proofs.AutomationPoint.is_finite.Goals as goal
 
 pub returns : goal.returns

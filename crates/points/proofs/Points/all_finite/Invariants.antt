@@ -1,11 +1,8 @@
-use Prim.Native.Nat.{ℕ, ◌≤◌, ◌-◌}
-use mathlib.Core.Path.{◌≡◌, refl, ap, ◌∙◌}
-use native.Mathlib.Omega.{arith}
+use Prim.Native.Nat.{◌≤◌, ◌-◌}
+use mathlib.Core.Path.{◌≡◌}
 use lib.ListN.{take}
-use Rattle.points.specs.Point.{finite_point, any_point}
+use Rattle.points.specs.Point.{finite_point}
 use Rattle.points.specs.Points.{every}
-use Rattle.points.proofs.Laws.{every_more, take_min}
-use Rattle.points.proofs.Good.{places}
 use Rattle.points.proofs.Points.all_finite.Given as goal
 
 abbrev pub invariant-loop-i : goal.invariant-loop-i

@@ -1,5 +1,5 @@
 -- `points::Points::is_valid` meets its contract: a loop for each of the three tests. Assumes nothing.
-use Prim.Native.Nat.{ℕ, ◌+◌, ◌≤◌, ◌-◌, max}
+use Prim.Native.Nat.{ℕ, ◌+◌, ◌-◌}
 use mathlib.Core.Path.{◌≡◌, refl, sym, ap, ◌∙◌}
 use native.Mathlib.Omega.{arith}
 use native.Mathlib.Nat.{sub_self}
@@ -8,7 +8,7 @@ use lib.Seq.{take_all}
 use borrow.Author.Tests.{lt-leb, le-leb}
 use Rattle.numbers.proofs.Tests.{and_both}
 use Rattle.points.specs.Point.{any_point, finite_point, is_unused}
-use Rattle.points.specs.Points.{every, time_key, rising, valid_points}
+use Rattle.points.specs.Points.{every, time_key, valid_points}
 use Rattle.points.proofs.Laws.{every_more, every_rest, rising_next, rising_one, rising_end}
 use Rattle.points.proofs.Good.{places}
 use Rattle.points.proofs.Points.is_valid.Goals as goal

@@ -1,16 +1,9 @@
 -- `points::Points::is_valid` meets its contract: a loop for each of the three tests. Assumes nothing.
-use Prim.Native.Nat.{ℕ, ◌+◌, ◌≤◌, ◌-◌, max}
-use mathlib.Core.Path.{◌≡◌, refl, sym, ap, ◌∙◌}
-use native.Mathlib.Omega.{arith}
-use native.Mathlib.Nat.{sub_self}
-use lib.ListN.{take, drop, get_or, length-drop}
-use lib.Seq.{take_all}
-use borrow.Author.Tests.{lt-leb, le-leb}
-use Rattle.numbers.proofs.Tests.{and_both}
+use Prim.Native.Nat.{◌≤◌, ◌-◌, max}
+use mathlib.Core.Path.{◌≡◌}
+use lib.ListN.{take, drop, get_or}
 use Rattle.points.specs.Point.{any_point, finite_point, is_unused}
-use Rattle.points.specs.Points.{every, time_key, rising, valid_points}
-use Rattle.points.proofs.Laws.{every_more, every_rest, rising_next, rising_one, rising_end}
-use Rattle.points.proofs.Good.{places}
+use Rattle.points.specs.Points.{every, time_key, rising}
 use Rattle.points.proofs.Points.is_valid.Given as goal
 
 abbrev pub invariant-loop-i : goal.invariant-loop-i

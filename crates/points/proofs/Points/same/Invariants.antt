@@ -1,11 +1,8 @@
-use Prim.Native.Nat.{ℕ, ◌≤◌, ◌-◌, min}
-use mathlib.Core.Path.{◌≡◌, sym, ap, ◌∙◌}
-use native.Mathlib.Omega.{arith}
-use lib.ListN.{length, take, length-take}
-use Rattle.points.specs.Point.{matching, any_point}
-use Rattle.points.specs.Points.{list_of, every_pair}
-use Rattle.points.proofs.Laws.{pair_none, pair_more, pair_length, take_min}
-use Rattle.points.proofs.Good.{places}
+use Prim.Native.Nat.{◌≤◌, ◌-◌}
+use mathlib.Core.Path.{◌≡◌}
+use lib.ListN.{take}
+use Rattle.points.specs.Point.{matching}
+use Rattle.points.specs.Points.{every_pair}
 use Rattle.points.proofs.Points.same.Given as goal
 
 abbrev pub invariant-loop-i : goal.invariant-loop-i

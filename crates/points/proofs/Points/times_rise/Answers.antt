@@ -1,5 +1,5 @@
-use Prim.Native.Nat.{ℕ, ◌≤◌, ◌-◌, max}
-use mathlib.Core.Path.{◌≡◌, sym, ap, ◌∙◌}
+use Prim.Native.Nat.{ℕ}
+use mathlib.Core.Path.{sym, ap, ◌∙◌}
 use native.Mathlib.Omega.{arith}
 use lib.ListN.{take}
 use Rattle.points.specs.Point.{any_point}

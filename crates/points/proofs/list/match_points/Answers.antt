@@ -1,4 +1,3 @@
-use borrow.Author.Rules.{rules}
 use Rattle.points.proofs.list.match_points.Goals as goal
 
 pub returns-then-exact : goal.returns-then-exact

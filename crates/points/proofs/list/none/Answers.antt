@@ -2,7 +2,6 @@ use mathlib.Core.Path.{ap}
 use lib.ListN.{replicate}
 use Rattle.points.specs.declared.AutomationPoint.{AutomationPoint}
 use Rattle.points.specs.declared.Points.{Points}
-use borrow.Author.Rules.{rules}
 use Rattle.points.proofs.list.none.Goals as goal
 
 pub returns : goal.returns
