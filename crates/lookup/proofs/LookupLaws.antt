@@ -100,14 +100,14 @@ module _ {A : Type 0} (end : AutomationPoint → A) (way : Float → AutomationP
 
   pub raw_one : n ≡ 1 → found_at end way (take n ps) time ≡ some (end (point_at ps 0))
   unfolding found_at
-  raw_one e = found_one end _ _ _ ps n f e
+  raw_one e = found_one end (λ p. le time p.time) (λ p. le p.time time) (surrounded time_key (order_key time) (way time) (take n ps)) ps n f e
 
   raw_two : 2 ≤ n
       → found_at end way (take n ps) time
       ≡ cond (le time (point_at ps 0).time) (some (end (point_at ps 0)))
       (cond (le (point_at ps (n - 1)).time time) (some (end (point_at ps (n - 1)))) (surrounded time_key (order_key time) (way time) (take n ps)))
   unfolding found_at
-  raw_two w = found_two end _ _ _ ps n f w
+  raw_two w = found_two end (λ p. le time p.time) (λ p. le p.time time) (surrounded time_key (order_key time) (way time) (take n ps)) ps n f w
 
   pub raw_first : 2 ≤ n → le time (point_at ps 0).time ≡ true → found_at end way (take n ps) time ≡ some (end (point_at ps 0))
   raw_first w a = raw_two w ∙ rw a
@@ -141,14 +141,14 @@ module _ {A : Type 0} (end : AutomationPoint → A) (way : ℕ → AutomationPoi
 
   pub sample_one : n ≡ 1 → found_at_sample end way (take n ps) sample ≡ some (end (point_at ps 0))
   unfolding found_at_sample
-  sample_one e = found_one end _ _ _ ps n f e
+  sample_one e = found_one end (λ p. leb sample (key_from p.sample_position 0)) (λ p. leb (sample_key p) sample) (surrounded sample_key sample (way sample) (take n ps)) ps n f e
 
   sample_two : 2 ≤ n
       → found_at_sample end way (take n ps) sample
       ≡ cond (leb sample (key_from (point_at ps 0).sample_position 0)) (some (end (point_at ps 0)))
       (cond (leb (sample_key (point_at ps (n - 1))) sample) (some (end (point_at ps (n - 1)))) (surrounded sample_key sample (way sample) (take n ps)))
   unfolding found_at_sample
-  sample_two w = found_two end _ _ _ ps n f w
+  sample_two w = found_two end (λ p. leb sample (key_from p.sample_position 0)) (λ p. leb (sample_key p) sample) (surrounded sample_key sample (way sample) (take n ps)) ps n f w
 
   pub sample_first : 2 ≤ n → sample ≤ key_from (point_at ps 0).sample_position 0 → found_at_sample end way (take n ps) sample ≡ some (end (point_at ps 0))
   sample_first w a = sample_two w ∙ rw (le-leb sample (key_from (point_at ps 0).sample_position 0) a)

@@ -1,5 +1,5 @@
 -- `lookup::place::keys` meets its contract: `KeysFilled` says that the keys of the first i points stand there and 0 in the rest; a turn writes the next
--- (`keys-turn`), n - i falls, and at `used` these are all the points, as there are 256 places (`take_min`).
+-- (`keys_turn`), n - i falls, and at `used` these are all the points, as there are 256 places (`take_min`).
 use Prim.Native.Nat.{ℕ, ◌≤◌, ◌-◌, min}
 use mathlib.Core.Path.{◌≡◌, refl, ap, ap₂, ◌∙◌}
 use mathlib.Core.List.{List, ◌++◌, map}

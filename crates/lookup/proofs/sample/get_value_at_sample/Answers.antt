@@ -1,5 +1,5 @@
--- `lookup::sample::get_value_at_sample` meets its contract: not valid is refusal 1; disabled is silent whatever the keys (`keys-rise-off`, `heard-off`).
--- Enabled, keys that don't rise are refusal 7 (`keys-rise-is`), else both requirements of `raw_at_sample` hold and `heard-on` constrains its answer.
+-- `lookup::sample::get_value_at_sample` meets its contract: not valid is refusal 1; disabled is silent whatever the keys (`keys_rise_off`, `heard_off`).
+-- Enabled, keys that don't rise are refusal 7 (`keys_rise_is`), else both requirements of `raw_at_sample` hold and `heard_on` constrains its answer.
 use mathlib.Core.Path.{sym, ap, ◌∙◌}
 use Rattle.numbers.proofs.Tests.{and_right}
 use Rattle.points.specs.Points.{valid_points, list_of}

@@ -1,5 +1,5 @@
--- `lookup::sample::raw_at_sample` meets its contract: the ends are `sample-none`, `sample-one`, `sample-first` and `sample-last`. Between
--- them the bisection keeps `Halving`; as the keys rise (required) it ends at the sample's place, and around it the lookup is `sample-around`.
+-- `lookup::sample::raw_at_sample` meets its contract: the ends are `sample_none`, `sample_one`, `sample_first` and `sample_last`. Between
+-- them the bisection keeps `Halving`; as the keys rise (required) it ends at the sample's place, and around it the lookup is `sample_around`.
 use Prim.Native.Nat.{◌+◌, ◌-◌, ◌/◌}
 use mathlib.Core.Path.{sym, ap, ◌∙◌}
 use native.Mathlib.Omega.{arith}

@@ -1,5 +1,5 @@
--- `lookup::time::raw_at` meets its contract: the ends are `raw-none`, `raw-one`, `raw-first` and `raw-last`. Between them the bisection
--- keeps `Halving`; as the keys rise (`valid-rising`) it ends at the time's place, and around that place the lookup is `raw-around`.
+-- `lookup::time::raw_at` meets its contract: the ends are `raw_none`, `raw_one`, `raw_first` and `raw_last`. Between them the bisection
+-- keeps `Halving`; as the keys rise (`valid_rising`) it ends at the time's place, and around that place the lookup is `raw_around`.
 use Prim.Native.Nat.{◌+◌, ◌-◌, ◌/◌}
 use mathlib.Core.Path.{sym, ap, ◌∙◌}
 use native.Mathlib.Omega.{arith}

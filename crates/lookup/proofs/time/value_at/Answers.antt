@@ -1,4 +1,4 @@
--- `lookup::time::value_at` meets its contract: enabled, to constrain the answer of `raw_at` is to constrain what is heard (`heard-on`); disabled, nothing is heard (`heard-off`).
+-- `lookup::time::value_at` meets its contract: enabled, to constrain the answer of `raw_at` is to constrain what is heard (`heard_on`); disabled, nothing is heard (`heard_off`).
 use mathlib.Core.Path.{ap, ◌∙◌}
 use Rattle.points.specs.Points.{list_of}
 use Rattle.lookup.specs.Lookup.{raw_at, told}
