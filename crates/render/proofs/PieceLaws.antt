@@ -51,7 +51,7 @@ module _ (points : Points) (enabled : Bool) (limits : Limits) (rate : Float) whe
   rendered : (first count place : ℕ) (buffer : List Float) → Passed points limits rate first count place buffer
       → render points enabled limits rate first count place buffer ≡ record { said = gives tt; buffer = written place (run (sample_at points enabled limits rate) first count) buffer }
   rendered first count place buffer p =
-      render_runs points enabled limits rate first count place buffer p.valid-is p.finite-is ∙ accepted (sample_at points enabled limits rate) first count place buffer p.few p.room
+      render_runs points enabled limits rate first count place buffer p.valid_is p.finite_is ∙ accepted (sample_at points enabled limits rate) first count place buffer p.few p.room
 
   cut_run : (first place : ℕ) (buffer : List Float) (counts : List ℕ) → (render points enabled limits rate first (total counts) place buffer).said ≡ gives tt
       → pieces points enabled limits rate first place buffer counts
@@ -65,11 +65,11 @@ module _ (points : Points) (enabled : Bool) (limits : Limits) (rate : Float) whe
       let f = sample_at points enabled limits rate in
       let m = total counts in
       let p = passed first (n + m) place buffer h in
-      let w = rendered first n place buffer (record { valid_is = p.valid-is; finite_is = p.finite-is; few = omega arith; room = omega arith }) in
+      let w = rendered first n place buffer (record { valid_is = p.valid_is; finite_is = p.finite_is; few = omega arith; room = omega arith }) in
       let b = (render points enabled limits rate first n place buffer).buffer in
       let e : b ≡ written place (run f first n) buffer = ap (λ (x : Rendered). x.buffer) w in
       let long : length b ≡ length buffer = ap length e ∙ written_long f first n m place buffer p.room in
-      let next = rendered (first + n) m (place + n) b (record { valid_is = p.valid-is; finite_is = p.finite-is; few = omega arith; room = omega arith }) in
+      let next = rendered (first + n) m (place + n) b (record { valid_is = p.valid_is; finite_is = p.finite_is; few = omega arith; room = omega arith }) in
       let rest = cut_run (first + n) (place + n) b counts (ap (λ (x : Rendered). x.said) next) in
       let same : (pieces points enabled limits rate (first + n) (place + n) b counts).buffer ≡ (render points enabled limits rate first (n + m) place buffer).buffer =
       ap (λ (x : Pieces). x.buffer) rest ∙ ap (λ (x : Rendered). x.buffer) next ∙ ap (written (place + n) (run f (first + n) m)) e

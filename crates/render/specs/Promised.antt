@@ -6,7 +6,7 @@ use Rattle.limits.specs.declared.Limits.{Limits}
 use Rattle.render.specs.Render.{render}
 use Rattle.render.specs.Pieces.{total, pieces}
 
--- 01, "Rendering": "If the run isn't refused, no piece is, and they leave the buffer that it leaves" (`no-piece-refused`, proofs/PieceLaws)
+-- 01, "Rendering": "If the run isn't refused, no piece is, and they leave the buffer that it leaves" (`no_piece_refused`, proofs/PieceLaws)
 abbrev pub NoPieceRefused : Type 0
 NoPieceRefused =
     (points : Points) (enabled : Bool) (limits : Limits) (rate : Float) (first place : ℕ) (buffer : List Float) (counts : List ℕ)

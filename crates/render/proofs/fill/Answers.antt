@@ -1,5 +1,5 @@
--- `render::fill` meets its contract: a turn writes v at one more place (`run-turn` of a constant), and the places left get fewer;
--- the run that stands at the end (`run_end`) is `replicate` (`run-constant`).
+-- `render::fill` meets its contract: a turn writes v at one more place (`run_turn` of a constant), and the places left get fewer;
+-- the run that stands at the end (`run_end`) is `replicate` (`run_constant`).
 use Prim.Native.Nat.{◌≤◌, ◌-◌}
 use mathlib.Core.Path.{◌≡◌, refl, ◌∙◌}
 use mathlib.Core.List.{◌++◌}

@@ -1,4 +1,4 @@
--- `render::iter_samples` meets its contract: each way out is a law: refusal 1 is `open-invalid`, 3 `open-infinite`, 13 `open-too-many`,
+-- `render::iter_samples` meets its contract: each way out is a law: refusal 1 is `open_invalid`, 3 `open_infinite`, 13 `open_too_many`,
 -- and the walk is `opened`, with the count that `f64_to_u64` ensures.
 use mathlib.Core.Path.{sym, ◌∙◌}
 use borrow.Author.Rules.{rules}

@@ -1,4 +1,4 @@
--- `render::render` meets its contract: refusal 1 is `render-invalid` and 3 `render-infinite`; past both tests the rendering is `runInto` (`render-runs`),
+-- `render::render` meets its contract: refusal 1 is `render_invalid` and 3 `render_infinite`; past both tests the rendering is `run_into` (`render_runs`),
 -- which `run_into` ensures for points that are valid (`and_right`).
 use mathlib.Core.Path.{refl, sym, ◌∙◌}
 use borrow.Author.Rules.{rules}

@@ -1,5 +1,5 @@
 -- `render::run_into` meets its contract: refusal 13 is `too_many`, by two tests that can't overflow, and 8 `no_room`; no samples leave the buffer
--- (`none_written`), and else the lent part, back from `write_samples`, is the run written from the place on (`part-back`, `accepted`).
+-- (`none_written`), and else the lent part, back from `write_samples`, is the run written from the place on (`part_back`, `accepted`).
 use mathlib.Core.Path.{refl, sym}
 use native.Mathlib.Omega.{arith}
 use borrow.Author.Rules.{rules}

@@ -1,5 +1,5 @@
--- `render::to_buffer` meets its contract: refusal 1 is `buffer-invalid` and 3 `buffer-infinite`; past both tests it is `runInto` from sample 0
--- (`buffer-runs`), with the count that `f64_to_u64` ensures.
+-- `render::to_buffer` meets its contract: refusal 1 is `buffer_invalid` and 3 `buffer_infinite`; past both tests it is `run_into` from sample 0
+-- (`buffer_runs`), with the count that `f64_to_u64` ensures.
 use Prim.Native.Nat.{ℕ}
 use mathlib.Core.Path.{refl, sym, ap, ◌∙◌}
 use borrow.Author.Rules.{rules}

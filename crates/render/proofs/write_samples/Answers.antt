@@ -1,5 +1,5 @@
 -- `render::write_samples` meets its contract: disabled, with no point or with one, every sample is the number that `fill` writes
--- (`off-run`, `none-run`, `one-run`); with more they are what `write_segments` ensures (`on-run`).
+-- (`off_run`, `none_run`, `one_run`); with more they are what `write_segments` ensures (`on_run`).
 use mathlib.Core.Path.{◌∙◌}
 use borrow.Author.Rules.{rules}
 use Rattle.points.proofs.Good.{inside}

@@ -1,11 +1,12 @@
 -- `render::write_segments` meets its contract: the loop has the first i samples written, and fewer are left each turn. Between the first point and the last
--- the search ends between two (`search-inside`) and a stretch is added (`stretch-written`, `run-part`), elsewhere one sample (`outside-sample`, `run-turn`).
+-- the search ends between two (`search_inside`) and a stretch is added (`stretch_written`, `run_part`), elsewhere one sample (`outside_sample`, `run_turn`).
 use Prim.Native.Nat.{ℕ, ◌+◌, ◌≤◌, ◌<◌, ◌-◌}
 use mathlib.Core.Path.{◌≡◌, refl, ap, ◌∙◌}
 use mathlib.Core.Bool.{true}
-use mathlib.Core.List.{◌++◌}
+use mathlib.Core.List.{List, ◌++◌}
 use native.Mathlib.Omega.{arith}
 use lib.ListN.{length, take, drop, length-set}
+use lib.Ieee.{Float}
 use Rattle.lookup.proofs.LookupLaws.{valid_count}
 use Rattle.render.specs.Render.{sample_or}
 use Rattle.lookup.specs.Runs.{run}
@@ -30,17 +31,9 @@ found c =
     (p.0, p.1, valid_count a.points pre.0)
 
 -- the stretch ends inside the buffer, and its samples are a u32's
-ends_inside : (c : goal.After-write_stretch-m) →
-    let args = c.args in
-    let loop = c.loop-i in
-    (loop.i + c.write_stretch-m.result ≤ length args.out.now) × (loop.k + c.write_stretch-m.result ≤ 4294967295)
-ends_inside c =
-    let pre = c.requires in
-    let a = c.args in
-    let h = c.loop-i in
-    let l = part_long h.i (length a.out.now) h.out h.invariant.1 h.invariant.0 in
-    let q = c.write_stretch-m.ensures.most in
-    (omega arith, omega (arith, pre.2, h.invariant.2))
+ends_inside : (o out : List Float) (first i k m : ℕ) → i ≤ length o → length out ≡ length o → k ≡ first + i → first + length o ≤ 4294967295
+    → m ≤ length (take (length o - i) (drop i out)) → (i + m ≤ length o) × (k + m ≤ 4294967295)
+ends_inside o out first i k m p q r s t = let l = part_long i (length o) out q p in (omega arith, omega arith)
 
 pub bounds-points-0 : goal.bounds-points-0
 bounds-points-0 c = omega arith
@@ -68,10 +61,16 @@ pub bounds-points-j : goal.bounds-points-j
 bounds-points-j c = omega (arith, found c)
 
 pub offset_bounds-points-j-then-ends-time : goal.offset_bounds-points-j-then-ends-time
-offset_bounds-points-j-then-ends-time c = omega (arith, found c.before)
+offset_bounds-points-j-then-ends-time c =
+    let p = search_inside c.args.points _ c.well_formed.0 c.requires.0 c.requires.1 c.keys-keys.result c.keys-keys.ensures c.args.rate c.loop-i.k
+    c.if-ends-time.true c.order_key-key.result c.search-j.result c.order_key-key.ensures c.search-j.ensures in
+    omega (arith, p.0, p.1, valid_count c.args.points c.requires.0)
 
 pub bounds-points-j-then-ends-time : goal.bounds-points-j-then-ends-time
-bounds-points-j-then-ends-time c = omega (arith, found c.before)
+bounds-points-j-then-ends-time c =
+    let p = search_inside c.args.points _ c.well_formed.0 c.requires.0 c.requires.1 c.keys-keys.result c.keys-keys.ensures c.args.rate c.loop-i.k
+    c.if-ends-time.true c.order_key-key.result c.search-j.result c.order_key-key.ensures c.search-j.ensures in
+    omega (arith, p.0, p.1, valid_count c.args.points c.requires.0)
 
 pub offset_bounds-out-i : goal.offset_bounds-out-i
 offset_bounds-out-i c = omega arith
@@ -96,17 +95,27 @@ write_stretch-m-requires c =
 pub overflow_add-i : goal.overflow_add-i
 overflow_add-i c =
     let pre = c.requires in
-    let e = ends_inside c.before.before in
+    let h = c.loop-i in
+    let e = ends_inside c.args.out.now h.out c.args.first h.i h.k c.write_stretch-m.result h.invariant.0 h.invariant.1 h.invariant.2 c.requires.2 c.write_stretch-m.ensures.most in
     omega (arith, e.0, e.1, pre.2)
 
 pub overflow_cast-k : goal.overflow_cast-k
-overflow_cast-k c = omega (arith, (ends_inside c.before.before).1)
+overflow_cast-k c =
+    let h = c.loop-i in
+    let e = ends_inside c.args.out.now h.out c.args.first h.i h.k c.write_stretch-m.result h.invariant.0 h.invariant.1 h.invariant.2 c.requires.2 c.write_stretch-m.ensures.most in
+    omega (arith, e.1)
 
 pub overflow_add-k : goal.overflow_add-k
-overflow_add-k c = omega (arith, (ends_inside c.before.before).1)
+overflow_add-k c =
+    let h = c.loop-i in
+    let e = ends_inside c.args.out.now h.out c.args.first h.i h.k c.write_stretch-m.result h.invariant.0 h.invariant.1 h.invariant.2 c.requires.2 c.write_stretch-m.ensures.most in
+    omega (arith, e.1)
 
 pub loop-i-smaller-then-ends-time : goal.loop-i-smaller-then-ends-time
-loop-i-smaller-then-ends-time c = omega (arith, (ends_inside c.before.before).0, c.write_stretch-m.ensures.least)
+loop-i-smaller-then-ends-time c =
+    let h = c.loop-i in
+    let e = ends_inside c.args.out.now h.out c.args.first h.i h.k c.write_stretch-m.result h.invariant.0 h.invariant.1 h.invariant.2 c.requires.2 c.write_stretch-m.ensures.most in
+    omega (arith, e.0, c.write_stretch-m.ensures.least)
 
 pub loop-i-preserved-then-ends-time : goal.loop-i-preserved-then-ends-time
 loop-i-preserved-then-ends-time c =

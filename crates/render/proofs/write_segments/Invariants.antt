@@ -1,5 +1,5 @@
 -- `render::write_segments` meets its contract: the loop has the first i samples written, and fewer are left each turn. Between the first point and the last
--- the search ends between two (`search-inside`) and a stretch is added (`stretch-written`, `run-part`), elsewhere one sample (`outside-sample`, `run-turn`).
+-- the search ends between two (`search_inside`) and a stretch is added (`stretch_written`, `run_part`), elsewhere one sample (`outside_sample`, `run_turn`).
 use Prim.Native.Nat.{ℕ, ◌+◌, ◌≤◌, ◌<◌, ◌-◌}
 use mathlib.Core.Path.{◌≡◌, refl, ap, ◌∙◌}
 use mathlib.Core.Bool.{true}

@@ -1,5 +1,5 @@
--- `render::write_stretch` meets its contract: the loop has i samples of the segment written (`run-turn`), the times of all but the first inside it
--- (`below_more`), and i rises; out at a time that lies outside, or at the buffer's end, that is `Stretch` (`stretch-end`).
+-- `render::write_stretch` meets its contract: the loop has i samples of the segment written (`run_turn`), the times of all but the first inside it
+-- (`below_more`), and i rises; out at a time that lies outside, or at the buffer's end, that is `Stretch` (`stretch_end`).
 use Prim.Native.Nat.{ℕ, ◌+◌, ◌≤◌, ◌<◌, ◌-◌}
 use mathlib.Core.Path.{◌≡◌, refl, sym, ap, ◌∙◌}
 use mathlib.Core.Bool.{true}

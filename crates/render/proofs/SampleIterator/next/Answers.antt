@@ -1,5 +1,5 @@
--- `render::SampleIterator::next` meets its contract: each way out is a law, and `next-invalid`, `next-infinite`, `next-too-many` and `next-over` leave the walk.
--- Else it is `next-is`: the place is below 2^53, so exact as an f64, and a valid envelope's lookup isn't refused (`lookup-given`).
+-- `render::SampleIterator::next` meets its contract: each way out is a law, and `next_invalid`, `next_infinite`, `next_too_many` and `next_over` leave the walk.
+-- Else it is `next-is`: the place is below 2^53, so exact as an f64, and a valid envelope's lookup isn't refused (`lookup_given`).
 use Prim.Native.Nat.{◌+◌, ◌^◌}
 use mathlib.Core.Path.{sym, ap, ◌∙◌}
 use mathlib.Core.Option.{Option}

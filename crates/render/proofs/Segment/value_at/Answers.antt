@@ -1,5 +1,5 @@
--- `render::Segment::value_at` meets its contract: a Bezier curve written out is `interpolated` (`by-bezier`), and the others call `interpolate`;
--- fraction and constraints are those of `segmentAt`, as the calls ensure.
+-- `render::Segment::value_at` meets its contract: a Bezier curve written out is `interpolated` (`by_bezier`), and the others call `interpolate`;
+-- fraction and constraints are those of `segment_at`, as the calls ensure.
 use mathlib.Core.Path.{◌≡◌, sym, ap, ◌∙◌}
 use lib.Ieee.{Float, binary32, add, sub, mul}
 use borrow.Author.Rules.{rules}
@@ -25,12 +25,11 @@ returns-in-Bezier c =
     let a = c.args in
     let s = a.self in
     let t = c.fraction-t in
-    let k = bezier.given in
     c.apply_constraints.ensures
     ∙ ap (constrained a.limits)
     (ap (λ (x : Float). add binary32 s.start (mul binary32 (sub binary32 s.end s.start) x))
-    (cubic-bezier.ensures ∙ ap (λ (x : Float). cubic_bezier x k.0.0 k.0.1.0) clamp.ensures)
-    ∙ sym (by_bezier s.curve s.start s.end t.result k.0.0 k.0.1.0 k.1)
+    (cubic-bezier.ensures ∙ ap (λ (x : Float). cubic_bezier x bezier.cp1 bezier.cp2) clamp.ensures)
+    ∙ sym (by_bezier s.curve s.start s.end t.result bezier.cp1 bezier.cp2 bezier.is)
     ∙ ap (interpolated s.curve s.start s.end) t.ensures)
 
 pub returns-in_default : goal.returns-in_default
