@@ -1,21 +1,9 @@
 -- `analysis::bounds_of_times` meets its contract. Assumes nothing.
-use Prim.Native.Nat.{ℕ, ◌≤◌, ◌-◌}
-use mathlib.Core.Path.{◌≡◌, ap, ◌∙◌}
+use Prim.Native.Nat.{◌≤◌, ◌-◌}
+use mathlib.Core.Path.{◌≡◌}
 use mathlib.Core.Bool.{true}
 use mathlib.Core.List.{foldl}
-use mathlib.Core.Option.{some}
-use native.Mathlib.Omega.{arith}
-use Rattle.points.proofs.Good.{inside}
-use Rattle.numbers.specs.Order.{order_key}
-use Rattle.points.specs.Points.{time_key}
-use Rattle.points.specs.Refusal.{gives}
-use Rattle.lookup.specs.Lookup.{value_at, told}
-use Rattle.lookup.proofs.LookupLaws.{valid_count, valid_rising}
-use Rattle.analysis.specs.Analysis.{given_values, range_time}
-use Rattle.lookup.specs.Runs.{run}
 use Rattle.analysis.specs.Ranges.{no_values, widen, values_at_times}
-use Rattle.lookup.proofs.KeyLaws.{keys_place}
-use Rattle.analysis.proofs.Ranges.{lookup_turn, time_early, time_late, time_inner}
 use Rattle.analysis.proofs.bounds_of_times.Given as goal
 
 abbrev pub invariant-loop-i : goal.invariant-loop-i

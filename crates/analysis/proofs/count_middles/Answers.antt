@@ -1,10 +1,9 @@
 -- `analysis::count_middles` meets its contract. Assumes nothing.
-use Prim.Native.Nat.{ℕ, ◌+◌, ◌≤◌, ◌-◌, max}
-use mathlib.Core.Path.{◌≡◌, sym, ap, ◌∙◌}
+use Prim.Native.Nat.{ℕ, ◌+◌}
+use mathlib.Core.Path.{sym, ap, ◌∙◌}
 use native.Mathlib.Omega.{arith}
-use lib.ListN.{length, take}
+use lib.ListN.{length}
 use Rattle.points.specs.Point.{any_point}
-use Rattle.points.specs.Middles.{middles}
 use Rattle.points.proofs.MiddleLaws.{middles_two, middles_no}
 use Rattle.analysis.specs.Ranges.{middle_test}
 use Rattle.points.proofs.Good.{places}

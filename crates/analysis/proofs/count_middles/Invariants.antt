@@ -1,14 +1,9 @@
 -- `analysis::count_middles` meets its contract. Assumes nothing.
-use Prim.Native.Nat.{ℕ, ◌+◌, ◌≤◌, ◌-◌, max}
-use mathlib.Core.Path.{◌≡◌, sym, ap, ◌∙◌}
-use native.Mathlib.Omega.{arith}
+use Prim.Native.Nat.{◌≤◌, ◌-◌, max}
+use mathlib.Core.Path.{◌≡◌}
 use lib.ListN.{length, take}
-use Rattle.points.specs.Point.{any_point}
 use Rattle.points.specs.Middles.{middles}
-use Rattle.points.proofs.MiddleLaws.{middles_two, middles_no}
 use Rattle.analysis.specs.Ranges.{middle_test}
-use Rattle.points.proofs.Good.{places}
-use Rattle.analysis.proofs.Middles.{middles_next, middles_all}
 use Rattle.analysis.proofs.count_middles.Given as goal
 
 abbrev pub invariant-loop-i : goal.invariant-loop-i

@@ -1,7 +1,6 @@
 -- `analysis::enabled_keys_rise` meets its contract. Assumes nothing.
 use mathlib.Core.Path.{sym, ◌∙◌}
 use Rattle.lookup.proofs.LookupLaws.{keys_rise_is}
-use borrow.Author.Rules.{rules}
 use Rattle.analysis.proofs.enabled_keys_rise.Goals as goal
 
 pub returns-then-enabled : goal.returns-then-enabled

@@ -8,7 +8,6 @@ use Rattle.numbers.proofs.Tests.{and_left, and_right}
 use Rattle.analysis.specs.Analysis.{Filled}
 use Rattle.analysis.specs.Ranges.{middle_test}
 use Rattle.analysis.proofs.Middles.{find_invalid, find_short, find_filled}
-use borrow.Author.Rules.{rules}
 use Rattle.analysis.proofs.find_middles.Goals as goal
 
 pub write_middles-requires : goal.write_middles-requires

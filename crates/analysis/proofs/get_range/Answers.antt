@@ -9,7 +9,6 @@ use Rattle.analysis.specs.Analysis.{raw_inside, get_range}
 use Rattle.analysis.specs.Ranges.{no_values, widen, as_range, values_at_times}
 use Rattle.analysis.specs.declared.Bounds.{Bounds}
 use Rattle.analysis.proofs.Ranges.{range_is}
-use borrow.Author.Rules.{rules}
 use Rattle.analysis.proofs.get_range.Goals as goal
 
 pub times_range-requires : goal.times_range-requires

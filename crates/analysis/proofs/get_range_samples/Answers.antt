@@ -13,7 +13,6 @@ use Rattle.limits.specs.Limits.{finite_limits}
 use Rattle.analysis.specs.Analysis.{get_range_samples, sample_step, sample_stops}
 use Rattle.analysis.specs.Ranges.{no_values, widen, as_range, values_at_samples}
 use Rattle.analysis.proofs.Ranges.{range_is, stops_few}
-use borrow.Author.Rules.{rules}
 use Rattle.analysis.proofs.get_range_samples.Goals as goal
 
 pub overflow_add-stops : goal.overflow_add-stops

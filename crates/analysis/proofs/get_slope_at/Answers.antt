@@ -11,7 +11,6 @@ use Rattle.lookup.specs.Lookup.{get_value_at}
 use Rattle.analysis.specs.Analysis.{get_slope_at}
 use Rattle.analysis.specs.Ranges.{slope_said}
 use Rattle.analysis.proofs.Ranges.{slope_either}
-use borrow.Author.Rules.{rules}
 use Rattle.analysis.proofs.get_slope_at.Goals as goal
 
 pub returns-then-is_valid : goal.returns-then-is_valid

@@ -2,7 +2,6 @@
 use Prim.Native.Nat.{◌+◌, ◌*◌, ◌/◌}
 use native.Mathlib.Omega.{arith}
 use Rattle.analysis.proofs.Ranges.{last_place, next_place, room_is}
-use borrow.Author.Rules.{rules}
 use Rattle.analysis.proofs.next_fits.Goals as goal
 
 pub overflow_mul-last : goal.overflow_mul-last

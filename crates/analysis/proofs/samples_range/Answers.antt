@@ -12,7 +12,6 @@ use Rattle.lookup.specs.Lookup.{raw_at_sample, value_at_sample}
 use Rattle.lookup.proofs.LookupLaws.{sample_none, keys_rise_is}
 use Rattle.analysis.specs.Ranges.{no_values, widen, values_at_samples}
 use Rattle.analysis.proofs.Ranges.{given_none, silent_gives}
-use borrow.Author.Rules.{rules}
 use Rattle.analysis.proofs.samples_range.Goals as goal
 
 pub bounds_of_samples-requires : goal.bounds_of_samples-requires

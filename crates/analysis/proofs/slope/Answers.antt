@@ -1,6 +1,5 @@
 -- `analysis::slope` meets its contract. Assumes nothing.
 use Rattle.analysis.specs.Analysis.{slope_of}
-use borrow.Author.Rules.{rules}
 use Rattle.analysis.proofs.slope.Goals as goal
 
 pub returns-in-Silent-after : goal.returns-in-Silent-after

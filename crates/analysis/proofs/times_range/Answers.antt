@@ -12,7 +12,6 @@ use Rattle.lookup.proofs.LookupLaws.{raw_none}
 use Rattle.analysis.specs.Analysis.{range_time}
 use Rattle.analysis.specs.Ranges.{no_values, widen, values_at_times}
 use Rattle.analysis.proofs.Ranges.{given_none, silent_gives}
-use borrow.Author.Rules.{rules}
 use Rattle.analysis.proofs.times_range.Goals as goal
 
 pub bounds_of_times-requires : goal.bounds_of_times-requires

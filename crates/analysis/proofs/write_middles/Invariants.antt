@@ -1,17 +1,11 @@
 -- `analysis::write_middles` meets its contract. Assumes nothing.
-use Prim.Native.Nat.{ℕ, ◌+◌, ◌≤◌, ◌-◌, max}
-use mathlib.Core.Path.{◌≡◌, refl, sym, ap, ◌∙◌}
-use mathlib.Core.List.{List, ◌++◌, map}
-use native.Mathlib.Omega.{arith}
-use lib.ListN.{length, take, drop, length-set}
-use Rattle.points.specs.Point.{any_point, time_of}
-use Rattle.points.specs.declared.AutomationPoint.{AutomationPoint}
-use Rattle.lookup.specs.Lookup.{point_at}
+use Prim.Native.Nat.{◌≤◌, ◌-◌, max}
+use mathlib.Core.Path.{◌≡◌}
+use mathlib.Core.List.{◌++◌, map}
+use lib.ListN.{length, take, drop}
+use Rattle.points.specs.Point.{time_of}
 use Rattle.points.specs.Middles.{middles}
-use Rattle.points.proofs.MiddleLaws.{middles_two, middles_yes, middles_no}
 use Rattle.analysis.specs.Ranges.{middle_test, value_of}
-use Rattle.points.proofs.Good.{places}
-use Rattle.analysis.proofs.Middles.{middles_next, middles_all, room_left, write_turn}
 use Rattle.analysis.proofs.write_middles.Given as goal
 
 abbrev pub invariant-loop-i : goal.invariant-loop-i

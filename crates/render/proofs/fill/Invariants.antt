@@ -1,12 +1,10 @@
 -- `render::fill` meets its contract: a turn writes v at one more place (`run_turn` of a constant), and the places left get fewer;
 -- the run that stands at the end (`run_end`) is `replicate` (`run_constant`).
 use Prim.Native.Nat.{◌≤◌, ◌-◌}
-use mathlib.Core.Path.{◌≡◌, refl, ◌∙◌}
+use mathlib.Core.Path.{◌≡◌}
 use mathlib.Core.List.{◌++◌}
-use native.Mathlib.Omega.{arith}
-use lib.ListN.{length, drop, length-set}
+use lib.ListN.{length, drop}
 use Rattle.lookup.specs.Runs.{run}
-use Rattle.lookup.proofs.RunLaws.{run_turn, run_end, run_constant}
 use Rattle.render.proofs.fill.Given as goal
 
 abbrev pub invariant-loop-i : goal.invariant-loop-i

@@ -1,7 +1,6 @@
 -- `render::iter_samples` meets its contract: each way out is a law: refusal 1 is `open_invalid`, 3 `open_infinite`, 13 `open_too_many`,
 -- and the walk is `opened`, with the count that `f64_to_u64` ensures.
 use mathlib.Core.Path.{sym, ◌∙◌}
-use borrow.Author.Rules.{rules}
 use Rattle.numbers.proofs.Tests.{and_both}
 use Rattle.render.proofs.RenderLaws.{open_invalid, open_infinite, open_too_many, opened}
 use Rattle.render.proofs.iter_samples.Goals as goal

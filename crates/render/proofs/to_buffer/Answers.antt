@@ -2,7 +2,6 @@
 -- (`buffer_runs`), with the count that `f64_to_u64` ensures.
 use Prim.Native.Nat.{ℕ}
 use mathlib.Core.Path.{refl, sym, ap, ◌∙◌}
-use borrow.Author.Rules.{rules}
 use Rattle.numbers.proofs.Tests.{and_right, and_both}
 use Rattle.points.specs.Points.{valid_points}
 use Rattle.limits.specs.Limits.{finite_limits}
@@ -18,57 +17,35 @@ run_into-requires c =
     and_right (finite_limits args.limits) (valid_points args.points) (sym is-valid.ensures ∙ if1.true)
 
 pub returns-then-is_finite : goal.returns-then-is_finite
-returns-then-is_finite c = record {
-  answer = (let is-valid = c.is_valid in
-      let if1 = c.if-is_valid in
-      let is_finite = c.is_finite in
-      let is-finite2 = c.is_finite-then-is_valid in
-      let if2 = c.if-is_finite in
-      let f64-to-u64 = c.f64_to_u64-count in
-      let run-into = c.run_into in
-      let a = c.args in
-      let q = buffer_runs a.points a.enabled a.limits a.rate a.duration a.place a.out.now (sym is-valid.ensures ∙ if1.true)
-      (sym (and_both is_finite.ensures is-finite2.ensures) ∙ if2.true) in
-      let r = ap (λ (n : ℕ). run_into (sample_at a.points a.enabled a.limits a.rate) 0 n a.place a.out.now) f64-to-u64.ensures in
-      answers run-into.ensures.answer run-into.ensures.out_after (r ∙ sym q)).0;
-  out_after = (let is-valid = c.is_valid in
-      let if1 = c.if-is_valid in
-      let is_finite = c.is_finite in
-      let is-finite2 = c.is_finite-then-is_valid in
-      let if2 = c.if-is_finite in
-      let f64-to-u64 = c.f64_to_u64-count in
-      let run-into = c.run_into in
-      let a = c.args in
-      let q = buffer_runs a.points a.enabled a.limits a.rate a.duration a.place a.out.now (sym is-valid.ensures ∙ if1.true)
-      (sym (and_both is_finite.ensures is-finite2.ensures) ∙ if2.true) in
-      let r = ap (λ (n : ℕ). run_into (sample_at a.points a.enabled a.limits a.rate) 0 n a.place a.out.now) f64-to-u64.ensures in
-      answers run-into.ensures.answer run-into.ensures.out_after (r ∙ sym q)).1;
-}
+returns-then-is_finite c =
+    let is-valid = c.is_valid in
+    let if1 = c.if-is_valid in
+    let is_finite = c.is_finite in
+    let is-finite2 = c.is_finite-then-is_valid in
+    let if2 = c.if-is_finite in
+    let f64-to-u64 = c.f64_to_u64-count in
+    let run-into = c.run_into in
+    let a = c.args in
+    let q = buffer_runs a.points a.enabled a.limits a.rate a.duration a.place a.out.now (sym is-valid.ensures ∙ if1.true)
+    (sym (and_both is_finite.ensures is-finite2.ensures) ∙ if2.true) in
+    let r = ap (λ (n : ℕ). run_into (sample_at a.points a.enabled a.limits a.rate) 0 n a.place a.out.now) f64-to-u64.ensures in
+    let w = answers run-into.ensures.answer run-into.ensures.out_after (r ∙ sym q) in
+    record { answer = w.0; out_after = w.1 }
 
 pub returns-else-is_finite : goal.returns-else-is_finite
-returns-else-is_finite c = record {
-  answer = (let is-valid = c.is_valid in
-      let if1 = c.if-is_valid in
-      let is_finite = c.is_finite in
-      let a = c.args in
-      answers refl refl
-      (sym
-      (buffer_infinite a.points a.enabled a.limits a.rate a.duration a.place a.out.now (sym is-valid.ensures ∙ if1.true)
-      (sym (and_both is_finite.ensures c.is_finite-then-is_valid.ensures) ∙ c.if-is_finite.false)))).0;
-  out_after = (let is-valid = c.is_valid in
-      let if1 = c.if-is_valid in
-      let is_finite = c.is_finite in
-      let a = c.args in
-      answers refl refl
-      (sym
-      (buffer_infinite a.points a.enabled a.limits a.rate a.duration a.place a.out.now (sym is-valid.ensures ∙ if1.true)
-      (sym (and_both is_finite.ensures c.is_finite-then-is_valid.ensures) ∙ c.if-is_finite.false)))).1;
-}
+returns-else-is_finite c =
+    let is-valid = c.is_valid in
+    let if1 = c.if-is_valid in
+    let is_finite = c.is_finite in
+    let a = c.args in
+    let w = answers refl refl
+    (sym
+    (buffer_infinite a.points a.enabled a.limits a.rate a.duration a.place a.out.now (sym is-valid.ensures ∙ if1.true)
+    (sym (and_both is_finite.ensures c.is_finite-then-is_valid.ensures) ∙ c.if-is_finite.false))) in
+    record { answer = w.0; out_after = w.1 }
 
 pub returns-else-is_valid : goal.returns-else-is_valid
-returns-else-is_valid c = record {
-  answer = (let a = c.args in
-      answers refl refl (sym (buffer_invalid a.points a.enabled a.limits a.rate a.duration a.place a.out.now (sym c.is_valid.ensures ∙ c.if-is_valid.false)))).0;
-  out_after = (let a = c.args in
-      answers refl refl (sym (buffer_invalid a.points a.enabled a.limits a.rate a.duration a.place a.out.now (sym c.is_valid.ensures ∙ c.if-is_valid.false)))).1;
-}
+returns-else-is_valid c =
+    let a = c.args in
+    let w = answers refl refl (sym (buffer_invalid a.points a.enabled a.limits a.rate a.duration a.place a.out.now (sym c.is_valid.ensures ∙ c.if-is_valid.false))) in
+    record { answer = w.0; out_after = w.1 }

@@ -1,7 +1,6 @@
 -- `render::write_samples` meets its contract: disabled, with no point or with one, every sample is the number that `fill` writes
 -- (`off_run`, `none_run`, `one_run`); with more they are what `write_segments` ensures (`on_run`).
 use mathlib.Core.Path.{◌∙◌}
-use borrow.Author.Rules.{rules}
 use Rattle.points.proofs.Good.{inside}
 use Rattle.render.proofs.Writing.{off_run, on_run, none_run, one_run}
 use Rattle.render.proofs.write_samples.Goals as goal

@@ -1,16 +1,12 @@
 -- `render::write_segments` meets its contract: the loop has the first i samples written, and fewer are left each turn. Between the first point and the last
 -- the search ends between two (`search_inside`) and a stretch is added (`stretch_written`, `run_part`), elsewhere one sample (`outside_sample`, `run_turn`).
-use Prim.Native.Nat.{ℕ, ◌+◌, ◌≤◌, ◌<◌, ◌-◌}
-use mathlib.Core.Path.{◌≡◌, refl, ap, ◌∙◌}
+use Prim.Native.Nat.{◌+◌, ◌≤◌, ◌-◌}
+use mathlib.Core.Path.{◌≡◌}
 use mathlib.Core.Bool.{true}
 use mathlib.Core.List.{◌++◌}
-use native.Mathlib.Omega.{arith}
-use lib.ListN.{length, take, drop, length-set}
-use Rattle.lookup.proofs.LookupLaws.{valid_count}
+use lib.ListN.{length, drop}
 use Rattle.render.specs.Render.{sample_or}
 use Rattle.lookup.specs.Runs.{run}
-use Rattle.lookup.proofs.RunLaws.{run_turn, run_over, run_part, run_end, part_long}
-use Rattle.render.proofs.Writing.{search_inside, stretch_written, outside_sample}
 use Rattle.render.proofs.write_segments.Given as goal
 
 abbrev pub invariant-loop-i : goal.invariant-loop-i

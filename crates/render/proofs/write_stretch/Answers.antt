@@ -1,12 +1,11 @@
 -- `render::write_stretch` meets its contract: the loop has i samples of the segment written (`run_turn`), the times of all but the first inside it
 -- (`below_more`), and i rises; out at a time that lies outside, or at the buffer's end, that is `Stretch` (`stretch_end`).
-use Prim.Native.Nat.{ℕ, ◌+◌, ◌≤◌, ◌<◌, ◌-◌}
+use Prim.Native.Nat.{ℕ, ◌+◌}
 use mathlib.Core.Path.{◌≡◌, refl, sym, ap, ◌∙◌}
-use mathlib.Core.Bool.{true}
 use mathlib.Core.List.{List, ◌++◌}
 use native.Mathlib.Nat.{add-zero}
 use native.Mathlib.Omega.{arith}
-use lib.ListN.{length, drop, set, length-set}
+use lib.ListN.{set, length-set}
 use lib.Seq.{drop-set-lt}
 use lib.Ieee.{Float}
 use borrow.Author.Count.{below_more}

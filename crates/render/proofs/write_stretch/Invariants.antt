@@ -1,20 +1,13 @@
 -- `render::write_stretch` meets its contract: the loop has i samples of the segment written (`run_turn`), the times of all but the first inside it
 -- (`below_more`), and i rises; out at a time that lies outside, or at the buffer's end, that is `Stretch` (`stretch_end`).
 use Prim.Native.Nat.{ℕ, ◌+◌, ◌≤◌, ◌<◌, ◌-◌}
-use mathlib.Core.Path.{◌≡◌, refl, sym, ap, ◌∙◌}
+use mathlib.Core.Path.{◌≡◌}
 use mathlib.Core.Bool.{true}
-use mathlib.Core.List.{List, ◌++◌}
-use native.Mathlib.Nat.{add-zero}
-use native.Mathlib.Omega.{arith}
-use lib.ListN.{length, drop, set, length-set}
-use lib.Seq.{drop-set-lt}
-use lib.Ieee.{Float}
-use borrow.Author.Count.{below_more}
+use mathlib.Core.List.{◌++◌}
+use lib.ListN.{length, drop}
 use Rattle.lookup.specs.Runs.{run}
-use Rattle.lookup.proofs.RunLaws.{run_turn}
 use Rattle.render.specs.Render.{sample_time}
 use Rattle.render.specs.Writer.{inside, segment_at}
-use Rattle.render.proofs.Segments.{stretch_end}
 use Rattle.render.proofs.write_stretch.Given as goal
 
 abbrev pub invariant-loop-i : goal.invariant-loop-i

@@ -1,5 +1,4 @@
 -- `analysis::Bounds::add_lookup` meets its contract. Assumes nothing.
-use borrow.Author.Rules.{rules}
 use Rattle.analysis.proofs.Bounds.add_lookup.Goals as goal
 
 pub returns-in-Value : goal.returns-in-Value

@@ -1,5 +1,5 @@
 -- `analysis::Bounds::inside` meets its contract. Assumes nothing.
-use Prim.Native.Nat.{ℕ, ◌≤◌, ◌-◌, min}
+use Prim.Native.Nat.{ℕ, min}
 use mathlib.Core.Path.{◌≡◌, refl, ap, ◌∙◌}
 use mathlib.Core.List.{List, foldl}
 use native.Mathlib.Omega.{arith}

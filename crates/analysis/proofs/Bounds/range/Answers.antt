@@ -1,6 +1,5 @@
 -- `analysis::Bounds::range` meets its contract. Assumes nothing.
 use mathlib.Core.Path.{sym, ◌∙◌}
-use borrow.Author.Rules.{rules}
 use Rattle.analysis.proofs.Bounds.range.Goals as goal
 
 pub returns-then-is_finitef : goal.returns-then-is_finitef

@@ -1,5 +1,4 @@
 -- `analysis::Bounds::widen` meets its contract. Assumes nothing.
-use borrow.Author.Rules.{rules}
 use Rattle.analysis.proofs.Bounds.widen.Goals as goal
 
 pub returns : goal.returns

@@ -1,7 +1,6 @@
 -- `lookup::Lookup::constrain` meets its contract: by the answer's three cases, as in `constrainedAnswer`: only a value changes, to what `apply_constraints` ensures.
 use mathlib.Core.Path.{ap}
 use Rattle.lookup.specs.declared.Lookup.TheVariants.{Value}
-use borrow.Author.Rules.{rules}
 use Rattle.lookup.proofs.Lookup.constrain.Goals as goal
 
 pub returns-in-Value : goal.returns-in-Value

@@ -1,5 +1,4 @@
 -- `lookup::place::key` meets its contract: the two branches are the two cases of `keyBy`, by what `sample_key` and `order_key` ensure.
-use borrow.Author.Rules.{rules}
 use Rattle.lookup.proofs.place.key.Goals as goal
 
 pub returns-then-by_sample : goal.returns-then-by_sample

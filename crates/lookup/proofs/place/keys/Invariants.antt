@@ -1,16 +1,10 @@
 -- `lookup::place::keys` meets its contract: `KeysFilled` says that the keys of the first i points stand there and 0 in the rest; a turn writes the next
 -- (`keys_turn`), n - i falls, and at `used` these are all the points, as there are 256 places (`take_min`).
-use Prim.Native.Nat.{ℕ, ◌≤◌, ◌-◌, min}
-use mathlib.Core.Path.{◌≡◌, refl, ap, ap₂, ◌∙◌}
-use mathlib.Core.List.{List, ◌++◌, map}
-use native.Mathlib.Omega.{arith}
-use lib.ListN.{length, take, replicate, length-set, length-replicate}
-use Rattle.points.specs.Point.{any_point}
-use Rattle.points.proofs.Laws.{take_min}
-use Rattle.points.specs.declared.AutomationPoint.{AutomationPoint}
+use Prim.Native.Nat.{◌≤◌, ◌-◌}
+use mathlib.Core.Path.{◌≡◌}
+use lib.ListN.{length}
 use Rattle.lookup.specs.Keys.{key_by}
-use Rattle.points.proofs.Good.{places}
-use Rattle.lookup.proofs.KeyLaws.{KeysFilled, keys_turn}
+use Rattle.lookup.proofs.KeyLaws.{KeysFilled}
 use Rattle.lookup.proofs.place.keys.Given as goal
 
 abbrev pub invariant-loop-i : goal.invariant-loop-i

@@ -2,7 +2,7 @@
 -- is not; a turn keeps it (`halving_up`, `halving_down`) and brings the two nearer, and where they meet it is `EndsAt` (`halving_end`).
 use Prim.Native.Nat.{◌+◌, ◌-◌, ◌/◌, min}
 use native.Mathlib.Omega.{arith}
-use Rattle.points.proofs.SearchLaws.{Halving, halving_start, halving_up, halving_down}
+use Rattle.points.proofs.SearchLaws.{halving_start, halving_up, halving_down}
 use Rattle.lookup.proofs.KeyLaws.{itself, halving_end}
 use Rattle.lookup.proofs.place.search.Goals as goal
 

@@ -1,9 +1,8 @@
 -- `lookup::place::search` meets its contract: `Halving` says that the key before low is below the one sought and the key at high
 -- is not; a turn keeps it (`halving_up`, `halving_down`) and brings the two nearer, and where they meet it is `EndsAt` (`halving_end`).
-use Prim.Native.Nat.{◌+◌, ◌-◌, ◌/◌, min}
-use native.Mathlib.Omega.{arith}
-use Rattle.points.proofs.SearchLaws.{Halving, halving_start, halving_up, halving_down}
-use Rattle.lookup.proofs.KeyLaws.{itself, halving_end}
+use Prim.Native.Nat.{◌-◌, min}
+use Rattle.points.proofs.SearchLaws.{Halving}
+use Rattle.lookup.proofs.KeyLaws.{itself}
 use Rattle.lookup.proofs.place.search.Given as goal
 
 abbrev pub invariant-loop-low : goal.invariant-loop-low

@@ -5,7 +5,6 @@ use mathlib.Core.Option.{some}
 use borrow.Author.Tests.{lt-ltb, le-ltb, eq-eqb, ne_eqb}
 use lib.Ieee.{Float}
 use Rattle.points.specs.Refusal.{gives}
-use borrow.Author.Rules.{rules}
 use Rattle.lookup.proofs.sample.around.Goals as goal
 
 pub returns-then-sample_key-sample : goal.returns-then-sample_key-sample

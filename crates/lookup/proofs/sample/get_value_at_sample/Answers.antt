@@ -6,7 +6,6 @@ use Rattle.points.specs.Points.{valid_points, list_of}
 use Rattle.limits.specs.Limits.{finite_limits}
 use Rattle.lookup.specs.Lookup.{get_value_at_sample, raw_at_sample, told}
 use Rattle.lookup.proofs.LookupLaws.{heard_on, heard_off, keys_rise_is, keys_rise_off}
-use borrow.Author.Rules.{rules}
 use Rattle.lookup.proofs.sample.get_value_at_sample.Goals as goal
 
 pub raw_at_sample-requires : goal.raw_at_sample-requires

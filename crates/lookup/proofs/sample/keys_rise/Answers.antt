@@ -1,6 +1,6 @@
 -- `lookup::sample::keys_rise` meets its contract: last is the key before i, and ok is whether the first i keys rise (`rising_one`, `rising_next`);
 -- n - i falls, and at the end these are all the keys (`rising_end`, where no points end at 1, and `take_min`).
-use Prim.Native.Nat.{ℕ, ◌+◌, ◌≤◌, ◌-◌, max}
+use Prim.Native.Nat.{ℕ, ◌+◌, ◌-◌}
 use mathlib.Core.Path.{◌≡◌, sym, ap, ◌∙◌}
 use native.Mathlib.Omega.{arith}
 use lib.ListN.{take, get_or}

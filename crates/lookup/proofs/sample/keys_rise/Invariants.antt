@@ -1,14 +1,11 @@
 -- `lookup::sample::keys_rise` meets its contract: last is the key before i, and ok is whether the first i keys rise (`rising_one`, `rising_next`);
 -- n - i falls, and at the end these are all the keys (`rising_end`, where no points end at 1, and `take_min`).
-use Prim.Native.Nat.{ℕ, ◌+◌, ◌≤◌, ◌-◌, max}
-use mathlib.Core.Path.{◌≡◌, sym, ap, ◌∙◌}
-use native.Mathlib.Omega.{arith}
+use Prim.Native.Nat.{◌≤◌, ◌-◌, max}
+use mathlib.Core.Path.{◌≡◌}
 use lib.ListN.{take, get_or}
 use Rattle.points.specs.Point.{any_point}
 use Rattle.points.specs.Points.{rising_by}
-use Rattle.points.proofs.Laws.{rising_next, rising_one, rising_end, take_min}
 use Rattle.lookup.specs.Lookup.{sample_key}
-use Rattle.points.proofs.Good.{places}
 use Rattle.lookup.proofs.sample.keys_rise.Given as goal
 
 abbrev pub invariant-loop-i : goal.invariant-loop-i

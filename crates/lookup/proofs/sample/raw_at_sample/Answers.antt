@@ -7,7 +7,7 @@ use Rattle.points.proofs.Good.{inside}
 use Rattle.points.specs.Point.{any_point}
 use Rattle.points.specs.Refusal.{gives}
 use Rattle.points.proofs.ValidLaws.{valid_count}
-use Rattle.points.proofs.SearchLaws.{Halving, halving_start, halving_up, halving_down, halving_place}
+use Rattle.points.proofs.SearchLaws.{halving_start, halving_up, halving_down, halving_place}
 use Rattle.lookup.specs.Lookup.{point_at, sample_key}
 use Rattle.lookup.proofs.LookupLaws.{sample_none, sample_one, sample_first, sample_last, sample_around, at_place}
 use Rattle.lookup.proofs.sample.raw_at_sample.Goals as goal

@@ -3,7 +3,6 @@
 use lib.Ieee.{binary32, div}
 use borrow.Author.Tests.{lt-ltb, le-ltb}
 use Rattle.lookup.specs.Lookup.{sample_fraction}
-use borrow.Author.Rules.{rules}
 use Rattle.lookup.proofs.sample.sample_fraction.Goals as goal
 
 pub returns-then-span-gt0 : goal.returns-then-span-gt0

@@ -5,7 +5,6 @@ use mathlib.Core.Option.{some}
 use borrow.Author.Tests.{lt-ltb, le-ltb, eq-eqb, ne_eqb}
 use lib.Ieee.{Float}
 use Rattle.points.specs.Refusal.{gives}
-use borrow.Author.Rules.{rules}
 use Rattle.lookup.proofs.time.around.Goals as goal
 
 pub returns-then-order_key : goal.returns-then-order_key

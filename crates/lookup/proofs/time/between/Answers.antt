@@ -1,5 +1,4 @@
 -- `lookup::time::between` meets its contract: by definition of `between`, by what `fraction` and `interpolate` ensure.
-use borrow.Author.Rules.{rules}
 use Rattle.lookup.proofs.time.between.Goals as goal
 
 pub returns : goal.returns

@@ -5,7 +5,6 @@ use Rattle.numbers.proofs.Tests.{and_right}
 use Rattle.points.specs.Points.{valid_points}
 use Rattle.limits.specs.Limits.{finite_limits}
 use Rattle.lookup.specs.Lookup.{get_value_at}
-use borrow.Author.Rules.{rules}
 use Rattle.lookup.proofs.time.get_value_at.Goals as goal
 
 pub value_at-requires : goal.value_at-requires

@@ -9,7 +9,7 @@ use Rattle.points.specs.Point.{any_point}
 use Rattle.points.specs.Points.{time_key}
 use Rattle.points.specs.Refusal.{gives}
 use Rattle.points.proofs.ValidLaws.{valid_count, valid_rising}
-use Rattle.points.proofs.SearchLaws.{Halving, halving_start, halving_up, halving_down, halving_place}
+use Rattle.points.proofs.SearchLaws.{halving_start, halving_up, halving_down, halving_place}
 use Rattle.lookup.specs.Lookup.{point_at}
 use Rattle.lookup.proofs.LookupLaws.{raw_none, raw_one, raw_first, raw_last, raw_around, at_place}
 use Rattle.lookup.proofs.time.raw_at.Goals as goal

@@ -3,7 +3,6 @@ use mathlib.Core.Path.{ap, ◌∙◌}
 use Rattle.points.specs.Points.{list_of}
 use Rattle.lookup.specs.Lookup.{raw_at, told}
 use Rattle.lookup.proofs.LookupLaws.{heard_on, heard_off}
-use borrow.Author.Rules.{rules}
 use Rattle.lookup.proofs.time.value_at.Goals as goal
 
 pub returns-then-enabled : goal.returns-then-enabled

@@ -7,17 +7,15 @@ use native.Mathlib.Omega.{arith}
 use lib.Dec.{le→leb}
 use lib.Ieee.{Float, binary64, div, of_int, in_float}
 use lib.IntN.{pos}
-use borrow.Author.Tests.{not-true, not-false}
 use Rattle.points.specs.Refusal.{Said}
 use Rattle.render.proofs.RenderLaws.{lookup_given, next_invalid, next_infinite, next_too_many, next_over, next-is}
-use borrow.Author.Rules.{rules}
 use Rattle.render.proofs.SampleIterator.next.Goals as goal
 
 pub returns-then-not-is_valid : goal.returns-then-not-is_valid
 returns-then-not-is_valid c =
     let args = c.args in
     let is-valid = c.is_valid in
-    c.stays.ensures ∙ sym (next_invalid args.points args.enabled args.limits args.self (sym is-valid.ensures ∙ not-true is-valid.result c.if-not-is_valid.true-raw))
+    c.stays.ensures ∙ sym (next_invalid args.points args.enabled args.limits args.self (sym is-valid.ensures ∙ c.if-not-is_valid.true))
 
 pub returns-then-not-is_finite : goal.returns-then-not-is_finite
 returns-then-not-is_finite c =
@@ -27,8 +25,8 @@ returns-then-not-is_finite c =
     let is_finite = c.is_finite in
     c.stays-then-not-is_finite.ensures
     ∙ sym
-    (next_infinite args.points args.enabled args.limits args.self (sym is-valid.ensures ∙ not-false is-valid.result if1.false-raw)
-    (sym is_finite.ensures ∙ not-true is_finite.result c.if-not-is_finite.true-raw))
+    (next_infinite args.points args.enabled args.limits args.self (sym is-valid.ensures ∙ if1.false)
+    (sym is_finite.ensures ∙ c.if-not-is_finite.true))
 
 pub returns-then-self-gt-MOST_SAMPLES : goal.returns-then-self-gt-MOST_SAMPLES
 returns-then-self-gt-MOST_SAMPLES c =
@@ -39,8 +37,8 @@ returns-then-self-gt-MOST_SAMPLES c =
     let if2 = c.if-not-is_finite in
     c.stays-then-self-gt-MOST_SAMPLES.ensures
     ∙ sym
-    (next_too_many args.points args.enabled args.limits args.self (sym is-valid.ensures ∙ not-false is-valid.result if1.false-raw)
-    (sym is_finite.ensures ∙ not-false is_finite.result if2.false-raw) c.if-self-gt-MOST_SAMPLES.true)
+    (next_too_many args.points args.enabled args.limits args.self (sym is-valid.ensures ∙ if1.false)
+    (sym is_finite.ensures ∙ if2.false) c.if-self-gt-MOST_SAMPLES.true)
 
 pub returns-then-self : goal.returns-then-self
 returns-then-self c =
@@ -52,8 +50,8 @@ returns-then-self c =
     let if3 = c.if-self-gt-MOST_SAMPLES in
     c.stays-then-self.ensures
     ∙ sym
-    (next_over args.points args.enabled args.limits args.self (sym is-valid.ensures ∙ not-false is-valid.result if1.false-raw)
-    (sym is_finite.ensures ∙ not-false is_finite.result if2.false-raw) if3.false c.if-self.true)
+    (next_over args.points args.enabled args.limits args.self (sym is-valid.ensures ∙ if1.false)
+    (sym is_finite.ensures ∙ if2.false) if3.false c.if-self.true)
 
 pub int_to_float-time : goal.int_to_float-time
 unfolding in_float
@@ -71,11 +69,11 @@ returns c =
     let if4 = c.if-self in
     let a = c.args in
     let w = a.self in
-    let v = sym is-valid.ensures ∙ not-false is-valid.result if1.false-raw in
+    let v = sym is-valid.ensures ∙ if1.false in
     ap
     (λ (s : Said (Option Float)). record {
       said = s;
       walk = record { sample_rate = w.sample_rate; current_sample = w.current_sample + 1; total_samples = w.total_samples };
     })
     (c.get_value_at.ensures ∙ lookup_given a.points a.enabled a.limits (div binary64 (of_int binary64 (pos w.current_sample)) w.sample_rate) v)
-    ∙ sym (next-is a.points a.enabled a.limits w v (sym is_finite.ensures ∙ not-false is_finite.result if2.false-raw) if3.false if4.false)
+    ∙ sym (next-is a.points a.enabled a.limits w v (sym is_finite.ensures ∙ if2.false) if3.false if4.false)

@@ -1,7 +1,6 @@
 -- `render::Segment::around` meets its contract: the test of the key is that of `segmentAround` (`eq-eqb`, `ne_eqb`), and both branches are what `new` ensures.
 use mathlib.Core.Path.{sym, ◌∙◌}
 use borrow.Author.Tests.{eq-eqb, ne_eqb}
-use borrow.Author.Rules.{rules}
 use Rattle.render.proofs.Segment.around.Goals as goal
 
 pub returns-then-order_key-key : goal.returns-then-order_key-key

@@ -2,7 +2,6 @@
 -- fraction and constraints are those of `segment_at`, as the calls ensure.
 use mathlib.Core.Path.{◌≡◌, sym, ap, ◌∙◌}
 use lib.Ieee.{Float, binary32, add, sub, mul}
-use borrow.Author.Rules.{rules}
 use Rattle.curve.specs.Curve.{clamped, cubic_bezier, eased, interpolated}
 use Rattle.curve.specs.declared.CurveType.{CurveType}
 use Rattle.curve.specs.declared.CurveType.TheVariants.{Bezier}
