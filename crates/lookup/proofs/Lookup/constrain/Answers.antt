@@ -1,4 +1,4 @@
--- `lookup::Lookup::constrain` meets its contract: by the answer's three cases, as in `constrainedAnswer`: only a value changes, to what `apply_constraints` ensures.
+-- `lookup::Lookup::constrain` meets its contract: by the answer's three cases, as in `constrained_answer`: only a value changes, to what `apply_constraints` ensures.
 use mathlib.Core.Path.{ap}
 use Rattle.lookup.specs.declared.Lookup.TheVariants.{Value}
 use Rattle.lookup.proofs.Lookup.constrain.Goals as goal

@@ -1,4 +1,4 @@
--- `lookup::place::key` meets its contract: the two branches are the two cases of `keyBy`, by what `sample_key` and `order_key` ensure.
+-- `lookup::place::key` meets its contract: the two branches are the two cases of `key_by`, by what `sample_key` and `order_key` ensure.
 use Rattle.lookup.proofs.place.key.Goals as goal
 
 pub returns-then-by_sample : goal.returns-then-by_sample

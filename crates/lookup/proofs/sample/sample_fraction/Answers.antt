@@ -1,5 +1,5 @@
 -- `lookup::sample::sample_fraction` meets its contract: a difference that stops at 0 is that of ℕ, so the test of the span
--- is the one in `sampleFraction` (`lt-ltb`, `le-ltb`), and both sides of the quotient are as `u64_to_f32` ensures.
+-- is the one in `sample_fraction` (`lt-ltb`, `le-ltb`), and both sides of the quotient are as `u64_to_f32` ensures.
 use lib.Ieee.{binary32, div}
 use borrow.Author.Tests.{lt-ltb, le-ltb}
 use Rattle.lookup.specs.Lookup.{sample_fraction}

@@ -1,4 +1,4 @@
--- `lookup::time::get_value_at` meets its contract: the test is that of `getValueAt`: where it fails, refusal 1;
+-- `lookup::time::get_value_at` meets its contract: the test is that of `get_value_at`: where it fails, refusal 1;
 -- where it holds the points are valid (`and_right`), as `value_at` asks, and its answer is given.
 use mathlib.Core.Path.{sym, ◌∙◌}
 use Rattle.numbers.proofs.Tests.{and_right}

@@ -1,4 +1,4 @@
--- `render::Ends::value_at` meets its contract: its two tests are those of `outsideAt`, so each of the three ways out is a branch of it.
+-- `render::Ends::value_at` meets its contract: its two tests are those of `outside_at`, so each of the three ways out is a branch of it.
 
 use Rattle.render.proofs.Ends.value_at.Goals as goal
 

@@ -1,4 +1,4 @@
--- `render::Segment::around` meets its contract: the test of the key is that of `segmentAround` (`eq-eqb`, `ne_eqb`), and both branches are what `new` ensures.
+-- `render::Segment::around` meets its contract: the test of the key is that of `segment_around` (`eq-eqb`, `ne_eqb`), and both branches are what `new` ensures.
 use mathlib.Core.Path.{sym, ◌∙◌}
 use borrow.Author.Tests.{eq-eqb, ne_eqb}
 use Rattle.render.proofs.Segment.around.Goals as goal
