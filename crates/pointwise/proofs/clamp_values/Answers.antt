@@ -1,7 +1,6 @@
 use mathlib.Core.Path.{sym, ap, ◌∙◌}
 use mathlib.Core.Bool.{Bool}
 use mathlib.Core.List.{map}
-use mathlib.Core.Logic.{⊎_elim}
 use Rattle.numbers.proofs.Tests.{and_both}
 use Rattle.points.specs.Points.{list_of}
 use Rattle.settle.specs.Settle.{edit_points}
@@ -10,6 +9,7 @@ use Rattle.pointwise.specs.declared.Change.TheVariants.{Clamp}
 use Rattle.pointwise.proofs.Clamped.{in_order_lem, not_finite, invalid, crossed}
 use borrow.Author.Rules.{rules}
 use Rattle.pointwise.proofs.clamp_values.Goals as goal
+use Rattle.pointwise.proofs.clamp_values.Goals.{then-min-max+then-ok+else-is_valid, then-min-max+else-ok, else-min-max}
 
 pub returns-then-is_valid : goal.returns-then-is_valid
 returns-then-is_valid c =
@@ -34,5 +34,8 @@ returns c =
     let high = args.max in
     let ok = and_both is-finitef.ensures is-finitef2.ensures in
     c.edit_each.ensures ∙ ap (λ (b : Bool). edit_points ps b (map (changed (Clamp low high)) (list_of ps))) ok
-    ∙ ⊎_elim (λ w. invalid ps low high (sym w.2.ensures ∙ w.3.left))
-    (λ u. ⊎_elim (λ w. not_finite ps low high (sym ok ∙ w.1.left)) (λ w. in_order_lem ps low high w.left) u) c.if-min-max.branch
+    ∙ (elim c.if-min-max.branch [
+      | then-min-max+then-ok+else-is_valid w ↦ invalid ps low high (sym w.is_valid.ensures ∙ w.if-is_valid.false)
+      | then-min-max+else-ok w ↦ not_finite ps low high (sym ok ∙ w.if-ok.false)
+      | else-min-max w ↦ in_order_lem ps low high w.if-min-max.false
+    ])
