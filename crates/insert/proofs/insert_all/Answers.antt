@@ -1,13 +1,13 @@
 use Prim.Native.Nat.{◌+◌, ◌≤◌, ◌-◌, ◌/◌}
 use mathlib.Core.Path.{◌≡◌, sym, ap}
-use mathlib.Core.Logic.{⊎_elim}
 use native.Mathlib.Omega.{arith}
 use Rattle.points.specs.Point.{any_point}
 use Rattle.points.specs.Points.{time_key}
 use Rattle.points.proofs.SearchLaws.{Halving, halving_start, halving_up, halving_down}
 use Rattle.points.proofs.Good.{places}
-use Rattle.insert.proofs.Inserting.{shifted, shift_start, shift_turn, sorted_places, stand_here, stand_past, Filling, fill_start, fill_end, turn_same, turn_new, turn_full}
+use Rattle.insert.proofs.Inserting.{shifted, shift_start, shift_turn, sorted_places, Standing, stand_here, stand_past, Filling, fill_start, fill_end, turn_same, turn_new, turn_full}
 use Rattle.insert.proofs.insert_all.Goals as goal
+use Rattle.insert.proofs.insert_all.Goals.{then-lo-n, else-lo-n, then-fresh+else-n-eq256+else-loop-j-test, else-fresh}
 
 pub loop-i-init : goal.loop-i-init
 loop-i-init c = fill_start c.args.points c.args.new c.used-m.result (places c.args.new _ c.well_formed.1.0) c.used-m.ensures c.requires
@@ -92,8 +92,11 @@ returns-then-n-eq256 c =
     let loop2 = c.loop-lo in
     let loop2-test = c.loop-lo-test in
     let if2 = c.if-lo-n in
-    let there = ⊎_elim (λ w. stand_here loop.points order-key.result loop2.lo if2.fresh w.2.result w.2.ensures w.0.taken w.3)
-    (λ w. stand_past loop.points order-key.result loop2.lo if2.fresh w.0.left w.1) if2.branch in
+    let there : Standing loop.points order-key.result loop2.lo if2.fresh =
+    elim if2.branch [
+      | then-lo-n w ↦ stand_here loop.points order-key.result loop2.lo if2.fresh w.order_key-then-lo-n.result w.order_key-then-lo-n.ensures w.if-lo-n.true w.fresh-is
+      | else-lo-n w ↦ stand_past loop.points order-key.result loop2.lo if2.fresh w.if-lo-n.false w.fresh-is
+    ] in
     turn_full args.points args.new loop.points used.result loop.i loop.invariant loop-test.true order-key.result loop2.lo loop2.hi if2.fresh order-key.ensures
     loop2.invariant loop2-test.false there c.if-fresh.true c.if-n-eq256.true
 
@@ -156,9 +159,15 @@ offset_bounds-points-lo-in-loop-i c =
     let loop2 = c.loop-lo in
     let s = loop2.invariant in
     let few = loop.invariant.sorted.few in
-    let there = ⊎_elim (λ w. stand_here loop.points order-key.result loop2.lo c.if-lo-n.fresh w.2.result w.2.ensures w.0.taken w.3)
-    (λ w. stand_past loop.points order-key.result loop2.lo c.if-lo-n.fresh w.0.left w.1) c.if-lo-n.branch in
-    ⊎_elim (λ w. omega (arith, s.ordered, s.bounded, few, w.1.left)) (λ w. omega (arith, (there.same w.0.left).0, few)) c.if-fresh.branch
+    let there : Standing loop.points order-key.result loop2.lo c.if-lo-n.fresh =
+    elim c.if-lo-n.branch [
+      | then-lo-n w ↦ stand_here loop.points order-key.result loop2.lo c.if-lo-n.fresh w.order_key-then-lo-n.result w.order_key-then-lo-n.ensures w.if-lo-n.true w.fresh-is
+      | else-lo-n w ↦ stand_past loop.points order-key.result loop2.lo c.if-lo-n.fresh w.if-lo-n.false w.fresh-is
+    ] in
+    elim c.if-fresh.branch [
+      | then-fresh+else-n-eq256+else-loop-j-test w ↦ omega (arith, s.ordered, s.bounded, few, w.if-n-eq256.false)
+      | else-fresh w ↦ omega (arith, (there.same w.if-fresh.false).0, few)
+    ]
 
 pub bounds-points-lo-in-loop-i : goal.bounds-points-lo-in-loop-i
 bounds-points-lo-in-loop-i c =
@@ -167,9 +176,15 @@ bounds-points-lo-in-loop-i c =
     let loop2 = c.loop-lo in
     let s = loop2.invariant in
     let few = loop.invariant.sorted.few in
-    let there = ⊎_elim (λ w. stand_here loop.points order-key.result loop2.lo c.if-lo-n.fresh w.2.result w.2.ensures w.0.taken w.3)
-    (λ w. stand_past loop.points order-key.result loop2.lo c.if-lo-n.fresh w.0.left w.1) c.if-lo-n.branch in
-    ⊎_elim (λ w. omega (arith, s.ordered, s.bounded, few, w.1.left)) (λ w. omega (arith, (there.same w.0.left).0, few)) c.if-fresh.branch
+    let there : Standing loop.points order-key.result loop2.lo c.if-lo-n.fresh =
+    elim c.if-lo-n.branch [
+      | then-lo-n w ↦ stand_here loop.points order-key.result loop2.lo c.if-lo-n.fresh w.order_key-then-lo-n.result w.order_key-then-lo-n.ensures w.if-lo-n.true w.fresh-is
+      | else-lo-n w ↦ stand_past loop.points order-key.result loop2.lo c.if-lo-n.fresh w.if-lo-n.false w.fresh-is
+    ] in
+    elim c.if-fresh.branch [
+      | then-fresh+else-n-eq256+else-loop-j-test w ↦ omega (arith, s.ordered, s.bounded, few, w.if-n-eq256.false)
+      | else-fresh w ↦ omega (arith, (there.same w.if-fresh.false).0, few)
+    ]
 
 pub loop-i-smaller : goal.loop-i-smaller
 loop-i-smaller c = omega arith
@@ -183,15 +198,18 @@ loop-i-preserved c =
     let order-key = c.order_key-key in
     let loop2 = c.loop-lo in
     let loop2-test = c.loop-lo-test in
-    let there = ⊎_elim (λ w. stand_here loop.points order-key.result loop2.lo c.if-lo-n.fresh w.2.result w.2.ensures w.0.taken w.3)
-    (λ w. stand_past loop.points order-key.result loop2.lo c.if-lo-n.fresh w.0.left w.1) c.if-lo-n.branch in
-    ⊎_elim
-    (λ w. turn_new args.points args.new loop.points used.result loop.i loop.invariant loop-test.true order-key.result loop2.lo loop2.hi c.if-lo-n.fresh
-    order-key.ensures loop2.invariant loop2-test.false there _ w.2.points w.2.j w.4 w.0.taken w.1.left w.2.inv.0 (omega (arith, w.3.left))
-    w.2.inv.2)
-    (λ w. turn_same args.points args.new loop.points used.result loop.i loop.invariant loop-test.true order-key.result loop2.lo loop2.hi c.if-lo-n.fresh
-    order-key.ensures loop2.invariant loop2-test.false there _ w.1 w.0.left)
-    c.if-fresh.branch
+    let there : Standing loop.points order-key.result loop2.lo c.if-lo-n.fresh =
+    elim c.if-lo-n.branch [
+      | then-lo-n w ↦ stand_here loop.points order-key.result loop2.lo c.if-lo-n.fresh w.order_key-then-lo-n.result w.order_key-then-lo-n.ensures w.if-lo-n.true w.fresh-is
+      | else-lo-n w ↦ stand_past loop.points order-key.result loop2.lo c.if-lo-n.fresh w.if-lo-n.false w.fresh-is
+    ] in
+    elim c.if-fresh.branch [
+      | then-fresh+else-n-eq256+else-loop-j-test w ↦ turn_new args.points args.new loop.points used.result loop.i loop.invariant loop-test.true order-key.result loop2.lo loop2.hi
+          c.if-lo-n.fresh order-key.ensures loop2.invariant loop2-test.false there _ w.loop-j.points w.loop-j.j w.points-is w.if-fresh.true w.if-n-eq256.false w.loop-j.invariant.0
+          (omega (arith, w.loop-j-test.false)) w.loop-j.invariant.2
+      | else-fresh w ↦ turn_same args.points args.new loop.points used.result loop.i loop.invariant loop-test.true order-key.result loop2.lo loop2.hi c.if-lo-n.fresh
+          order-key.ensures loop2.invariant loop2-test.false there _ w.points-is w.if-fresh.false
+    ]
 
 pub returns : goal.returns
 returns c =

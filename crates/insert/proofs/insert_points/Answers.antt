@@ -17,19 +17,19 @@ insert_all-made-requires c = valid_sorted c.args.points c.requires.0 (places c.a
 pub returns-then-made : goal.returns-then-made
 returns-then-made c =
     let args = c.args in
-    let insert_all = c.insert_all-made in
+    let made = c.insert_all-made in
     let ps = args.points in
     let l = insert_all (list_of ps) (list_of args.new) in
     let f : every finite_point l ≡ true = every_all finite_point (list_of ps) (list_of args.new) (valid_finite ps c.requires.0) c.requires.1 in
     let r : rising l ≡ true = rising_all (list_of ps) (list_of args.new) (valid_rising ps c.requires.0) in
-    ap accepted (insert_all.ensures.made c.if-made.true) ∙ room ps l f r (sym insert_all.ensures.fits ∙ c.if-made.true)
+    ap accepted (made.ensures.made c.if-made.true) ∙ room ps l f r (sym made.ensures.fits ∙ c.if-made.true)
 
 pub returns-else-made : goal.returns-else-made
 returns-else-made c =
     let args = c.args in
-    let insert_all = c.insert_all-made in
+    let made = c.insert_all-made in
     let ps = args.points in
     let l = insert_all (list_of ps) (list_of args.new) in
     let f : every finite_point l ≡ true = every_all finite_point (list_of ps) (list_of args.new) (valid_finite ps c.requires.0) c.requires.1 in
     let r : rising l ≡ true = rising_all (list_of ps) (list_of args.new) (valid_rising ps c.requires.0) in
-    c.refuse.ensures ∙ no_room ps l f r (sym insert_all.ensures.fits ∙ c.if-made.false)
+    c.refuse.ensures ∙ no_room ps l f r (sym made.ensures.fits ∙ c.if-made.false)
