@@ -10,7 +10,7 @@ use Rattle.combine.proofs.Walking.{Step, Done, begun, stepped, made_is, turn_roo
 use Rattle.combine.proofs.walk.Goals as goal
 
 -- the step that the turn took
-step_of : (c : goal.After-next_time-next) →
+step_of : (c : goal.After-is_finite-ok) →
     let args = c.args in
     let loop = c.loop-i in
     Step (side_with args.a args.left) (side_with args.b args.right) loop.i loop.j c.next_time-next.result
@@ -40,7 +40,7 @@ step_of c =
     c.loop-i.invariant.2.apart (omega arith) c.next_time-next.ensures
 
 -- and the point that it made
-made_of : (c : goal.After-new-made) →
+made_of : (c : goal.After-is_finite-ok) →
     let args = c.args in
     let next-time = c.next_time-next in
     c.new-made.result ≡ combined_point args.operation (side_with args.a args.left) (side_with args.b args.right) next-time.result.time
@@ -51,14 +51,13 @@ made_of c =
     let within = c.within-i1 in
     let previous2 = c.previous-j0 in
     let within2 = c.within-j1 in
-    let after-next-time = c.before.before.before.before in
-    let next-time = after-next-time.next_time-next in
+    let next-time = c.next_time-next in
     let value-at = c.value_at-x in
     let value-at2 = c.value_at-y in
     made_is args.operation args.a args.b args.left args.right c.requires.0 c.requires.1 (inside args.a _ c.well_formed.1.0 c.requires.0)
     (inside args.b _ c.well_formed.1.1.1.0 c.requires.1) c.requires.2 c.requires.3
     loop.i loop.j previous.result within.result previous2.result within2.result previous.ensures within.ensures previous2.ensures within2.ensures
-    next-time.result value-at.result value-at2.result c.apply.result c.new-made.result (step_of after-next-time) value-at.ensures value-at2.ensures
+    next-time.result value-at.result value-at2.result c.apply.result c.new-made.result (step_of c) value-at.ensures value-at2.ensures
     c.apply.ensures c.new-made.ensures
 
 pub overflow_add-end : goal.overflow_add-end
@@ -136,37 +135,35 @@ pub overflow_add-out : goal.overflow_add-out
 overflow_add-out c = omega arith
 
 pub loop-i-smaller-then-place-lt256 : goal.loop-i-smaller-then-place-lt256
-loop-i-smaller-then-place-lt256 c = omega (arith, (step_of c.before.before.before.before.before.before).on)
+loop-i-smaller-then-place-lt256 c = omega (arith, (step_of c.before).on)
 
 pub loop-i-preserved-then-place-lt256 : goal.loop-i-preserved-then-place-lt256
 loop-i-preserved-then-place-lt256 c =
     let args = c.args in
     let loop = c.loop-i in
-    let after-next-time = c.before.before.before.before.before.before in
-    let next-time = after-next-time.next_time-next in
-    let after-new = c.before.before in
-    let new = after-new.new-made in (
-      (step_of after-next-time).left,
-      (step_of after-next-time).right,
+    let next-time = c.next_time-next in
+    let new = c.new-made in
+    let after = c.before in (
+      (step_of after).left,
+      (step_of after).right,
       turn_room args.operation (side_with args.a args.left) (side_with args.b args.right) loop.out loop.ok loop.total loop.i loop.j next-time.result
-          new.result c.is_finite-ok.result _ loop.invariant.2 (step_of after-next-time) (made_of after-new) c.is_finite-ok.ensures c.if-place-lt256.true refl,
+          new.result c.is_finite-ok.result _ loop.invariant.2 (step_of after) (made_of after) c.is_finite-ok.ensures c.if-place-lt256.true refl,
     )
 
 pub loop-i-smaller : goal.loop-i-smaller
-loop-i-smaller c = omega (arith, (step_of c.before.before.before.before.before.before).on)
+loop-i-smaller c = omega (arith, (step_of c.before).on)
 
 pub loop-i-preserved : goal.loop-i-preserved
 loop-i-preserved c =
     let args = c.args in
     let loop = c.loop-i in
-    let after-next-time = c.before.before.before.before.before.before in
-    let next-time = after-next-time.next_time-next in
-    let after-new = c.before.before in
-    let new = after-new.new-made in (
-      (step_of after-next-time).left,
-      (step_of after-next-time).right,
+    let next-time = c.next_time-next in
+    let new = c.new-made in
+    let after = c.before in (
+      (step_of after).left,
+      (step_of after).right,
       turn_full args.operation (side_with args.a args.left) (side_with args.b args.right) loop.out loop.ok loop.total loop.i loop.j next-time.result
-          new.result c.is_finite-ok.result _ loop.invariant.2 (step_of after-next-time) (made_of after-new) c.is_finite-ok.ensures c.if-place-lt256.false refl,
+          new.result c.is_finite-ok.result _ loop.invariant.2 (step_of after) (made_of after) c.is_finite-ok.ensures c.if-place-lt256.false refl,
     )
 
 pub returns : goal.returns
