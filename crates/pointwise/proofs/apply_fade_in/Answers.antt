@@ -6,7 +6,6 @@ use Rattle.points.specs.Points.{list_of}
 use Rattle.settle.specs.Settle.{edit_points}
 use Rattle.pointwise.specs.Each.{changed}
 use Rattle.pointwise.specs.declared.Change.TheVariants.{FadeIn}
-use borrow.Author.Rules.{rules}
 use Rattle.pointwise.proofs.apply_fade_in.Goals as goal
 
 pub returns-then-duration : goal.returns-then-duration

@@ -7,7 +7,6 @@ use Rattle.points.specs.Points.{list_of}
 use Rattle.settle.specs.Settle.{edit_points}
 use Rattle.pointwise.specs.Each.{changed}
 use Rattle.pointwise.specs.declared.Change.TheVariants.{FadeOut}
-use borrow.Author.Rules.{rules}
 use Rattle.pointwise.proofs.apply_fade_out.Goals as goal
 
 pub returns-then-duration : goal.returns-then-duration

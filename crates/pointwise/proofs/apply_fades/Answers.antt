@@ -6,7 +6,6 @@ use Rattle.pointwise.specs.Each.{changed, faded_in_all, faded_out_all}
 use Rattle.pointwise.specs.declared.Change.TheVariants.{FadeOut}
 use Rattle.settle.proofs.Ends.{ends_kept}
 use Rattle.pointwise.proofs.Fades.{faded_out_places, fades_holding, fades_kept, fades_mapped}
-use borrow.Author.Rules.{rules}
 use Rattle.pointwise.proofs.apply_fades.Goals as goal
 
 pub returns-then-fade_out_duration : goal.returns-then-fade_out_duration

@@ -1,4 +1,3 @@
-use borrow.Author.Rules.{rules}
 use Rattle.pointwise.proofs.apply_gate.Goals as goal
 
 pub returns : goal.returns

@@ -7,7 +7,6 @@ use Rattle.settle.specs.Settle.{edit_points}
 use Rattle.pointwise.specs.Each.{changed}
 use Rattle.pointwise.specs.declared.Change.TheVariants.{Clamp}
 use Rattle.pointwise.proofs.Clamped.{in_order_lem, not_finite, invalid, crossed}
-use borrow.Author.Rules.{rules}
 use Rattle.pointwise.proofs.clamp_values.Goals as goal
 use Rattle.pointwise.proofs.clamp_values.Goals.{then-min-max+then-ok+else-is_valid, then-min-max+else-ok, else-min-max}
 

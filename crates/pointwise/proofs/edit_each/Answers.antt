@@ -3,7 +3,6 @@ use Rattle.points.proofs.Good.{places}
 use Rattle.pointwise.specs.Places.{mapped_in}
 use Rattle.pointwise.specs.Each.{changed}
 use Rattle.pointwise.proofs.Mapped.{ends_each}
-use borrow.Author.Rules.{rules}
 use Rattle.pointwise.proofs.edit_each.Goals as goal
 
 pub returns : goal.returns

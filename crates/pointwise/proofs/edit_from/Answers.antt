@@ -8,7 +8,6 @@ use Rattle.pointwise.specs.Places.{mapped_in}
 use Rattle.pointwise.specs.Each.{changed}
 use Rattle.pointwise.proofs.Mapped.{map-long}
 use Rattle.settle.proofs.Tested.{out_valid, out_ok, out_finite, out_rise, out_accepted}
-use borrow.Author.Rules.{rules}
 use Rattle.pointwise.proofs.edit_from.Goals as goal
 
 pub returns-then-made-2 : goal.returns-then-made-2

@@ -1,7 +1,6 @@
 use mathlib.Core.Path.{ap, ◌∙◌}
 use Rattle.numbers.specs.Narrow.{narrow}
 use Rattle.pointwise.specs.Each.{fade_fraction}
-use borrow.Author.Rules.{rules}
 use Rattle.pointwise.proofs.fade_fraction.Goals as goal
 
 pub returns : goal.returns

@@ -1,5 +1,4 @@
 use Rattle.pointwise.specs.Each.{faded_in}
-use borrow.Author.Rules.{rules}
 use Rattle.pointwise.proofs.faded_in.Goals as goal
 
 pub returns-then-p-start : goal.returns-then-p-start

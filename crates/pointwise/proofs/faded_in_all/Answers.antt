@@ -3,7 +3,6 @@ use lib.Ieee.{Float}
 use Rattle.pointwise.specs.Places.{mapped_in}
 use Rattle.pointwise.specs.Each.{changed}
 use Rattle.pointwise.specs.declared.Change.TheVariants.{FadeIn}
-use borrow.Author.Rules.{rules}
 use Rattle.pointwise.proofs.faded_in_all.Goals as goal
 
 pub returns-then-duration : goal.returns-then-duration

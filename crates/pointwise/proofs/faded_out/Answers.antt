@@ -1,5 +1,4 @@
 use Rattle.pointwise.specs.Each.{faded_out}
-use borrow.Author.Rules.{rules}
 use Rattle.pointwise.proofs.faded_out.Goals as goal
 
 pub returns-then-p-start : goal.returns-then-p-start

@@ -1,6 +1,5 @@
 use Rattle.points.proofs.Good.{places}
 use Rattle.pointwise.proofs.Times.{first_is}
-use borrow.Author.Rules.{rules}
 use Rattle.pointwise.proofs.first_time.Goals as goal
 
 pub returns : goal.returns

@@ -1,7 +1,6 @@
 use mathlib.Core.Path.{refl}
 use Rattle.points.proofs.Good.{places}
 use Rattle.settle.proofs.Ends.{ends_same}
-use borrow.Author.Rules.{rules}
 use Rattle.pointwise.proofs.keep.Goals as goal
 
 pub returns : goal.returns

@@ -1,6 +1,5 @@
 use Rattle.points.proofs.Good.{places}
 use Rattle.pointwise.proofs.Times.{last_none, last_is}
-use borrow.Author.Rules.{rules}
 use Rattle.pointwise.proofs.last_time.Goals as goal
 
 pub returns-then-n-eq0 : goal.returns-then-n-eq0

@@ -1,4 +1,3 @@
-use borrow.Author.Rules.{rules}
 use Rattle.pointwise.proofs.map_points.Goals as goal
 
 pub returns : goal.returns

@@ -1,4 +1,4 @@
-use Prim.Native.Nat.{ℕ, min, ◌≤◌, ◌<◌, ◌-◌}
+use Prim.Native.Nat.{ℕ, min, ◌<◌}
 use mathlib.Core.Path.{◌≡◌, refl, sym, ap, ◌∙◌}
 use native.Mathlib.Omega.{arith}
 use lib.ListN.{length, take}
@@ -8,8 +8,8 @@ use Rattle.points.proofs.Laws.{take_min}
 use Rattle.points.specs.declared.Points.{Points}
 use Rattle.points.proofs.Good.{places}
 use Rattle.pointwise.specs.Each.{changed}
-use Rattle.pointwise.proofs.Mapped.{map_up_to, map-turn, map-end}
-use Rattle.settle.proofs.Tested.{LastKey, finite_set, rise_set, last_set}
+use Rattle.pointwise.proofs.Mapped.{map-turn, map-end}
+use Rattle.settle.proofs.Tested.{finite_set, rise_set, last_set}
 use Rattle.pointwise.proofs.Mapped.{map-long}
 use Rattle.pointwise.proofs.map_tested.Goals as goal
 

@@ -1,4 +1,3 @@
-use borrow.Author.Rules.{rules}
 use Rattle.pointwise.proofs.normalize.Goals as goal
 
 pub returns-then-range : goal.returns-then-range

@@ -1,4 +1,3 @@
-use borrow.Author.Rules.{rules}
 use Rattle.pointwise.proofs.scale_time.Goals as goal
 
 pub returns-then-factor : goal.returns-then-factor

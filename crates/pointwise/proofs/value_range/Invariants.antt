@@ -1,13 +1,6 @@
-use Prim.Native.Nat.{ℕ, ◌≤◌, ◌-◌}
-use mathlib.Core.Path.{◌≡◌, refl, sym, ap, ◌∙◌}
-use mathlib.Core.Bool.{true, false}
-use native.Mathlib.Omega.{arith}
-use lib.Ieee.{Float, inf, of_bits, div, neg}
-use lib.ListN.{take, get_or}
-use Rattle.numbers.specs.Bounds.{min_num, max_num}
-use Rattle.points.specs.Point.{any_point}
-use Rattle.points.proofs.Laws.{take_min, fold_more}
-use Rattle.points.proofs.Good.{places}
+use Prim.Native.Nat.{◌≤◌, ◌-◌}
+use mathlib.Core.Path.{◌≡◌}
+use lib.ListN.{take}
 use Rattle.pointwise.specs.Each.{lowest_value, highest_value}
 use Rattle.pointwise.proofs.value_range.Given as goal
 

@@ -1,5 +1,5 @@
 -- `finish` meets its contract: its loop tests the new points, and each way out is the first of the edit's causes that fails. Assumes nothing.
-use Prim.Native.Nat.{ℕ, ◌≤◌, ◌<◌, ◌-◌}
+use Prim.Native.Nat.{ℕ, ◌<◌}
 use mathlib.Core.Path.{◌≡◌, refl, ap, ◌∙◌}
 use native.Mathlib.Omega.{arith}
 use lib.ListN.{length, take}
@@ -8,7 +8,7 @@ use Rattle.points.specs.Points.{every, rising_by, rising, list_of}
 use Rattle.points.proofs.Laws.{take_min}
 use Rattle.points.proofs.Good.{places}
 use Rattle.settle.proofs.Ends.{as_edit}
-use Rattle.settle.proofs.Tested.{LastKey, finite_more, rise_more, last_more, out_valid, out_ok, out_finite, out_rise, out_accepted}
+use Rattle.settle.proofs.Tested.{finite_more, rise_more, last_more, out_valid, out_ok, out_finite, out_rise, out_accepted}
 use Rattle.settle.proofs.finish.Goals as goal
 
 pub loop-i-init : goal.loop-i-init

@@ -1,14 +1,10 @@
 -- `finish` meets its contract: its loop tests the new points, and each way out is the first of the edit's causes that fails. Assumes nothing.
-use Prim.Native.Nat.{ℕ, ◌≤◌, ◌<◌, ◌-◌}
-use mathlib.Core.Path.{◌≡◌, refl, ap, ◌∙◌}
-use native.Mathlib.Omega.{arith}
-use lib.ListN.{length, take}
+use Prim.Native.Nat.{◌≤◌, ◌-◌}
+use mathlib.Core.Path.{◌≡◌}
+use lib.ListN.{take}
 use Rattle.points.specs.Point.{finite_point}
-use Rattle.points.specs.Points.{every, rising_by, rising, list_of}
-use Rattle.points.proofs.Laws.{take_min}
-use Rattle.points.proofs.Good.{places}
-use Rattle.settle.proofs.Ends.{as_edit}
-use Rattle.settle.proofs.Tested.{LastKey, finite_more, rise_more, last_more, out_valid, out_ok, out_finite, out_rise, out_accepted}
+use Rattle.points.specs.Points.{every, rising}
+use Rattle.settle.proofs.Tested.{LastKey}
 use Rattle.settle.proofs.finish.Given as goal
 
 abbrev pub invariant-loop-i : goal.invariant-loop-i

@@ -1,6 +1,5 @@
 use mathlib.Core.Path.{ap, ◌∙◌}
 use Rattle.pointwise.specs.Each.{with_value}
-use borrow.Author.Rules.{rules}
 use Rattle.pointwise.proofs.Change.apply.Goals as goal
 
 pub returns-in-Shift : goal.returns-in-Shift
