@@ -1,7 +1,6 @@
 -- `combine::combine` meets its contract: each way out is the first of the edit's causes that fails. Assumes nothing.
 use mathlib.Core.Path.{◌≡◌, sym, ◌∙◌}
 use mathlib.Core.Bool.{true}
-use borrow.Author.Rules.{rules}
 use borrow.Author.Tests.{not-true, not-false}
 use Rattle.combine.specs.Combine.{finite_operation, valid_side}
 use Rattle.combine.proofs.Combined.{side_points}

@@ -1,7 +1,6 @@
 -- `combine::next_time` meets its contract. Assumes nothing.
 use borrow.Author.Tests.{lt-ltb, le-ltb, le-leb, lt-leb, eq-eqb, ne_eqb}
 use Rattle.combine.specs.Walk.{next_of}
-use borrow.Author.Rules.{rules}
 use Rattle.combine.proofs.next_time.Goals as goal
 
 pub returns-then-n-i : goal.returns-then-n-i

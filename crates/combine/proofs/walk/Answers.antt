@@ -1,12 +1,11 @@
 -- `combine::walk` meets its contract. Assumes nothing.
-use Prim.Native.Nat.{◌+◌, ◌-◌, ◌≤◌}
 use mathlib.Core.Path.{◌≡◌, refl}
 use native.Mathlib.Omega.{arith}
 use Rattle.points.proofs.Good.{inside}
 use Rattle.points.proofs.ValidLaws.{valid_count}
 use Rattle.combine.specs.Combine.{combined_point}
 use Rattle.combine.specs.Walk.{side_with}
-use Rattle.combine.proofs.Walking.{Step, Done, begun, stepped, made_is, turn_room, turn_full, ended}
+use Rattle.combine.proofs.Walking.{Step, begun, stepped, made_is, turn_room, turn_full, ended}
 use Rattle.combine.proofs.walk.Goals as goal
 
 -- the step that the turn took

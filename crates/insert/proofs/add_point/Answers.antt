@@ -9,7 +9,6 @@ use Rattle.points.proofs.ValidLaws.{list_of_holding}
 use Rattle.settle.specs.Settle.{settle}
 use Rattle.insert.specs.Insert.{insert_point, insert_all}
 use Rattle.insert.proofs.Merging.{not_valid, not_finite, settled}
-use borrow.Author.Rules.{rules}
 use Rattle.insert.proofs.add_point.Goals as goal
 
 pub insert_points-requires : goal.insert_points-requires

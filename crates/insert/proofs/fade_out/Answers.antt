@@ -6,7 +6,6 @@ use Rattle.curve.specs.Curve.{finite_controls}
 use Rattle.curve.specs.F32.{f0, f1}
 use Rattle.settle.specs.Settle.{edit_points}
 use Rattle.insert.specs.Insert.{ramp_list}
-use borrow.Author.Rules.{rules}
 use Rattle.insert.proofs.fade_out.Goals as goal
 
 pub returns : goal.returns

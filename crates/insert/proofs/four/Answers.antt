@@ -1,7 +1,6 @@
 use mathlib.Core.Path.{ap}
 use lib.ListN.{set}
 use Rattle.points.specs.declared.Points.{Points}
-use borrow.Author.Rules.{rules}
 use Rattle.insert.proofs.four.Goals as goal
 
 pub returns : goal.returns

@@ -10,7 +10,6 @@ use Rattle.points.proofs.ValidLaws.{list_of_holding, list_of_few}
 use Rattle.points.proofs.Good.{places}
 use Rattle.insert.specs.Insert.{insert_all}
 use Rattle.insert.proofs.Inserting.{sorted_holding, all_few, rising_inserts}
-use borrow.Author.Rules.{rules}
 use Rattle.insert.proofs.in_order.Goals as goal
 
 pub returns-then-times_rise : goal.returns-then-times_rise

@@ -1,11 +1,11 @@
-use Prim.Native.Nat.{◌+◌, ◌≤◌, ◌-◌, ◌/◌}
-use mathlib.Core.Path.{◌≡◌, sym, ap}
+use Prim.Native.Nat.{◌+◌, ◌-◌, ◌/◌}
+use mathlib.Core.Path.{sym, ap}
 use native.Mathlib.Omega.{arith}
 use Rattle.points.specs.Point.{any_point}
 use Rattle.points.specs.Points.{time_key}
-use Rattle.points.proofs.SearchLaws.{Halving, halving_start, halving_up, halving_down}
+use Rattle.points.proofs.SearchLaws.{halving_start, halving_up, halving_down}
 use Rattle.points.proofs.Good.{places}
-use Rattle.insert.proofs.Inserting.{shifted, shift_start, shift_turn, sorted_places, Standing, stand_here, stand_past, Filling, fill_start, fill_end, turn_same, turn_new, turn_full}
+use Rattle.insert.proofs.Inserting.{shift_start, shift_turn, sorted_places, Standing, stand_here, stand_past, fill_start, fill_end, turn_same, turn_new, turn_full}
 use Rattle.insert.proofs.insert_all.Goals as goal
 use Rattle.insert.proofs.insert_all.Goals.{then-lo-n, else-lo-n, then-fresh+else-n-eq256+else-loop-j-test, else-fresh}
 

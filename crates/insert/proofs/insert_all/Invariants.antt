@@ -1,12 +1,9 @@
-use Prim.Native.Nat.{◌+◌, ◌≤◌, ◌-◌, ◌/◌}
-use mathlib.Core.Path.{◌≡◌, sym, ap}
-use mathlib.Core.Logic.{⊎_elim}
-use native.Mathlib.Omega.{arith}
+use Prim.Native.Nat.{◌≤◌, ◌-◌}
+use mathlib.Core.Path.{◌≡◌}
 use Rattle.points.specs.Point.{any_point}
 use Rattle.points.specs.Points.{time_key}
-use Rattle.points.proofs.SearchLaws.{Halving, halving_start, halving_up, halving_down}
-use Rattle.points.proofs.Good.{places}
-use Rattle.insert.proofs.Inserting.{shifted, shift_start, shift_turn, sorted_places, stand_here, stand_past, Filling, fill_start, fill_end, turn_same, turn_new, turn_full}
+use Rattle.points.proofs.SearchLaws.{Halving}
+use Rattle.insert.proofs.Inserting.{shifted, Filling}
 use Rattle.insert.proofs.insert_all.Given as goal
 
 abbrev pub invariant-loop-lo : goal.invariant-loop-lo

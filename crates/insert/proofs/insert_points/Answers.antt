@@ -8,7 +8,6 @@ use Rattle.settle.specs.Settle.{accepted}
 use Rattle.insert.specs.Insert.{insert_all}
 use Rattle.insert.proofs.Inserting.{every_all, rising_all}
 use Rattle.insert.proofs.Merging.{room, no_room, valid_sorted}
-use borrow.Author.Rules.{rules}
 use Rattle.insert.proofs.insert_points.Goals as goal
 
 pub insert_all-made-requires : goal.insert_all-made-requires

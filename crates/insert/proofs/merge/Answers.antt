@@ -7,7 +7,6 @@ use Rattle.points.specs.Points.{list_of, valid_points}
 use Rattle.points.proofs.Good.{places}
 use Rattle.insert.specs.Insert.{merged, merged_points}
 use Rattle.insert.proofs.Merging.{not_finite, merge_invalid, merge_other, merge_valid, merge_lost, merge_made}
-use borrow.Author.Rules.{rules}
 use Rattle.insert.proofs.merge.Goals as goal
 
 pub insert_points-requires : goal.insert_points-requires

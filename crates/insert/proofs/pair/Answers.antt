@@ -4,7 +4,6 @@ use lib.ListN.{set}
 use Rattle.points.specs.declared.Points.{Points}
 use Rattle.points.specs.Points.{holding}
 use Rattle.insert.proofs.Merging.{pair_up, pair_same, pair_down}
-use borrow.Author.Rules.{rules}
 use Rattle.insert.proofs.pair.Goals as goal
 
 pub returns-then-x-y : goal.returns-then-x-y

@@ -16,7 +16,6 @@ use Rattle.points.proofs.ValidLaws.{list_of_holding}
 use Rattle.insert.specs.Insert.{insert_all, pulse_list}
 use Rattle.insert.proofs.Inserting.{holding_own, all_few, rising_all}
 use Rattle.insert.proofs.Merging.{not_valid, made_new, any_three, pulse_fine}
-use borrow.Author.Rules.{rules}
 use Rattle.insert.proofs.pulse.Goals as goal
 
 pub in_order-requires : goal.in_order-requires

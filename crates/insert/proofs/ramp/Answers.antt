@@ -12,7 +12,6 @@ use Rattle.points.specs.Point.{point_with}
 use Rattle.insert.specs.Insert.{insert_all, ramp_list}
 use Rattle.insert.proofs.Inserting.{all_few, rising_all}
 use Rattle.insert.proofs.Merging.{not_valid, made_new, any_three, ramp_fine}
-use borrow.Author.Rules.{rules}
 use Rattle.insert.proofs.ramp.Goals as goal
 
 pub returns-then-not-is_valid : goal.returns-then-not-is_valid

@@ -1,7 +1,6 @@
 use mathlib.Core.Path.{sym}
 use Rattle.points.proofs.FloatLaws.{abs_above}
 use Rattle.shape.specs.Shape.{differs}
-use borrow.Author.Rules.{rules}
 use Rattle.shape.proofs.differs.Goals as goal
 
 pub returns : goal.returns

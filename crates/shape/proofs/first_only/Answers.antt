@@ -10,7 +10,6 @@ use Rattle.points.specs.declared.Points.{Points}
 use Rattle.points.specs.Point.{any_point}
 use Rattle.points.specs.Points.{list_of, holding}
 use Rattle.points.proofs.Good.{places}
-use borrow.Author.Rules.{rules}
 use Rattle.shape.proofs.first_only.Goals as goal
 
 pub returns-then-points-eq0 : goal.returns-then-points-eq0

@@ -14,7 +14,6 @@ use Rattle.shape.specs.Shape.{firsts}
 use Rattle.shape.specs.Neighbours.{without_repeats}
 use Rattle.points.proofs.Fits.{times_fit}
 use Rattle.shape.proofs.Quantized.{quantized_stays, ends_quantized}
-use borrow.Author.Rules.{rules}
 use Rattle.shape.proofs.quantize_time.Goals as goal
 
 pub returns-then-grid : goal.returns-then-grid

@@ -1,7 +1,6 @@
 use Rattle.points.specs.Points.{list_of}
 use Rattle.settle.proofs.Ends.{ends}
 use Rattle.shape.specs.Shape.{remove_first, near}
-use borrow.Author.Rules.{rules}
 use Rattle.shape.proofs.remove_point_at.Goals as goal
 
 pub returns : goal.returns

@@ -11,7 +11,6 @@ use Rattle.pointwise.specs.Each.{changed, last_time}
 use Rattle.pointwise.specs.declared.Change.TheVariants.{Reflect}
 use Rattle.pointwise.proofs.Mapped.{mapped_list}
 use Rattle.shape.specs.Shape.{reversed}
-use borrow.Author.Rules.{rules}
 use Rattle.shape.proofs.reverse.Goals as goal
 
 pub returns : goal.returns

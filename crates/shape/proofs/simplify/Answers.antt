@@ -1,7 +1,6 @@
 use Rattle.points.specs.Points.{list_of}
 use Rattle.settle.proofs.Ends.{ends}
 use Rattle.shape.specs.Shape.{simplified}
-use borrow.Author.Rules.{rules}
 use Rattle.shape.proofs.simplify.Goals as goal
 
 pub returns : goal.returns

@@ -2,7 +2,6 @@ use Rattle.numbers.proofs.Tests.{and_both}
 use Rattle.points.specs.Points.{list_of}
 use Rattle.settle.proofs.Ends.{ends}
 use Rattle.shape.specs.Shape.{keep_if, inside}
-use borrow.Author.Rules.{rules}
 use Rattle.shape.proofs.trim.Goals as goal
 
 pub returns : goal.returns

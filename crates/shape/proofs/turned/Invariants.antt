@@ -1,16 +1,8 @@
-use Prim.Native.Nat.{ℕ, ◌+◌, ◌≤◌, ◌-◌}
-use mathlib.Core.Path.{◌≡◌, sym, ap, ◌∙◌}
-use mathlib.Core.List.{List, [], ◌∷◌, ◌++◌, reverse, reverse-cons}
-use native.Mathlib.Omega.{arith}
-use native.Mathlib.Numerals.{add-one}
-use lib.ListN.{length, drop, get_or, length-take}
-use lib.Seq.{get_or-take, drop-cons, drop-length}
-use Rattle.points.proofs.ValidLaws.{pushed}
-use Rattle.points.specs.declared.AutomationPoint.{AutomationPoint}
-use Rattle.points.specs.declared.Points.{Points}
-use Rattle.points.specs.Point.{any_point}
+use Prim.Native.Nat.{◌+◌, ◌≤◌}
+use mathlib.Core.Path.{◌≡◌}
+use mathlib.Core.List.{reverse}
+use lib.ListN.{drop}
 use Rattle.points.specs.Points.{list_of, holding}
-use Rattle.points.proofs.Good.{places}
 use Rattle.shape.proofs.turned.Given as goal
 
 abbrev pub invariant-loop-i : goal.invariant-loop-i

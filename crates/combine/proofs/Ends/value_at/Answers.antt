@@ -2,7 +2,6 @@
 use mathlib.Core.Path.{sym, ◌∙◌}
 use borrow.Author.Tests.{not-true, not-false, eq-eqb, ne_eqb}
 use Rattle.combine.proofs.Near.{near_off, near_some, near_none, near_inner}
-use borrow.Author.Rules.{rules}
 use Rattle.combine.proofs.Ends.value_at.Goals as goal
 
 pub returns-then-not-self : goal.returns-then-not-self

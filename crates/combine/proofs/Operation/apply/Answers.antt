@@ -2,7 +2,6 @@
 use mathlib.Core.Path.{ap}
 use lib.Ieee.{Float}
 use Rattle.curve.specs.F32.{◌+ᶠ◌, ◌-ᶠ◌, ◌*ᶠ◌, f1}
-use borrow.Author.Rules.{rules}
 use Rattle.combine.proofs.Operation.apply.Goals as goal
 
 pub returns-in-Blend : goal.returns-in-Blend

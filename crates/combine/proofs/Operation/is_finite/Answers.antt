@@ -1,5 +1,4 @@
 -- `combine::Operation::is_finite` meets its contract. Assumes nothing.
-use borrow.Author.Rules.{rules}
 use Rattle.combine.proofs.Operation.is_finite.Goals as goal
 
 pub returns-in-Blend : goal.returns-in-Blend

@@ -6,7 +6,6 @@ use Rattle.points.proofs.ValidLaws.{valid_count}
 use Rattle.lookup.specs.Lookup.{point_at}
 use Rattle.combine.proofs.Combined.{side_points}
 use Rattle.combine.specs.declared.Ends.{Ends}
-use borrow.Author.Rules.{rules}
 use Rattle.combine.proofs.Side.ends.Goals as goal
 
 pub offset_bounds-points-end : goal.offset_bounds-points-end
