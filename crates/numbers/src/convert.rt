@@ -45,6 +45,9 @@ pub fn u64_to_f32(n: u64) -> f32
     f32::from_bits(((189 - z) * 8388608 + q) as u32)
 }
 
+// The exponent's field of 2^-160: below it a value is far under half of the smallest subnormal.
+const FLUSHED_BELOW: u64 = 863;
+
 // The pattern of the `f32` nearest to the `f64` of the pattern b, by the exponent's field e: zero, a
 // subnormal, a normal value, an infinity.
 fn narrow_bits(b: u64) -> u64
@@ -55,8 +58,8 @@ fn narrow_bits(b: u64) -> u64
     let sign = (b >> 63) * 0x8000_0000;
     let e = (b >> 52) % 0x800;
     let t = b % 0x10_0000_0000_0000;
-    // below 2^-160, where the shift below would pass 63: far under half of the smallest subnormal
-    if e < 863 {
+    // below 2^-160, where the shift below would pass 63
+    if e < FLUSHED_BELOW {
         return sign;
     }
     // below 2^-126, the smallest normal value: so many times 2^-149

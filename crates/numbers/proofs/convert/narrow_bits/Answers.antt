@@ -29,10 +29,10 @@ kept b d r h =
 by : (b r : ℕ) → b < 2 ^ 64 → sign (s b) + r ≡ to_bits binary32 (narrow (of_fields binary64 (s b) (e b) (t b))) → b / 2 ^ 63 * 2147483648 + r ≡ to_bits binary32 (narrow (of_bits binary64 b))
 by b r h k = ap (λ (x : ℕ). x + r) (sign_is b h) ∙ k ∙ ap (λ (x : Float). to_bits binary32 (narrow x)) (read b)
 
-pub returns-then-e-lt863 : goal.returns-then-e-lt863
-returns-then-e-lt863 c =
+pub returns-then-e-lt-FLUSHED_BELOW : goal.returns-then-e-lt-FLUSHED_BELOW
+returns-then-e-lt-FLUSHED_BELOW c =
     let b = c.args.b in
-    sign_is b c.ranges.b.fits ∙ tiny (s b) (t b) (t_lt b) (e b) c.if-e-lt863.true ∙ ap (λ (x : Float). to_bits binary32 (narrow x)) (read b)
+    sign_is b c.ranges.b.fits ∙ tiny (s b) (t b) (t_lt b) (e b) c.if-e-lt-FLUSHED_BELOW.true ∙ ap (λ (x : Float). to_bits binary32 (narrow x)) (read b)
 
 pub overflow_add-result : goal.overflow_add-result
 overflow_add-result c =
@@ -42,7 +42,7 @@ overflow_add-result c =
 pub returns-then-e-lt897 : goal.returns-then-e-lt897
 returns-then-e-lt897 c =
     let args = c.args in
-    let if1 = c.if-e-lt863 in
+    let if1 = c.if-e-lt-FLUSHED_BELOW in
     let b = args.b in
     ap (λ (x : ℕ). b / 2 ^ 63 * 2147483648 + x) c.nearest_shr.ensures
     ∙ by b (closest (2 ^ 52 + t b) (2 ^ (926 - e b))) c.ranges.b.fits (little (s b) (t b) (t_lt b) (e b) if1.false c.if-e-lt897.true)
