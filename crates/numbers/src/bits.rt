@@ -21,11 +21,14 @@ pub fn to_bitsf(x: f32) -> u32
     if x != x { 0x7FC0_0000 } else { f32::to_bits(x) }
 }
 
+// The pattern of the infinity above zero.
+const INFINITE: u64 = 0x7FF0_0000_0000_0000;
+
 // The float of a pattern, whatever NaN it is.
 pub fn from_bits(b: u64) -> f64
     ensures { result ≡ from_bits binary64 b }
 {
-    if 0x7FF0_0000_0000_0000 < b % 0x8000_0000_0000_0000 {
+    if INFINITE < b % 0x8000_0000_0000_0000 {
         0.0 / 0.0
     } else {
         f64::from_bits(b)

@@ -48,6 +48,9 @@ pub fn u64_to_f32(n: u64) -> f32
 // The exponent's field of 2^-160: below it a value is far under half of the smallest subnormal.
 const FLUSHED_BELOW: u64 = 863;
 
+// The exponent's field of 2^128, from which on there are infinities.
+const INFINITE_FROM: u64 = 1151;
+
 // The pattern of the `f32` nearest to the `f64` of the pattern b, by the exponent's field e: zero, a
 // subnormal, a normal value, an infinity.
 fn narrow_bits(b: u64) -> u64
@@ -67,7 +70,7 @@ fn narrow_bits(b: u64) -> u64
         return sign + nearest_shr(0x10_0000_0000_0000 + t, 926 - e);
     }
     // below 2^128: 29 digits go, and a carry out of the others runs into the field
-    if e < 1151 {
+    if e < INFINITE_FROM {
         return sign + ((e - 897) * 0x80_0000 + nearest_shr(0x10_0000_0000_0000 + t, 29));
     }
     // an infinity

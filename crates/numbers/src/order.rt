@@ -45,7 +45,8 @@ pub fn total_cmp(x: f64, y: f64) -> Ordering
 pub fn max(a: f32, b: f32) -> f32
     ensures { result ≡ max_num a b }
 {
-    if (a != a) | (a < b) { b } else { a }
+    let second = (a != a) | (a < b);
+    if second { b } else { a }
 }
 
 // The smaller of the two, by the same rules.

@@ -6,7 +6,7 @@ use Rattle.numbers.proofs.BitLaws.{nan_read, number_read}
 use Rattle.numbers.proofs.bits.from_bits.Goals as goal
 
 pub float_from_bits-result : goal.float_from_bits-result
-float_from_bits-result c = number_read binary64 c.args.b (le_trans c.if-b-gt9218868437227405312.false (lit≤ tt))
+float_from_bits-result c = number_read binary64 c.args.b (le_trans c.if-b-gt-INFINITE.false (lit≤ tt))
 
-pub returns-then-b-gt9218868437227405312 : goal.returns-then-b-gt9218868437227405312
-returns-then-b-gt9218868437227405312 c = nan_read binary64 c.args.b c.if-b-gt9218868437227405312.true
+pub returns-then-b-gt-INFINITE : goal.returns-then-b-gt-INFINITE
+returns-then-b-gt-INFINITE c = nan_read binary64 c.args.b c.if-b-gt-INFINITE.true

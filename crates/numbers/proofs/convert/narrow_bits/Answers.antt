@@ -47,26 +47,26 @@ returns-then-e-lt897 c =
     ap (λ (x : ℕ). b / 2 ^ 63 * 2147483648 + x) c.nearest_shr.ensures
     ∙ by b (closest (2 ^ 52 + t b) (2 ^ (926 - e b))) c.ranges.b.fits (little (s b) (t b) (t_lt b) (e b) if1.false c.if-e-lt897.true)
 
-pub overflow_add-result-then-e-lt1151 : goal.overflow_add-result-then-e-lt1151
-overflow_add-result-then-e-lt1151 c =
+pub overflow_add-result-then-e-lt-INFINITE_FROM : goal.overflow_add-result-then-e-lt-INFINITE_FROM
+overflow_add-result-then-e-lt-INFINITE_FROM c =
     let args = c.args in
-    omega (arith, kept args.b 29 c.nearest_shr-then-e-lt1151.result c.nearest_shr-then-e-lt1151.ensures)
+    omega (arith, kept args.b 29 c.nearest_shr-then-e-lt-INFINITE_FROM.result c.nearest_shr-then-e-lt-INFINITE_FROM.ensures)
 
-pub overflow_add-result-then-e-lt1151-2 : goal.overflow_add-result-then-e-lt1151-2
-overflow_add-result-then-e-lt1151-2 c =
+pub overflow_add-result-then-e-lt-INFINITE_FROM-2 : goal.overflow_add-result-then-e-lt-INFINITE_FROM-2
+overflow_add-result-then-e-lt-INFINITE_FROM-2 c =
     let args = c.args in
-    omega (arith, kept args.b 29 c.nearest_shr-then-e-lt1151.result c.nearest_shr-then-e-lt1151.ensures)
+    omega (arith, kept args.b 29 c.nearest_shr-then-e-lt-INFINITE_FROM.result c.nearest_shr-then-e-lt-INFINITE_FROM.ensures)
 
-pub returns-then-e-lt1151 : goal.returns-then-e-lt1151
-returns-then-e-lt1151 c =
+pub returns-then-e-lt-INFINITE_FROM : goal.returns-then-e-lt-INFINITE_FROM
+returns-then-e-lt-INFINITE_FROM c =
     let args = c.args in
     let if2 = c.if-e-lt897 in
     let b = args.b in
-    ap (λ (x : ℕ). b / 2 ^ 63 * 2147483648 + ((e b - 897) * 8388608 + x)) c.nearest_shr-then-e-lt1151.ensures
-    ∙ by b ((e b - 897) * 2 ^ 23 + closest (2 ^ 52 + t b) (2 ^ 29)) c.ranges.b.fits (medium (s b) (t b) (t_lt b) (e b) if2.false c.if-e-lt1151.true)
+    ap (λ (x : ℕ). b / 2 ^ 63 * 2147483648 + ((e b - 897) * 8388608 + x)) c.nearest_shr-then-e-lt-INFINITE_FROM.ensures
+    ∙ by b ((e b - 897) * 2 ^ 23 + closest (2 ^ 52 + t b) (2 ^ 29)) c.ranges.b.fits (medium (s b) (t b) (t_lt b) (e b) if2.false c.if-e-lt-INFINITE_FROM.true)
 
 pub returns : goal.returns
 returns c =
     let b = c.args.b in
     by b 2139095040 c.ranges.b.fits
-    (huge (s b) (t b) (t_lt b) (e b) c.if-e-lt1151.false (mod-lt (b / 2 ^ 52) (zero-lt-suc 2047)) (subst (λ (x : Float). T (not (is_nan x))) (sym (read b)) c.requires))
+    (huge (s b) (t b) (t_lt b) (e b) c.if-e-lt-INFINITE_FROM.false (mod-lt (b / 2 ^ 52) (zero-lt-suc 2047)) (subst (λ (x : Float). T (not (is_nan x))) (sym (read b)) c.requires))
