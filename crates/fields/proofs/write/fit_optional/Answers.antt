@@ -14,11 +14,11 @@ returns-in-Bits c =
     let args = c.args in
     let p = c.in-Bits in
     let fit-hex = c.fit_hex in
-    subst (λ (l : List ℕ). Fitted args.out.now args.at l fit-hex.new.0 fit-hex.result) (some_is args.width args.end _ p.is) fit-hex.ensures
+    subst (λ (l : List ℕ). Fitted args.out.now args.at l fit-hex.new.out fit-hex.result) (some_is args.width args.end _ p.is) fit-hex.ensures
 
 pub returns-in-None : goal.returns-in-None
 returns-in-None c =
     let args = c.args in
     let enum_told-1 = c.in-None in
     let fit-text = c.fit_text in
-    subst (λ (l : List ℕ). Fitted args.out.now args.at l fit-text.new.0 fit-text.result) (none_is args.width args.end enum_told-1.is) fit-text.ensures
+    subst (λ (l : List ℕ). Fitted args.out.now args.at l fit-text.new.out fit-text.result) (none_is args.width args.end enum_told-1.is) fit-text.ensures
