@@ -29,7 +29,7 @@ pub bounds-s-at : goal.bounds-s-at
 bounds-s-at c = omega arith
 
 pub digit_of-d-requires : goal.digit_of-d-requires
-digit_of-d-requires c = c.requires.0
+digit_of-d-requires c = c.requires.digits
 
 pub returns-then-base-d : goal.returns-then-base-d
 unfolding told_number
@@ -42,14 +42,14 @@ overflow_mul-v c =
     let args = c.args in
     let pre = c.requires in
     let loop = c.loop-i in
-    omega (arith, horner_fits args.base loop.i args.width loop.v c.digit_of-d.result loop.invariant.1 (omega arith) (omega arith) pre.1.1)
+    omega (arith, horner_fits args.base loop.i args.width loop.v c.digit_of-d.result loop.invariant.1 (omega arith) (omega arith) pre.width_fits.1)
 
 pub overflow_add-v : goal.overflow_add-v
 overflow_add-v c =
     let args = c.args in
     let pre = c.requires in
     let loop = c.loop-i in
-    omega (arith, horner_fits args.base loop.i args.width loop.v c.digit_of-d.result loop.invariant.1 (omega arith) (omega arith) pre.1.1)
+    omega (arith, horner_fits args.base loop.i args.width loop.v c.digit_of-d.result loop.invariant.1 (omega arith) (omega arith) pre.width_fits.1)
 
 pub overflow_add-i : goal.overflow_add-i
 overflow_add-i c = omega arith

@@ -43,8 +43,8 @@ returns-then-next_is c =
 pub number_at-requires : goal.number_at-requires
 number_at-requires c =
     let pre = c.requires in record {
-      digits = pre.0;
-      width_fits = (pre.1.0, pow-le-pow_right (omega arith) pre.1.1);
+      digits = pre.digits;
+      width_fits = (pre.width_fits.0, pow-le-pow_right (omega arith) pre.width_fits.1);
     }
 
 pub returns-in-Is : goal.returns-in-Is

@@ -14,7 +14,7 @@ overflow_cast-result c =
     let args = c.args in
     let pre = c.requires in
     let number_at = c.number_at in
-    omega (arith, number_lt args.base args.width args.end _ _ _ (told (told_number _) number_at.ensures.answer c.in-Is.is), pre.1.1)
+    omega (arith, number_lt args.base args.width args.end _ _ _ (told (told_number _) number_at.ensures.answer c.in-Is.is), pre.width_fits.1)
 
 pub returns-in-Is : goal.returns-in-Is
 unfolding told_number told_single number_end single_end
