@@ -7,7 +7,7 @@ use native.Mathlib.Omega.{arith}
 use borrow.Author.Tests.{le-leb}
 use lib.ListN.{length, drop, replicate, length-append}
 use lib.Seq.{take-append_seam}
-use Rattle.lines.proofs.Reading.{no_line}
+use Rattle.lines.proofs.Reading.{no_line, lines_next}
 use Rattle.numbers.proofs.Tests.{and_left, and_right, and_both}
 use Rattle.points.proofs.Laws.{rising_front}
 use Rattle.points.specs.Point.{finite_point, unused}
@@ -213,7 +213,8 @@ points_written (suc room) before (p ∷ ps) h t f r =
     let some : points_end false l ≡ false = not_empty l (omega (arith, length-append (point_text (raw_point p)) (point_texts ps), point_length (raw_point p))) in
     let rs : rising ((before ++ (p ∷ [])) ++ ps) ≡ true = ap rising (append_assoc before (p ∷ []) ps) ∙ r in
     let read : point_line l ≡ line p (point_texts ps) = point-line p (point_texts ps) (and_left (typed_point p) (every typed_point ps) t) (and_left (finite_point p) (every finite_point ps) f) in
-    rw (some, read, rising_front time_key (before ++ (p ∷ [])) ps rs)
+    lines_next false before l room some
+    ∙ rw (read, rising_front time_key (before ++ (p ∷ [])) ps rs)
     (points_written room (before ++ (p ∷ [])) ps (omega arith) (and_right (typed_point p) (every typed_point ps) t) (and_right (finite_point p) (every finite_point ps) f) rs
     ∙ ap (λ (m : List AutomationPoint). lines (holding m) []) (append_assoc before (p ∷ []) ps))
 

@@ -1,6 +1,5 @@
 -- `sheet::play::block_at` meets its contract: by the answer of `block_line` (`told`): its refusal, or 9 where bytes are left (`empty-in`), or the input
 -- where none are (`empty-out`); the names stand there, so the place after them is in range (`starts_with_length`).
-use mathlib.Core.Path.{refl}
 use native.Mathlib.Omega.{arith}
 use lib.Seq.{drop-drop}
 use Rattle.fields.proofs.Fields.{told}
@@ -51,13 +50,10 @@ returns-in-Refused-clause-held c = let args = c.args in
 
 pub returns-else-next-s : goal.returns-else-next-s
 unfolding told_block_line told_input
-returns-else-next-s c = record {
-  answer = (let args = c.args in
-      let block-line = c.block_line in
-      let block = c.in-Is in
-      rw (drop-drop 14 args.at args.s.now, told (told_block_line _) block-line.ensures.answer block.is, empty_out args.s.now block.next c.if-next-s.false) (refl, refl)).0;
-  held = (let args = c.args in
-      let block-line = c.block_line in
-      let block = c.in-Is in
-      rw (drop-drop 14 args.at args.s.now, told (told_block_line _) block-line.ensures.answer block.is, empty_out args.s.now block.next c.if-next-s.false) (refl, refl)).1;
-}
+returns-else-next-s c =
+    let args = c.args in
+    let block-line = c.block_line in
+    let block = c.in-Is in record {
+      answer = rw (drop-drop 14 args.at args.s.now, told (told_block_line _) block-line.ensures.answer block.is, empty_out args.s.now block.next c.if-next-s.false);
+      held = rw (drop-drop 14 args.at args.s.now, told (told_block_line _) block-line.ensures.answer block.is, empty_out args.s.now block.next c.if-next-s.false);
+    }

@@ -18,7 +18,7 @@ returns-then-code-eq5 c =
     let fit-bits = c.fit_bits-next in
     let fit-bits2 = c.fit_bits in
     let h = subst (λ (l : List ℕ). args.at + length l ≤ length args.out.now) (sym (controls_five args.code args.cp1 args.cp2 if1.true)) c.requires in
-    subst (λ (l : List ℕ). Put args.out.now args.at l fit-bits2.new.0 fit-bits2.result) (controls_five args.code args.cp1 args.cp2 if1.true)
+    subst (λ (l : List ℕ). Put args.out.now args.at l fit-bits2.new.out fit-bits2.result) (controls_five args.code args.cp1 args.cp2 if1.true)
     (fit_then fit-bits.ensures (number_text 16 8 10 args.cp2) h (put_fits fit-bits2.ensures (room_after fit-bits.ensures (number_text 16 8 10 args.cp2) h)))
 
 pub returns-else-code-eq5 : goal.returns-else-code-eq5
@@ -27,5 +27,5 @@ returns-else-code-eq5 c =
     let if1 = c.if-code-eq5 in
     let fit-text = c.fit_text in
     let h = subst (λ (l : List ℕ). args.at + length l ≤ length args.out.now) (sym (controls_other args.code args.cp1 args.cp2 if1.false)) c.requires in
-    subst (λ (l : List ℕ). Put args.out.now args.at l fit-text.new.0 fit-text.result) (controls_other args.code args.cp1 args.cp2 if1.false)
+    subst (λ (l : List ℕ). Put args.out.now args.at l fit-text.new.out fit-text.result) (controls_other args.code args.cp1 args.cp2 if1.false)
     (put_fits fit-text.ensures h)

@@ -33,7 +33,7 @@ raw_point-requires c =
     let good = c.well_formed in
     let used = c.used-n in
     let loop = c.loop-i in
-    every_within finite_point args.points.places args.points.count loop.i any_point pre.0 (omega (arith, used.ensures))
+    every_within finite_point args.points.places args.points.count loop.i any_point pre.finite (omega (arith, used.ensures))
     (let len = places args.points _ good.1.1.0 in omega (arith, used.ensures))
 
 pub put_point-at-requires : goal.put_point-at-requires
@@ -45,7 +45,7 @@ put_point-at-requires c =
     let loop = c.loop-i in
     rw c.raw_point.ensures
     (text_fits args.points.places loop.i any_point (let len = places args.points _ good.1.1.0 in omega (arith, used.ensures)) loop.invariant.2 args.points.count
-    (omega (arith, used.ensures)) pre.1)
+    (omega (arith, used.ensures)) pre.room)
 
 pub overflow_add-i : goal.overflow_add-i
 overflow_add-i c = omega (arith, c.used-n.ensures)

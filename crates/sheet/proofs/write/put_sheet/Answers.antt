@@ -9,13 +9,13 @@ use Rattle.sheet.proofs.write.put_sheet.Goals as goal
 pub raw_settings-requires : goal.raw_settings-requires
 raw_settings-requires c =
     let args = c.args in
-    limits_finite args.e c.requires.0
+    limits_finite args.e c.requires.sound
 
 pub put_settings-b-requires : goal.put_settings-b-requires
 put_settings-b-requires c =
     let args = c.args in
     let fit-text = c.fit_text-a in
-    rw c.raw_settings.ensures (settings_room args.e c.requires.1 fit-text.ensures)
+    rw c.raw_settings.ensures (settings_room args.e c.requires.room fit-text.ensures)
 
 pub put_points-requires : goal.put_points-requires
 put_points-requires c =
@@ -24,8 +24,8 @@ put_points-requires c =
     let raw-settings = c.raw_settings in
     let put-settings = c.put_settings-b in
     let fit-text2 = c.fit_text-c in record {
-      finite = valid_finite args.e.points (points_valid args.e c.requires.0);
-      room = points_room args.e c.requires.1 fit-text.ensures (rw raw-settings.ensures at put-settings.ensures) fit-text2.ensures;
+      finite = valid_finite args.e.points (points_valid args.e c.requires.sound);
+      room = points_room args.e c.requires.room fit-text.ensures (rw raw-settings.ensures at put-settings.ensures) fit-text2.ensures;
     }
 
 pub returns : goal.returns
@@ -36,4 +36,4 @@ returns c =
     let put-settings = c.put_settings-b in
     let fit-text2 = c.fit_text-c in
     let put-points = c.put_points in
-    sheet_put args.e c.requires.1 fit-text.ensures (rw raw-settings.ensures at put-settings.ensures) fit-text2.ensures put-points.ensures
+    sheet_put args.e c.requires.room fit-text.ensures (rw raw-settings.ensures at put-settings.ensures) fit-text2.ensures put-points.ensures
