@@ -22,43 +22,31 @@ put_lines-bytes-requires c =
 
 pub returns-in-Refused : goal.returns-in-Refused
 unfolding told_written
-returns-in-Refused c = record {
-  answer = (let args = c.args in
-      let block-count = c.block_count-n in
-      let render = c.render in
-      block_refused args.play block-count.result block-count.ensures (replicate 1024 (of_bits binary32 0)) (omega (arith, length-replicate 1024 (of_bits binary32 0)))
-      (number c.in-Refused.why) args.out.now (sym render.ensures.answer ∙ ap said c.in-Refused.is)).0;
-  left = (let args = c.args in
-      let block-count = c.block_count-n in
-      let render = c.render in
-      block_refused args.play block-count.result block-count.ensures (replicate 1024 (of_bits binary32 0)) (omega (arith, length-replicate 1024 (of_bits binary32 0)))
-      (number c.in-Refused.why) args.out.now (sym render.ensures.answer ∙ ap said c.in-Refused.is)).1;
-  out_after = (let args = c.args in
-      let block-count = c.block_count-n in
-      let render = c.render in
-      block_refused args.play block-count.result block-count.ensures (replicate 1024 (of_bits binary32 0)) (omega (arith, length-replicate 1024 (of_bits binary32 0)))
-      (number c.in-Refused.why) args.out.now (sym render.ensures.answer ∙ ap said c.in-Refused.is)).2;
-}
+returns-in-Refused c =
+    let args = c.args in
+    let block-count = c.block_count-n in
+    let render = c.render in
+    let refused =
+    block_refused args.play block-count.result block-count.ensures (replicate 1024 (of_bits binary32 0)) (omega (arith, length-replicate 1024 (of_bits binary32 0)))
+    (number c.in-Refused.why) args.out.now (sym render.ensures.answer ∙ ap said c.in-Refused.is)
+    in record {
+      answer = refused.0;
+      left = refused.1.0;
+      out_after = refused.1.1;
+    }
 
 pub returns-in-Accepted : goal.returns-in-Accepted
 unfolding told_written
-returns-in-Accepted c = record {
-  answer = (let args = c.args in
-      let block-count = c.block_count-n in
-      let render = c.render in
-      let enum_told-1 = c.in-Accepted in
-      block_made args.play block-count.result block-count.ensures (replicate 1024 (of_bits binary32 0)) (omega (arith, length-replicate 1024 (of_bits binary32 0)))
-      (sym render.ensures.answer ∙ ap said enum_told-1.is) render.ensures.out_after (search rules) c.put_lines-bytes.ensures).0;
-  left = (let args = c.args in
-      let block-count = c.block_count-n in
-      let render = c.render in
-      let enum_told-1 = c.in-Accepted in
-      block_made args.play block-count.result block-count.ensures (replicate 1024 (of_bits binary32 0)) (omega (arith, length-replicate 1024 (of_bits binary32 0)))
-      (sym render.ensures.answer ∙ ap said enum_told-1.is) render.ensures.out_after (search rules) c.put_lines-bytes.ensures).1;
-  out_after = (let args = c.args in
-      let block-count = c.block_count-n in
-      let render = c.render in
-      let enum_told-1 = c.in-Accepted in
-      block_made args.play block-count.result block-count.ensures (replicate 1024 (of_bits binary32 0)) (omega (arith, length-replicate 1024 (of_bits binary32 0)))
-      (sym render.ensures.answer ∙ ap said enum_told-1.is) render.ensures.out_after (search rules) c.put_lines-bytes.ensures).2;
-}
+returns-in-Accepted c =
+    let args = c.args in
+    let block-count = c.block_count-n in
+    let render = c.render in
+    let enum_told-1 = c.in-Accepted in
+    let made =
+    block_made args.play block-count.result block-count.ensures (replicate 1024 (of_bits binary32 0)) (omega (arith, length-replicate 1024 (of_bits binary32 0)))
+    (sym render.ensures.answer ∙ ap said enum_told-1.is) render.ensures.out_after (search rules) c.put_lines-bytes.ensures
+    in record {
+      answer = made.0;
+      left = made.1.0;
+      out_after = made.1.1;
+    }
