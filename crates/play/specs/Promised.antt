@@ -4,11 +4,11 @@ use Rattle.sheet.specs.Sheet.{play_input}
 use Rattle.play.specs.Play.{counted, output}
 use Rattle.play.specs.Blocks.{over, first_text, first_play, opened_text, played}
 
--- input of any length: bytes after the first 16,543 change nothing (`output-decided`, proofs/Output)
+-- input of any length: bytes after the first 16,543 change nothing (`output_decided`, proofs/Output)
 abbrev pub OutputDecided : Type 0
 OutputDecided = (n : ℕ) (l : List ℕ) → 16543 ≤ n → output (take n l) ≡ output l
 
--- the bytes that opening writes and those of the calls after it are the output, whatever stood in the lent bytes (`blocks-are-output`, there;
+-- the bytes that opening writes and those of the calls after it are the output, whatever stood in the lent bytes (`blocks_are_output`, there;
 -- `enough`, there: 4,194,304 calls are enough for every input)
 abbrev pub BlocksAreOutput : Type 0
 BlocksAreOutput =

@@ -1,4 +1,4 @@
--- `lines::settings::settings_form` meets its contract: the fields come in the order of `settingsForm`, so each way out is a branch of it, by what the calls ensure (`told`);
+-- `lines::settings::settings_form` meets its contract: the fields come in the order of `settings_form`, so each way out is a branch of it, by what the calls ensure (`told`);
 -- the line ends where its last field does (`reached`). Assumes nothing.
 use native.Mathlib.Omega.{arith}
 use Rattle.lines.specs.Lines.{settings_form}

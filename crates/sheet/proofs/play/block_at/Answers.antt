@@ -1,5 +1,5 @@
--- `sheet::play::block_at` meets its contract: by the answer of `block_line` (`told`): its refusal, or 9 where bytes are left (`empty-in`), or the input
--- where none are (`empty-out`); the names stand there, so the place after them is in range (`starts_with_length`).
+-- `sheet::play::block_at` meets its contract: by the answer of `block_line` (`told`): its refusal, or 9 where bytes are left (`empty_in`), or the input
+-- where none are (`empty_out`); the names stand there, so the place after them is in range (`starts_with_length`).
 use native.Mathlib.Omega.{arith}
 use lib.Seq.{drop-drop}
 use Rattle.fields.proofs.Fields.{told}

@@ -1,4 +1,4 @@
--- `sheet::play::no_input` meets its contract: by definition of `toldInput` and `inputHeld`, with the empty envelope that `new` ensures.
+-- `sheet::play::no_input` meets its contract: by definition of `told_input` and `input_held`, with the empty envelope that `new` ensures.
 use mathlib.Core.Path.{refl}
 use lib.Ieee.{of_bits}
 use Rattle.sheet.specs.Told.{told_input}

@@ -1,5 +1,5 @@
--- `sheet::play::read_play` meets its contract: by the answer of `sheet_lines`: a refusal is passed on (`refused-lines`), and an accepted sheet is valid
--- and ends at the block's names (`sheet-read`), as `block_at` asks, which ensures the rest (`accepted-lines`).
+-- `sheet::play::read_play` meets its contract: by the answer of `sheet_lines`: a refusal is passed on (`refused_lines`), and an accepted sheet is valid
+-- and ends at the block's names (`sheet_read`), as `block_at` asks, which ensures the rest (`accepted_lines`).
 use mathlib.Core.Bool.{true}
 use Rattle.lines.specs.PointLines.{points_end}
 use Rattle.sheet.specs.Sheet.{play_input}

@@ -1,4 +1,4 @@
--- `sheet::read::no_sheet` meets its contract: by definition of `toldSheetLines`: a refusal with its line, whatever the bytes.
+-- `sheet::read::no_sheet` meets its contract: by definition of `told_sheet_lines`: a refusal with its line, whatever the bytes.
 use mathlib.Core.Path.{refl}
 use Rattle.sheet.specs.Told.{told_sheet_lines}
 use borrow.Author.Rules.{rules}

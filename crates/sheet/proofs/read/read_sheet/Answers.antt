@@ -1,5 +1,5 @@
--- `sheet::read::read_sheet` meets its contract: by the answer of `sheet_lines`: a refusal with its line beside the envelope of `new` (`refused-lines`),
--- or the sheet's envelope (`accepted-lines`).
+-- `sheet::read::read_sheet` meets its contract: by the answer of `sheet_lines`: a refusal with its line beside the envelope of `new` (`refused_lines`),
+-- or the sheet's envelope (`accepted_lines`).
 use Rattle.sheet.specs.Sheet.{read_sheet}
 use Rattle.sheet.specs.Told.{told_read}
 use Rattle.sheet.proofs.Answers.{accepted_lines, refused_lines}

@@ -1,4 +1,4 @@
--- `sheet::read::sheet_lines` meets its contract: the tests come in the order of `sheetLines`, line 1 to 3, so each way out is a branch of it,
+-- `sheet::read::sheet_lines` meets its contract: the tests come in the order of `sheet_lines`, line 1 to 3, so each way out is a branch of it,
 -- by what the calls ensure (`told`); names that stand there lie within the bytes (`starts_with_length`), so the places are in range.
 use Prim.Native.Nat.{ℕ}
 use mathlib.Core.Path.{sym, ap, ◌∙◌}

@@ -1,4 +1,4 @@
--- `sheet::write::controls_length` meets its contract: by the code: 5 is `five-length`, any other `other_length`.
+-- `sheet::write::controls_length` meets its contract: by the code: 5 is `five_length`, any other `other_length`.
 use mathlib.Core.Path.{sym}
 use Rattle.sheet.proofs.Texts.{five_length, other_length}
 use Rattle.sheet.proofs.write.controls_length.Goals as goal

@@ -1,4 +1,4 @@
--- `sheet::write::limit_bits` meets its contract: by the limit's two cases, as in `limitBits`; a finite number is no NaN (`finite_number`),
+-- `sheet::write::limit_bits` meets its contract: by the limit's two cases, as in `limit_bits`; a finite number is no NaN (`finite_number`),
 -- so it has bits, and they fit the cast (`to_bits-lt`).
 use native.Mathlib.Omega.{arith}
 use lib.Ieee.{binary32}

@@ -1,4 +1,4 @@
--- `sheet::write::point_length` meets its contract: the line has 29 bytes beside position and controls (`point-length`), and both are short (`length-le`, `controls-le`), so no sum overflows.
+-- `sheet::write::point_length` meets its contract: the line has 29 bytes beside position and controls (`point_length`), and both are short (`length-le`, `controls_le`), so no sum overflows.
 use native.Mathlib.Omega.{arith}
 use Rattle.fields.proofs.Stores.{length-le}
 use Rattle.sheet.proofs.Texts.{controls_le}

@@ -1,4 +1,4 @@
--- `sheet::write::points_length` meets its contract: total is the length of the first i lines (`texts-more`), at most 65 i (`point-le`), so it can't overflow;
+-- `sheet::write::points_length` meets its contract: total is the length of the first i lines (`texts_more`), at most 65 i (`point_le`), so it can't overflow;
 -- n - i falls, and at `used` these are all the lines, as there are 256 places (`take_min`).
 use Prim.Native.Nat.{ℕ, ◌≤◌, ◌-◌, ◌*◌}
 use mathlib.Core.Path.{◌≡◌, refl, ap, ◌∙◌}

@@ -1,5 +1,5 @@
--- `sheet::write::put_controls` meets its contract: by the code: 5 is two numbers (`controls-five`), of which the second stands after the first (`fit_then`),
--- any other the dashes (`controls-other`); the room is required, so what is put fits (`put-fits`).
+-- `sheet::write::put_controls` meets its contract: by the code: 5 is two numbers (`controls_five`), of which the second stands after the first (`fit_then`),
+-- any other the dashes (`controls_other`); the room is required, so what is put fits (`put_fits`).
 use Prim.Native.Nat.{ℕ, ◌+◌, ◌≤◌}
 use mathlib.Core.Path.{sym, subst}
 use mathlib.Core.List.{List}

@@ -1,5 +1,5 @@
--- `sheet::write::put_point` meets its contract: the line has room, so each field fits where the one before ended, and so do the controls (`fifth-room`),
--- and the five put one after another are the line (`five-put`).
+-- `sheet::write::put_point` meets its contract: the line has room, so each field fits where the one before ended, and so do the controls (`fifth_room`),
+-- and the five put one after another are the line (`five_put`).
 use Rattle.sheet.specs.Text.{controls_text, point_text}
 use Rattle.sheet.proofs.Texts.{fifth_room, five_put}
 use borrow.Author.Rules.{rules}

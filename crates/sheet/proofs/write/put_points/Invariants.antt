@@ -1,4 +1,4 @@
--- `sheet::write::put_points` meets its contract: the first i lines are put; the next has room, as they all do (`text-fits`), and stands after them (`text-put`).
+-- `sheet::write::put_points` meets its contract: the first i lines are put; the next has room, as they all do (`text_fits`), and stands after them (`text_put`).
 -- n - i falls, and at `used` these are all the lines, as there are 256 places (`take_min`).
 use Prim.Native.Nat.{ℕ, ◌≤◌, ◌-◌}
 use mathlib.Core.Path.{◌≡◌, refl, sym, ap, subst, ◌∙◌}

@@ -1,5 +1,5 @@
--- `sheet::write::put_settings` meets its contract: the line has room, so each field fits where the one before ended, the sixth too (`sixth-room`, `put-fits`),
--- and the six put one after another are the line (`six-put`).
+-- `sheet::write::put_settings` meets its contract: the line has room, so each field fits where the one before ended, the sixth too (`sixth_room`, `put_fits`),
+-- and the six put one after another are the line (`six_put`).
 use Rattle.fields.specs.Text.{number_text}
 use Rattle.fields.proofs.Stores.{put_fits}
 use Rattle.sheet.specs.Text.{settings_text}

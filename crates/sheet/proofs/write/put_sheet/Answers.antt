@@ -1,5 +1,5 @@
--- `sheet::write::put_sheet` meets its contract: the sheet has room, so settings and points fit where the text before ended (`settings-room`, `points-room`),
--- and the four texts put one after another are the sheet (`sheet-put`); a valid envelope is finite, as the calls ask.
+-- `sheet::write::put_sheet` meets its contract: the sheet has room, so settings and points fit where the text before ended (`settings_room`, `points_room`),
+-- and the four texts put one after another are the sheet (`sheet_put`); a valid envelope is finite, as the calls ask.
 use Rattle.sheet.proofs.Texts.{settings_room, points_room, sheet_put}
 use Rattle.points.proofs.ValidLaws.{valid_finite}
 use Rattle.envelope.proofs.ValidParts.{limits_finite, points_valid}

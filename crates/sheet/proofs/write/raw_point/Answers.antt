@@ -1,5 +1,5 @@
--- `sheet::write::raw_point` meets its contract: by definition of `rawPoint`, as the calls ensure; a finite point's four floats are finite (`finite-time`,
--- `finite-value`, `finite-cp1`, `finite-cp2`), so none is a NaN (`finite_number`) and each has bits.
+-- `sheet::write::raw_point` meets its contract: by definition of `raw_point`, as the calls ensure; a finite point's four floats are finite (`finite_time`,
+-- `finite_value`, `finite_cp1`, `finite_cp2`), so none is a NaN (`finite_number`) and each has bits.
 use Rattle.sheet.specs.Text.{raw_point}
 use Rattle.numbers.proofs.Tests.{no}
 use Rattle.numbers.proofs.Compare.{finite_number}

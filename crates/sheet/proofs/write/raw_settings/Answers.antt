@@ -1,5 +1,5 @@
--- `sheet::write::raw_settings` meets its contract: by definition of `rawSettings`, field by field as the calls ensure; finite limits are so
--- one by one (`finite-min`, `finite-max`, `finite-step`), as `limit_bits` asks.
+-- `sheet::write::raw_settings` meets its contract: by definition of `raw_settings`, field by field as the calls ensure; finite limits are so
+-- one by one (`finite_min`, `finite_max`, `finite_step`), as `limit_bits` asks.
 use Rattle.sheet.specs.Text.{raw_settings}
 use Rattle.limits.proofs.LimitLaws.{finite_min, finite_max, finite_step}
 use Rattle.envelope.specs.Envelope.{limits_of}

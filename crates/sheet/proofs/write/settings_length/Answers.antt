@@ -1,4 +1,4 @@
--- `sheet::write::settings_length` meets its contract: the line is as long as its fields together (`settings-length`), and each is short (`places-le`, `length-le`), so no sum overflows.
+-- `sheet::write::settings_length` meets its contract: the line is as long as its fields together (`settings_length`), and each is short (`places_le`, `length-le`), so no sum overflows.
 use native.Mathlib.Omega.{arith}
 use Rattle.fields.proofs.Stores.{length-le}
 use Rattle.fields.proofs.Places.{places_le}

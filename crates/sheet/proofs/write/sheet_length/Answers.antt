@@ -1,5 +1,5 @@
--- `sheet::write::sheet_length` meets its contract: the length is the sum of names, settings, names and points (`sheet-length`);
--- settings and at most 256 points are short (`settings-le`, `texts-few`), so no sum overflows.
+-- `sheet::write::sheet_length` meets its contract: the length is the sum of names, settings, names and points (`sheet_length`);
+-- settings and at most 256 points are short (`settings_le`, `texts_few`), so no sum overflows.
 use mathlib.Core.Path.{ap, ◌∙◌}
 use native.Mathlib.Omega.{arith}
 use lib.ListN.{length}

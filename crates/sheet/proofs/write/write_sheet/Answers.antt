@@ -1,4 +1,4 @@
--- `sheet::write::write_sheet` meets its contract: its tests are those of `writeSheet`: refusal 1, and 8 by the length that `sheet_length` ensures
+-- `sheet::write::write_sheet` meets its contract: its tests are those of `write_sheet`: refusal 1, and 8 by the length that `sheet_length` ensures
 -- (`lt-leb`, `le-leb`); past them the sheet put from the start is followed by the bytes that stay (`put_all`).
 use mathlib.Core.Path.{sym, ap, ◌∙◌}
 use native.Mathlib.Omega.{arith}
