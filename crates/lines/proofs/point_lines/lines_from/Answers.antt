@@ -20,69 +20,48 @@ pub overflow_cast-line : goal.overflow_cast-line
 overflow_cast-line c = omega (arith, c.loop-line.invariant.few)
 
 pub returns-then-count-eq256 : goal.returns-then-count-eq256
-returns-then-count-eq256 c = record {
-  answer = (let loop = c.loop-line in
-      let points-end = c.points_end in
-      let if1 = c.loop-line-test in
-      let if2 = c.if-count-eq256 in
-      handed c.no_points.ensures.answer c.no_points.ensures.held _ (full loop.invariant (sym points-end.ensures ∙ not-true _ if1.true-raw) _ c.after_last.ensures if2.true)).0;
-  held = (let loop = c.loop-line in
-      let points-end = c.points_end in
-      let if1 = c.loop-line-test in
-      let if2 = c.if-count-eq256 in
-      handed c.no_points.ensures.answer c.no_points.ensures.held _ (full loop.invariant (sym points-end.ensures ∙ not-true _ if1.true-raw) _ c.after_last.ensures if2.true)).1;
-}
+returns-then-count-eq256 c =
+    let loop = c.loop-line in
+    let points-end = c.points_end in
+    let if1 = c.loop-line-test in
+    let if2 = c.if-count-eq256 in
+    let both =
+    handed c.no_points.ensures.answer c.no_points.ensures.held c.args.s.now (full loop.invariant (sym points-end.ensures ∙ not-true _ if1.true-raw) _ c.after_last.ensures if2.true)
+    in record { answer = both.0; held = both.1 }
 
 pub point_line-requires : goal.point_line-requires
 point_line-requires c = c.requires
 
 pub returns-in-Refused : goal.returns-in-Refused
 unfolding told_point_line
-returns-in-Refused c = record {
-  answer = (let loop = c.loop-line in
-      let points-end = c.points_end in
-      let if1 = c.loop-line-test in
-      let if2 = c.if-count-eq256 in
-      let point-line = c.point_line in
-      let refusal = c.in-Refused in
-      handed c.no_points-in-Refused.ensures.answer c.no_points-in-Refused.ensures.held _
-      (refuses loop.invariant (sym points-end.ensures ∙ not-true _ if1.true-raw) (omega (arith, loop.invariant.few, if2.false)) _
-      (told (told_point_line _) point-line.ensures refusal.is))).0;
-  held = (let loop = c.loop-line in
-      let points-end = c.points_end in
-      let if1 = c.loop-line-test in
-      let if2 = c.if-count-eq256 in
-      let point-line = c.point_line in
-      let refusal = c.in-Refused in
-      handed c.no_points-in-Refused.ensures.answer c.no_points-in-Refused.ensures.held _
-      (refuses loop.invariant (sym points-end.ensures ∙ not-true _ if1.true-raw) (omega (arith, loop.invariant.few, if2.false)) _
-      (told (told_point_line _) point-line.ensures refusal.is))).1;
-}
+returns-in-Refused c =
+    let loop = c.loop-line in
+    let points-end = c.points_end in
+    let if1 = c.loop-line-test in
+    let if2 = c.if-count-eq256 in
+    let point-line = c.point_line in
+    let refusal = c.in-Refused in
+    let both =
+    handed c.no_points-in-Refused.ensures.answer c.no_points-in-Refused.ensures.held c.args.s.now
+    (refuses loop.invariant (sym points-end.ensures ∙ not-true _ if1.true-raw) (omega (arith, loop.invariant.few, if2.false)) _
+    (told (told_point_line _) point-line.ensures refusal.is))
+    in record { answer = both.0; held = both.1 }
 
 pub returns-then-count-key : goal.returns-then-count-key
 unfolding told_point_line
-returns-then-count-key c = record {
-  answer = (let loop = c.loop-line in
-      let points-end = c.points_end in
-      let if1 = c.loop-line-test in
-      let if2 = c.if-count-eq256 in
-      let point-line = c.point_line in
-      let p = c.in-Is in
-      let order-key = c.order_key-key in
-      handed c.no_points-then-count-key.ensures.answer c.no_points-then-count-key.ensures.held _
-      (falls loop.invariant (sym points-end.ensures ∙ not-true _ if1.true-raw) (omega (arith, loop.invariant.few, if2.false)) _ p.next
-      (told (told_point_line _) point-line.ensures p.is) (rw (← order-key.ensures) c.if-count-key.true))).0;
-  held = (let loop = c.loop-line in
-      let points-end = c.points_end in
-      let if1 = c.loop-line-test in
-      let if2 = c.if-count-eq256 in
-      let point-line = c.point_line in
-      let p = c.in-Is in
-      let order-key = c.order_key-key in
-      handed c.no_points-then-count-key.ensures.answer c.no_points-then-count-key.ensures.held _
-      (falls loop.invariant (sym points-end.ensures ∙ not-true _ if1.true-raw) (omega (arith, loop.invariant.few, if2.false)) _ p.next
-      (told (told_point_line _) point-line.ensures p.is) (rw (← order-key.ensures) c.if-count-key.true))).1;
-}
+returns-then-count-key c =
+    let loop = c.loop-line in
+    let points-end = c.points_end in
+    let if1 = c.loop-line-test in
+    let if2 = c.if-count-eq256 in
+    let point-line = c.point_line in
+    let p = c.in-Is in
+    let order-key = c.order_key-key in
+    let both =
+    handed c.no_points-then-count-key.ensures.answer c.no_points-then-count-key.ensures.held c.args.s.now
+    (falls loop.invariant (sym points-end.ensures ∙ not-true _ if1.true-raw) (omega (arith, loop.invariant.few, if2.false)) _ p.next
+    (told (told_point_line _) point-line.ensures p.is) (rw (← order-key.ensures) c.if-count-key.true))
+    in record { answer = both.0; held = both.1 }
 
 pub offset_bounds-places-count : goal.offset_bounds-places-count
 offset_bounds-places-count c =
@@ -119,11 +98,9 @@ loop-line-preserved c =
 
 pub returns : goal.returns
 unfolding told_point_lines
-returns c = record {
-  answer = (let loop = c.loop-line in
-      let points-end = c.points_end in
-      held_lines _ _ _ _ _ c.place_within.ensures (ended loop.invariant (sym points-end.ensures ∙ not-false _ c.loop-line-test.false-raw))).0;
-  held = (let loop = c.loop-line in
-      let points-end = c.points_end in
-      held_lines _ _ _ _ _ c.place_within.ensures (ended loop.invariant (sym points-end.ensures ∙ not-false _ c.loop-line-test.false-raw))).1;
-}
+returns c =
+    let loop = c.loop-line in
+    let points-end = c.points_end in
+    let both =
+    held_lines _ _ _ _ _ c.place_within.ensures (ended loop.invariant (sym points-end.ensures ∙ not-false _ c.loop-line-test.false-raw))
+    in record { answer = both.0; held = both.1 }
