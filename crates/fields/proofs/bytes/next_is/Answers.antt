@@ -1,6 +1,5 @@
 use mathlib.Core.Path.{sym}
 use Rattle.fields.proofs.Fields.{next_in, next_out}
-use borrow.Author.Rules.{rules}
 use Rattle.fields.proofs.bytes.next_is.Goals as goal
 
 pub returns-then-at-s : goal.returns-then-at-s

@@ -1,10 +1,7 @@
 use Prim.Native.Nat.{◌≤◌, ◌-◌, ◌+◌}
-use mathlib.Core.Path.{◌≡◌, sym, ◌∙◌}
-use native.Mathlib.Omega.{arith}
-use native.Mathlib.Nat.{add-zero}
-use lib.ListN.{length, drop, length-drop}
+use mathlib.Core.Path.{◌≡◌}
+use lib.ListN.{length, drop}
 use Rattle.fields.specs.Form.{starts_with}
-use Rattle.fields.proofs.Starts.{starts_with_short, starts_with_step, starts_with_stop, starts_with_end}
 use Rattle.fields.proofs.bytes.starts_with.Given as goal
 
 abbrev pub invariant-loop-i : goal.invariant-loop-i

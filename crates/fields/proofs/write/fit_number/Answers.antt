@@ -1,7 +1,6 @@
 use native.Mathlib.Omega.{arith}
 use Rattle.fields.specs.Text.{number_text}
 use Rattle.fields.proofs.Stores.{length-number, fitted, not_fits}
-use borrow.Author.Rules.{rules}
 use Rattle.fields.proofs.write.fit_number.Goals as goal
 
 pub returns-then-out-width : goal.returns-then-out-width

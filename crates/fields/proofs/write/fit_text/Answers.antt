@@ -1,6 +1,5 @@
 use native.Mathlib.Omega.{arith}
 use Rattle.fields.proofs.Stores.{fitted, not_fits}
-use borrow.Author.Rules.{rules}
 use Rattle.fields.proofs.write.fit_text.Goals as goal
 
 pub returns-then-out-w : goal.returns-then-out-w

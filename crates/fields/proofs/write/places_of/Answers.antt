@@ -1,5 +1,5 @@
 use native.Mathlib.Omega.{arith}
-use Rattle.fields.proofs.Places.{Counting, counting, again, counted, counts}
+use Rattle.fields.proofs.Places.{counting, again, counted, counts}
 use Rattle.fields.proofs.write.places_of.Goals as goal
 
 pub loop-left-init : goal.loop-left-init

@@ -1,5 +1,4 @@
-use native.Mathlib.Omega.{arith}
-use Rattle.fields.proofs.Places.{Counting, counting, again, counted, counts}
+use Rattle.fields.proofs.Places.{Counting}
 use Rattle.fields.proofs.write.places_of.Given as goal
 
 abbrev pub invariant-loop-left : goal.invariant-loop-left

@@ -1,10 +1,8 @@
-use Prim.Native.Nat.{◌≤◌, ◌-◌, ◌+◌}
-use mathlib.Core.Path.{◌≡◌, refl, ◌∙◌}
+use Prim.Native.Nat.{◌-◌, ◌+◌}
+use mathlib.Core.Path.{refl, ◌∙◌}
 use native.Mathlib.Omega.{arith}
 use native.Mathlib.Nat.{mod-lt}
-use lib.ListN.{length, length-set}
-use lib.Seq.{sets}
-use Rattle.fields.specs.Text.{digits_of}
+use lib.ListN.{length-set}
 use Rattle.fields.proofs.Stores.{length-number, digit_stored, number_stored}
 use Rattle.fields.proofs.write.put_number.Goals as goal
 

@@ -1,11 +1,8 @@
-use Prim.Native.Nat.{◌≤◌, ◌-◌, ◌+◌}
-use mathlib.Core.Path.{◌≡◌, refl, ◌∙◌}
-use native.Mathlib.Omega.{arith}
-use native.Mathlib.Nat.{mod-lt}
-use lib.ListN.{length, length-set}
+use Prim.Native.Nat.{◌≤◌}
+use mathlib.Core.Path.{◌≡◌}
+use lib.ListN.{length}
 use lib.Seq.{sets}
 use Rattle.fields.specs.Text.{digits_of}
-use Rattle.fields.proofs.Stores.{length-number, digit_stored, number_stored}
 use Rattle.fields.proofs.write.put_number.Given as goal
 
 abbrev pub invariant-loop-k : goal.invariant-loop-k

@@ -1,9 +1,8 @@
-use Prim.Native.Nat.{◌≤◌, ◌-◌, ◌+◌}
-use mathlib.Core.Path.{◌≡◌, refl, sym, ◌∙◌}
+use Prim.Native.Nat.{◌+◌}
+use mathlib.Core.Path.{refl, sym, ◌∙◌}
 use native.Mathlib.Omega.{arith}
 use native.Mathlib.Nat.{add-zero}
-use lib.ListN.{length, drop, get_or, length-set}
-use lib.Seq.{sets}
+use lib.ListN.{get_or, length-set}
 use Rattle.fields.proofs.Stores.{text_step, text_end}
 use Rattle.fields.proofs.write.put_text.Goals as goal
 
