@@ -3,7 +3,6 @@ use Rattle.lines.specs.Lines.{block_form}
 use Rattle.lines.specs.Told.{told_number, told_block_form, number_end, block_form_end}
 use Rattle.fields.proofs.Fields.{told}
 use Rattle.lines.proofs.Ends.{reached}
-use borrow.Author.Rules.{rules}
 use Rattle.lines.proofs.block.block_form.Goals as goal
 
 pub returns-in_default : goal.returns-in_default

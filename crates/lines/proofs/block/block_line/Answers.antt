@@ -3,7 +3,6 @@ use Rattle.fields.proofs.Fields.{told}
 use Rattle.lines.specs.Lines.{block_line}
 use Rattle.lines.specs.Told.{told_block_form, told_block, told_block_line, block_form_end, block_end}
 use Rattle.lines.proofs.Ends.{reached}
-use borrow.Author.Rules.{rules}
 use Rattle.lines.proofs.block.block_line.Goals as goal
 
 pub returns-in_default : goal.returns-in_default

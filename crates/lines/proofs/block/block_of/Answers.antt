@@ -4,7 +4,6 @@ use lib.Ieee.{binary64}
 use Rattle.lines.specs.Lines.{block_meaning}
 use Rattle.lines.specs.Told.{told_block}
 use Rattle.numbers.proofs.BitLaws.{finite_no_nan}
-use borrow.Author.Rules.{rules}
 use Rattle.lines.proofs.block.block_of.Goals as goal
 
 pub returns-then-not-finite_bits : goal.returns-then-not-finite_bits

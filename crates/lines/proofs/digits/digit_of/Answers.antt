@@ -1,6 +1,5 @@
 use native.Mathlib.Omega.{arith}
 use Rattle.fields.proofs.ReadDigits.{entry, entry_le}
-use borrow.Author.Rules.{rules}
 use Rattle.lines.proofs.digits.digit_of.Goals as goal
 
 pub overflow_cast-result : goal.overflow_cast-result

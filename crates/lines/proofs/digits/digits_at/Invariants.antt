@@ -1,11 +1,7 @@
-use Prim.Native.Nat.{ℕ, ◌≤◌, ◌<◌, ◌-◌, ◌+◌, ◌^◌}
-use mathlib.Core.Path.{◌≡◌, sym, ap, ◌∙◌}
-use native.Mathlib.Omega.{arith}
-use native.Mathlib.Nat.{sub-zero, sub_self, add-zero, pow-zero}
-use lib.ListN.{drop, length-drop}
+use Prim.Native.Nat.{◌≤◌, ◌<◌, ◌-◌, ◌+◌, ◌^◌}
+use mathlib.Core.Path.{◌≡◌}
+use lib.ListN.{drop}
 use Rattle.fields.specs.Form.{read_digits}
-use Rattle.lines.specs.Told.{told_number}
-use Rattle.fields.proofs.ReadDigits.{digits_short, digits_step, digits_stop, horner, horner_fits}
 use Rattle.lines.proofs.digits.digits_at.Given as goal
 
 abbrev pub invariant-loop-i : goal.invariant-loop-i

@@ -1,10 +1,7 @@
 use Prim.Native.Nat.{◌-◌, ◌<◌}
-use mathlib.Core.Path.{◌≡◌, refl, sym, ◌∙◌}
-use native.Mathlib.Omega.{arith}
+use mathlib.Core.Path.{◌≡◌}
 use lib.ListN.{length, drop}
 use Rattle.fields.specs.Form.{decimals}
-use Rattle.lines.specs.Told.{told_number}
-use Rattle.fields.proofs.Decimal.{decimals_end, decimals_stop, decimals_over, decimals_step}
 use Rattle.lines.proofs.field.decimals_at.Given as goal
 
 abbrev pub invariant-loop-at : goal.invariant-loop-at

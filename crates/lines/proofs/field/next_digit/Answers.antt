@@ -1,6 +1,5 @@
 use mathlib.Core.Path.{◌∙◌}
 use Rattle.fields.proofs.Decimal.{next_digit_in, next_digit_out}
-use borrow.Author.Rules.{rules}
 use Rattle.lines.proofs.field.next_digit.Goals as goal
 
 pub returns-then-at-s : goal.returns-then-at-s

@@ -3,7 +3,6 @@ use native.Mathlib.Omega.{arith}
 use Rattle.fields.specs.Form.{number_form}
 use Rattle.lines.specs.Told.{told_number, number_end}
 use Rattle.fields.proofs.Fields.{tail_drop, next_inside, told}
-use borrow.Author.Rules.{rules}
 use Rattle.lines.proofs.field.number_at.Goals as goal
 
 pub returns-in_default : goal.returns-in_default

@@ -6,7 +6,6 @@ use Rattle.fields.specs.Form.{optional_form}
 use Rattle.lines.specs.Told.{told_number, told_optional, number_end, optional_end}
 use Rattle.fields.proofs.Fields.{tail_drop, next_inside, told}
 use Rattle.lines.proofs.Ends.{reached}
-use borrow.Author.Rules.{rules}
 use Rattle.lines.proofs.field.optional_at.Goals as goal
 
 pub overflow_add-next : goal.overflow_add-next

@@ -5,7 +5,6 @@ use Rattle.lines.specs.Told.{told_number, told_single, number_end, single_end}
 use Rattle.fields.proofs.Fields.{told}
 use Rattle.fields.proofs.ReadDigits.{number_lt}
 use Rattle.lines.proofs.Ends.{reached}
-use borrow.Author.Rules.{rules}
 use Rattle.lines.proofs.field.single_at.Goals as goal
 
 pub overflow_cast-result : goal.overflow_cast-result

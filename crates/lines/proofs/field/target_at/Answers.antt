@@ -8,7 +8,6 @@ use Rattle.fields.specs.Form.{target_form, next_is, got}
 use Rattle.lines.specs.Told.{told_number, told_single}
 use Rattle.fields.proofs.Fields.{tail_drop, next_inside, told}
 use Rattle.fields.proofs.Decimal.{next_digit_inside, decimals_lt}
-use borrow.Author.Rules.{rules}
 use Rattle.lines.proofs.field.target_at.Goals as goal
 
 pub overflow_add-at : goal.overflow_add-at

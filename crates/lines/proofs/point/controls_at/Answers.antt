@@ -9,7 +9,6 @@ use Rattle.lines.specs.Lines.{controls_form, dashes}
 use Rattle.lines.specs.Told.{told_single, told_controls}
 use Rattle.fields.proofs.Fields.{told}
 use Rattle.fields.proofs.Starts.{starts_with_length}
-use borrow.Author.Rules.{rules}
 use Rattle.lines.proofs.point.controls_at.Goals as goal
 
 pub returns-in_default : goal.returns-in_default

@@ -1,7 +1,6 @@
 use Rattle.lines.specs.Lines.{point_form}
 use Rattle.lines.specs.Told.{told_number, told_optional, told_single, told_controls, told_point_form}
 use Rattle.fields.proofs.Fields.{told}
-use borrow.Author.Rules.{rules}
 use Rattle.lines.proofs.point.point_form.Goals as goal
 
 pub returns-in_default : goal.returns-in_default

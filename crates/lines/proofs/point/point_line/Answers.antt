@@ -1,7 +1,6 @@
 use Rattle.lines.specs.Lines.{point_line}
 use Rattle.lines.specs.Told.{told_point_form, told_point, told_point_line}
 use Rattle.fields.proofs.Fields.{told}
-use borrow.Author.Rules.{rules}
 use Rattle.lines.proofs.point.point_line.Goals as goal
 
 pub returns-in_default : goal.returns-in_default

@@ -1,5 +1,4 @@
 use Rattle.lines.specs.Lines.{position_of}
-use borrow.Author.Rules.{rules}
 use Rattle.lines.proofs.point.position_of.Goals as goal
 
 pub returns-in-None : goal.returns-in-None

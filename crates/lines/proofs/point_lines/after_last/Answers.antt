@@ -1,5 +1,4 @@
 use Rattle.lines.proofs.Ends.{empty_leb}
-use borrow.Author.Rules.{rules}
 use Rattle.lines.proofs.point_lines.after_last.Goals as goal
 
 pub returns-then-s-at : goal.returns-then-s-at

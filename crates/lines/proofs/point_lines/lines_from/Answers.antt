@@ -1,13 +1,10 @@
-use Prim.Native.Nat.{◌-◌}
 use mathlib.Core.Path.{sym, ◌∙◌}
 use native.Mathlib.Omega.{arith}
-use borrow.Author.Rules.{rules}
 use borrow.Author.Tests.{not-true, not-false}
-use lib.ListN.{drop}
 use Rattle.lines.specs.Told.{told_point_line, told_point_lines}
 use Rattle.fields.proofs.Fields.{told}
 use Rattle.lines.proofs.Held.{handed, held_lines}
-use Rattle.lines.proofs.Reading.{Reading, begun, ended, full, refuses, falls, goes_on}
+use Rattle.lines.proofs.Reading.{begun, ended, full, refuses, falls, goes_on}
 use Rattle.lines.proofs.point_lines.lines_from.Goals as goal
 
 pub loop-line-init : goal.loop-line-init

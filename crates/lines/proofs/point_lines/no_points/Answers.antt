@@ -1,6 +1,5 @@
 use mathlib.Core.Path.{refl}
 use Rattle.lines.specs.Told.{told_point_lines}
-use borrow.Author.Rules.{rules}
 use Rattle.lines.proofs.point_lines.no_points.Goals as goal
 
 pub returns : goal.returns

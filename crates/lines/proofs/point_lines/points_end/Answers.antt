@@ -1,6 +1,5 @@
 use Rattle.lines.specs.PointLines.{points_end}
 use Rattle.lines.proofs.Ends.{empty_leb}
-use borrow.Author.Rules.{rules}
 use Rattle.lines.proofs.point_lines.points_end.Goals as goal
 
 pub returns-then-program : goal.returns-then-program

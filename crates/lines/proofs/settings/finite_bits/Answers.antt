@@ -1,6 +1,5 @@
 use native.Mathlib.Omega.{arith}
 use Rattle.lines.specs.Lines.{finite_bits}
-use borrow.Author.Rules.{rules}
 use Rattle.lines.proofs.settings.finite_bits.Goals as goal
 
 pub overflow_cast-b : goal.overflow_cast-b

@@ -2,7 +2,6 @@ use native.Mathlib.Omega.{arith}
 use lib.Ieee.{binary32}
 use Rattle.lines.specs.Lines.{finite_bits, limit_of}
 use Rattle.numbers.proofs.BitLaws.{finite_no_nan}
-use borrow.Author.Rules.{rules}
 use Rattle.lines.proofs.settings.limit_of.Goals as goal
 
 pub overflow_cast-result : goal.overflow_cast-result

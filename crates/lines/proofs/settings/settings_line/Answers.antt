@@ -4,7 +4,6 @@ use Rattle.lines.specs.Lines.{settings_line}
 use Rattle.lines.specs.Told.{told_settings_form, told_settings, told_settings_line, settings_form_end, settings_end}
 use Rattle.lines.proofs.Bounds.{settings_below}
 use Rattle.lines.proofs.Ends.{reached}
-use borrow.Author.Rules.{rules}
 use Rattle.lines.proofs.settings.settings_line.Goals as goal
 
 pub returns-in_default : goal.returns-in_default

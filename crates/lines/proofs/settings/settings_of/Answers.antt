@@ -2,7 +2,6 @@ use mathlib.Core.Path.{sym, ◌∙◌}
 use borrow.Author.Tests.{not-true, not-false}
 use Rattle.lines.specs.Lines.{settings_meaning}
 use Rattle.lines.specs.Told.{told_settings}
-use borrow.Author.Rules.{rules}
 use Rattle.lines.proofs.settings.settings_of.Goals as goal
 
 pub returns-then-not-finite_bits : goal.returns-then-not-finite_bits
