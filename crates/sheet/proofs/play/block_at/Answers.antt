@@ -8,7 +8,6 @@ use Rattle.lines.specs.PointLines.{block_names}
 use Rattle.lines.specs.Told.{told_block_line}
 use Rattle.lines.proofs.Ends.{empty_in, empty_out}
 use Rattle.sheet.specs.Told.{told_input}
-use borrow.Author.Rules.{rules}
 use Rattle.sheet.proofs.play.block_at.Goals as goal
 
 pub overflow_add-at : goal.overflow_add-at

@@ -2,7 +2,6 @@
 use mathlib.Core.Path.{refl}
 use lib.Ieee.{of_bits}
 use Rattle.sheet.specs.Told.{told_input}
-use borrow.Author.Rules.{rules}
 use Rattle.sheet.proofs.play.no_input.Goals as goal
 
 pub returns : goal.returns

@@ -3,7 +3,6 @@
 use Rattle.sheet.specs.Sheet.{read_sheet}
 use Rattle.sheet.specs.Told.{told_read}
 use Rattle.sheet.proofs.Answers.{accepted_lines, refused_lines}
-use borrow.Author.Rules.{rules}
 use Rattle.sheet.proofs.read.read_sheet.Goals as goal
 
 pub returns-in-Refused : goal.returns-in-Refused

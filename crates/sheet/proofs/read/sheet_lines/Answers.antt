@@ -12,7 +12,6 @@ use Rattle.fields.proofs.Starts.{starts_with_length}
 use Rattle.lines.specs.PointLines.{Lines, point_lines}
 use Rattle.lines.specs.Told.{told_settings_line}
 use Rattle.sheet.specs.Sheet.{point_names, with_settings, sheet_lines}
-use borrow.Author.Rules.{rules}
 use Rattle.sheet.proofs.read.sheet_lines.Goals as goal
 
 pub returns-then-not-starts_with : goal.returns-then-not-starts_with

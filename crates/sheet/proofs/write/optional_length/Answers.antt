@@ -1,7 +1,6 @@
 -- `sheet::write::optional_length` meets its contract: by its two cases: none is a dash and the byte after it (`none_length`), a number its digits and that byte (`some_length`).
 use mathlib.Core.Path.{sym}
 use Rattle.fields.proofs.Stores.{some_length, none_length}
-use borrow.Author.Rules.{rules}
 use Rattle.sheet.proofs.write.optional_length.Goals as goal
 
 pub returns-in-None : goal.returns-in-None

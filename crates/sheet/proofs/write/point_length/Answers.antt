@@ -3,7 +3,6 @@ use native.Mathlib.Omega.{arith}
 use Rattle.fields.proofs.Stores.{length-le}
 use Rattle.sheet.proofs.Texts.{controls_le}
 use Rattle.sheet.proofs.Texts.{point_length}
-use borrow.Author.Rules.{rules}
 use Rattle.sheet.proofs.write.point_length.Goals as goal
 
 pub overflow_add-result : goal.overflow_add-result

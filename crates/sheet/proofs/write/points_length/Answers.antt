@@ -1,6 +1,6 @@
 -- `sheet::write::points_length` meets its contract: total is the length of the first i lines (`texts_more`), at most 65 i (`point_le`), so it can't overflow;
 -- n - i falls, and at `used` these are all the lines, as there are 256 places (`take_min`).
-use Prim.Native.Nat.{ℕ, ◌≤◌, ◌-◌, ◌*◌}
+use Prim.Native.Nat.{ℕ}
 use mathlib.Core.Path.{◌≡◌, refl, ap, ◌∙◌}
 use native.Mathlib.Omega.{arith}
 use lib.ListN.{length, take, get_or, length-append}

@@ -8,7 +8,6 @@ use Rattle.fields.specs.Told.{Put}
 use Rattle.fields.specs.Text.{number_text}
 use Rattle.fields.proofs.Stores.{put_fits, room_after, fit_then}
 use Rattle.sheet.proofs.Texts.{controls_five, controls_other}
-use borrow.Author.Rules.{rules}
 use Rattle.sheet.proofs.write.put_controls.Goals as goal
 
 pub returns-then-code-eq5 : goal.returns-then-code-eq5

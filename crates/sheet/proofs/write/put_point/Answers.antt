@@ -2,7 +2,6 @@
 -- and the five put one after another are the line (`five_put`).
 use Rattle.sheet.specs.Text.{controls_text, point_text}
 use Rattle.sheet.proofs.Texts.{fifth_room, five_put}
-use borrow.Author.Rules.{rules}
 use Rattle.sheet.proofs.write.put_point.Goals as goal
 
 pub put_controls-requires : goal.put_controls-requires

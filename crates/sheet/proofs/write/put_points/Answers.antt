@@ -1,11 +1,11 @@
 -- `sheet::write::put_points` meets its contract: the first i lines are put; the next has room, as they all do (`text_fits`), and stands after them (`text_put`).
 -- n - i falls, and at `used` these are all the lines, as there are 256 places (`take_min`).
-use Prim.Native.Nat.{ℕ, ◌≤◌, ◌-◌}
+use Prim.Native.Nat.{ℕ}
 use mathlib.Core.Path.{◌≡◌, refl, sym, ap, subst, ◌∙◌}
 use mathlib.Core.List.{List}
 use native.Mathlib.Omega.{arith}
 use native.Mathlib.Nat.{add-zero}
-use lib.ListN.{length, take}
+use lib.ListN.{take}
 use Rattle.fields.proofs.Stores.{put_length}
 use Rattle.points.proofs.Laws.{take_min, every_within}
 use Rattle.points.specs.Point.{finite_point, any_point}

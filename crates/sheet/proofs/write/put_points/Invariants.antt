@@ -1,19 +1,10 @@
 -- `sheet::write::put_points` meets its contract: the first i lines are put; the next has room, as they all do (`text_fits`), and stands after them (`text_put`).
 -- n - i falls, and at `used` these are all the lines, as there are 256 places (`take_min`).
-use Prim.Native.Nat.{ℕ, ◌≤◌, ◌-◌}
-use mathlib.Core.Path.{◌≡◌, refl, sym, ap, subst, ◌∙◌}
-use mathlib.Core.List.{List}
-use native.Mathlib.Omega.{arith}
-use native.Mathlib.Nat.{add-zero}
+use Prim.Native.Nat.{◌≤◌, ◌-◌}
+use mathlib.Core.Path.{◌≡◌}
 use lib.ListN.{length, take}
-use Rattle.fields.proofs.Stores.{put_length}
-use Rattle.points.proofs.Laws.{take_min, every_within}
-use Rattle.points.specs.Point.{finite_point, any_point}
-use Rattle.points.specs.declared.AutomationPoint.{AutomationPoint}
-use Rattle.points.proofs.Good.{places}
 use Rattle.sheet.specs.Text.{point_texts}
 use Rattle.fields.specs.Told.{Put}
-use Rattle.sheet.proofs.Texts.{text_fits, text_put}
 use Rattle.sheet.proofs.write.put_points.Given as goal
 
 abbrev pub invariant-loop-i : goal.invariant-loop-i

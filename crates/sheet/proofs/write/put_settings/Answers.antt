@@ -4,7 +4,6 @@ use Rattle.fields.specs.Text.{number_text}
 use Rattle.fields.proofs.Stores.{put_fits}
 use Rattle.sheet.specs.Text.{settings_text}
 use Rattle.sheet.proofs.Texts.{sixth_room, six_put}
-use borrow.Author.Rules.{rules}
 use Rattle.sheet.proofs.write.put_settings.Goals as goal
 
 pub returns : goal.returns

@@ -3,7 +3,6 @@
 use Rattle.sheet.proofs.Texts.{settings_room, points_room, sheet_put}
 use Rattle.points.proofs.ValidLaws.{valid_finite}
 use Rattle.envelope.proofs.ValidParts.{limits_finite, points_valid}
-use borrow.Author.Rules.{rules}
 use Rattle.sheet.proofs.write.put_sheet.Goals as goal
 
 pub raw_settings-requires : goal.raw_settings-requires

@@ -4,7 +4,6 @@ use Rattle.sheet.specs.Text.{raw_point}
 use Rattle.numbers.proofs.Tests.{no}
 use Rattle.numbers.proofs.Compare.{finite_number}
 use Rattle.points.proofs.ValidLaws.{finite_time, finite_value, finite_cp1, finite_cp2}
-use borrow.Author.Rules.{rules}
 use Rattle.sheet.proofs.write.raw_point.Goals as goal
 
 pub float_to_bits-result : goal.float_to_bits-result

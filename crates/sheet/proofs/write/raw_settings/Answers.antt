@@ -3,7 +3,6 @@
 use Rattle.sheet.specs.Text.{raw_settings}
 use Rattle.limits.proofs.LimitLaws.{finite_min, finite_max, finite_step}
 use Rattle.envelope.specs.Envelope.{limits_of}
-use borrow.Author.Rules.{rules}
 use Rattle.sheet.proofs.write.raw_settings.Goals as goal
 
 pub limit_bits-min-requires : goal.limit_bits-min-requires

@@ -3,7 +3,6 @@ use native.Mathlib.Omega.{arith}
 use Rattle.fields.proofs.Stores.{length-le}
 use Rattle.fields.proofs.Places.{places_le}
 use Rattle.sheet.proofs.Texts.{settings_length}
-use borrow.Author.Rules.{rules}
 use Rattle.sheet.proofs.write.settings_length.Goals as goal
 
 pub overflow_add-result : goal.overflow_add-result

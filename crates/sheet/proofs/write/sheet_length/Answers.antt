@@ -8,7 +8,6 @@ use Rattle.lines.specs.declared.settings.RawSettings.{RawSettings}
 use Rattle.sheet.proofs.Texts.{settings_le, sheet_length, texts_few}
 use Rattle.points.proofs.ValidLaws.{valid_count, valid_finite}
 use Rattle.envelope.proofs.ValidParts.{limits_finite, points_valid}
-use borrow.Author.Rules.{rules}
 use Rattle.sheet.proofs.write.sheet_length.Goals as goal
 
 pub raw_settings-requires : goal.raw_settings-requires

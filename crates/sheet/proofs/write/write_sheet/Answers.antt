@@ -9,7 +9,6 @@ use Rattle.points.specs.Refusal.{gives}
 use Rattle.sheet.specs.Text.{sheet_text, write_sheet}
 use Rattle.sheet.specs.Told.{told_written}
 use Rattle.fields.proofs.Stores.{put_all}
-use borrow.Author.Rules.{rules}
 use Rattle.sheet.proofs.write.write_sheet.Goals as goal
 
 pub returns-then-not-is_valid : goal.returns-then-not-is_valid
