@@ -1,5 +1,4 @@
 use Rattle.play.proofs.Texts.{line_made}
-use borrow.Author.Rules.{rules}
 use Rattle.play.proofs.text.put_line.Goals as goal
 
 pub returns : goal.returns

@@ -1,9 +1,6 @@
-use Prim.Native.Nat.{◌≤◌, ◌-◌}
 use mathlib.Core.Path.{◌≡◌, refl}
 use native.Mathlib.Omega.{arith}
 use lib.Ieee.{nan}
-use lib.ListN.{take}
-use Rattle.fields.specs.Told.{Put}
 use Rattle.fields.proofs.Stores.{put_length}
 use Rattle.play.specs.Play.{sample_lines}
 use Rattle.play.proofs.Texts.{line_room, line_put}

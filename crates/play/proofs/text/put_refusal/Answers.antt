@@ -1,6 +1,5 @@
 use Rattle.play.proofs.Texts.{refusal_made}
 use Rattle.points.specs.Refusal.{number}
-use borrow.Author.Rules.{rules}
 use Rattle.play.proofs.text.put_refusal.Goals as goal
 
 pub returns : goal.returns
