@@ -14,7 +14,7 @@ use Rattle.combine.specs.Combine.{merge_from, merge_times}
 
 -- ---- which times they are
 
--- a time of that key is among them; no two numbers of f64 have the same key (`key-same`, OrderLaws of crate numbers)
+-- a time of that key is among them; no two numbers of f64 have the same key (`key_same`, OrderLaws of crate numbers)
 unfoldable pub has : ℕ → List Float → Bool
 has k [] = false
 has k (t ∷ ts) = eqb (order_key t) k || has k ts

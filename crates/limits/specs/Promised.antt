@@ -12,6 +12,6 @@ pub record Holding (l : Limits) (low high : Float) : Type 0 where
   pub maximum : l.max_value ≡ limit.Number high
   pub order : le low high ≡ true
 
--- then every value "lies between them, a NaN before the constraints included" (`hard-holds`, proofs/HardLaws)
+-- then every value "lies between them, a NaN before the constraints included" (`hard_holds`, proofs/HardLaws)
 abbrev pub HardHolds : Type 0
 HardHolds = (l : Limits) (low high : Float) → Holding l low high → (v : Float) → lies_between low high (constrained l v) ≡ true

@@ -188,7 +188,7 @@ whole_stays f m a F =
     let M = suc m * 2 ^ a in
     whole_unique f (fin false (suc m) (pos a)) (round f false M 1) false M F (round-fits f false M 1) (refl, refl) (whole_exact f false m a F) ∙ ap (λ (x : ℕ). round f false x 1) (sym (halved M))
 
--- ---- `roundAway`'s whole number is a value of the format: its `round` changes nothing
+-- ---- `round_away`'s whole number is a value of the format: its `round` changes nothing
 pub exact_whole : (f : Format) (s : Bool) (m : ℕ) (e : ℤ) → T (fits f (fin s m e)) → HasValue (round_away f (fin s m e)) s ((2 * (m * up e) + down e) / (2 * down e)) 1
 unfolding round_away
 exact_whole f s zero (pos a) F = subst (λ (x : ℕ). HasValue (round f s x 1) s x 1) (sym (ap (λ (x : ℕ). (2 * x + 1) / 2) (zero-mul (2 ^ a)))) (round_whole f s 0 zero-le)

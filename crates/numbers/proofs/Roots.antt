@@ -9,7 +9,7 @@ use Rattle.numbers.proofs.Closest.{cmp, at_lt, at_gt}
 use Rattle.numbers.proofs.Rounded.{dropped, packed, twice, halve}
 use Rattle.numbers.proofs.Squares.{Cut, Near, near_stays, near_moves, root_lt, square_next, square_twice, root_cut}
 
--- `rootUnits`, from its k and its r on
+-- `root_units`, from its k and its r on
 abbrev core : Format → ℕ → ℕ → ℕ → Float
 core f v k r = units f false (nearest r (compare (4 * v) ((2 * r + 1) * (2 * r + 1) * (2 ^ k * 2 ^ k)))) k
 

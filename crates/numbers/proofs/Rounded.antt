@@ -1,5 +1,5 @@
 -- Rounding a whole number of a known width, times a power of two, to a format; and the bit pattern of the result. Assumes nothing.
--- `round-at` is over the width w of the number D that is rounded: 53 for the digits of an `f64`, and 64 for a `u64`, whose digits stand at the top of the word.
+-- `round_at` is over the width w of the number D that is rounded: 53 for the digits of an `f64`, and 64 for a `u64`, whose digits stand at the top of the word.
 use Rattle.std.proofs.Common.{◌≡◌, ℕ, zero, suc, ◌+◌, ◌-◌, ◌*◌, ◌/◌, ◌^◌, ◌<◌, ◌≤◌, Bool, true, false, cond, not, T, ltb, ◌⊎◌, sym, refl, ap, ◌∙◌, subst, inl, inr, le_trans, le_of_eq, lt_of_lt_of_le, lt_of_le_of_lt, add_assoc, lt_irrefl, mul-le-mul_right, mul_assoc, suc-mul, mul_comm, div-lt_iff_lt-mul, eq-zero-or-pos, add_comm, le_antisymm, eq-or-lt_of_le, mul-le-mul_left, mul-pos, lt_of_not-le, le-div_iff_mul-le, le_of_mul-le-mul_right, div-one, mul-div_cancel, arith, pow_pos, pow_mono, pow-add, shl_lt, ltb-false, ltb-true, le-ltb}
 use native.Mathlib.Nat.{pow-succ'}
 use lib.Pow.{pow-lt}

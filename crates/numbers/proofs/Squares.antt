@@ -66,7 +66,7 @@ near_moves n r q c w g = near_unique n q (r + 1) w (go n r (r * r) ((r + 1) * (r
     up : (n r R S : ℕ) → S ≡ R + 2 * r + 1 → R + r < n → S < n + (r + 1)
     up n r R S e h = omega arith
 
--- ---- `rootIn`
+-- ---- `root_in`
 step : (n s : ℕ) → Cut (n / 4) s → Cut n (cond (leb ((2 * s + 1) * (2 * s + 1)) n) (2 * s + 1) (2 * s))
 step n s h = go (leb ((2 * s + 1) * (2 * s + 1)) n) (leb→le ((2 * s + 1) * (2 * s + 1)) n) (nleb→lt ((2 * s + 1) * (2 * s + 1)) n)
   where

@@ -6,7 +6,7 @@ use Rattle.numbers.specs.Whole.{nearest_multiple}
 use Rattle.numbers.specs.Bounds.{zero64, finite}
 use Rattle.numbers.specs.Order.{order_key}
 
--- Quantizing lets no time pass another, for all finite times and every finite grid above 0 (`quantized-keeps-order`, proofs/Quantized).
+-- Quantizing lets no time pass another, for all finite times and every finite grid above 0 (`quantized_keeps_order`, proofs/Quantized).
 -- The order is totalOrder, by its keys; so it holds too where a result is a zero with a sign, or an infinity.
 abbrev pub KeepsOrder : Type 0
 KeepsOrder =

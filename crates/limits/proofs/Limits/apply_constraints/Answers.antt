@@ -1,5 +1,5 @@
 -- `limits::Limits::apply_constraints` meets its contract: by definition of `constrained`, bounds, a step above 0, and with hard on the bounds again;
--- where nothing is stepped these change nothing (`hard-bounded`).
+-- where nothing is stepped these change nothing (`hard_bounded`).
 use mathlib.Core.Path.{sym, ap, ◌∙◌}
 use lib.Ieee.{Float, binary32, mul, of_bits}
 use Rattle.numbers.specs.Whole.{nearest_multiple}
