@@ -40,135 +40,78 @@ loop-i-preserved c =
     )
 
 pub returns-then-rise : goal.returns-then-rise
-returns-then-rise c = record {
-  finished = (let good = c.well_formed in
-      let is-valid = c.is_valid in
-      let if1 = c.if-is_valid in
-      let if2 = c.if-ok in
-      let args = c.args in
-      let new = args.new in
-      let len = places new _ good.1.1.0 in
-      let h = c.loop-i in
-      let used = c.used-n in
-      let at : h.i ≡ used.result = omega arith in
-      let whole : take h.i new.places ≡ list_of new = ap (λ (k : ℕ). take k new.places) (at ∙ used.ensures) ∙ take_min new.count new.places 256 len in
-      as_edit args.points new args.ok
-      (out_accepted args.points new args.ok is-valid.ensures
-      if1.true if2.true
-      (h.invariant.1 ∙ ap (every finite_point) whole) c.if-finite.true (h.invariant.2 ∙ ap rising whole) c.if-rise.true len)).0;
-  edit = (let good = c.well_formed in
-      let is-valid = c.is_valid in
-      let if1 = c.if-is_valid in
-      let if2 = c.if-ok in
-      let args = c.args in
-      let new = args.new in
-      let len = places new _ good.1.1.0 in
-      let h = c.loop-i in
-      let used = c.used-n in
-      let at : h.i ≡ used.result = omega arith in
-      let whole : take h.i new.places ≡ list_of new = ap (λ (k : ℕ). take k new.places) (at ∙ used.ensures) ∙ take_min new.count new.places 256 len in
-      as_edit args.points new args.ok
-      (out_accepted args.points new args.ok is-valid.ensures
-      if1.true if2.true
-      (h.invariant.1 ∙ ap (every finite_point) whole) c.if-finite.true (h.invariant.2 ∙ ap rising whole) c.if-rise.true len)).1;
-}
+returns-then-rise c =
+    let good = c.well_formed in
+    let is-valid = c.is_valid in
+    let if1 = c.if-is_valid in
+    let if2 = c.if-ok in
+    let args = c.args in
+    let new = args.new in
+    let len = places new _ good.1.1.0 in
+    let h = c.loop-i in
+    let used = c.used-n in
+    let at : h.i ≡ used.result = omega arith in
+    let whole : take h.i new.places ≡ list_of new = ap (λ (k : ℕ). take k new.places) (at ∙ used.ensures) ∙ take_min new.count new.places 256 len in
+    let w = as_edit args.points new args.ok
+    (out_accepted args.points new args.ok is-valid.ensures
+    if1.true if2.true
+    (h.invariant.1 ∙ ap (every finite_point) whole) c.if-finite.true (h.invariant.2 ∙ ap rising whole) c.if-rise.true len) in
+    record { finished = w.0; edit = w.1 }
 
 pub returns-else-rise : goal.returns-else-rise
-returns-else-rise c = record {
-  finished = (let good = c.well_formed in
-      let is-valid = c.is_valid in
-      let if1 = c.if-is_valid in
-      let if2 = c.if-ok in
-      let if3 = c.if-finite in
-      let args = c.args in
-      let new = args.new in
-      let len = places new _ good.1.1.0 in
-      let h = c.loop-i in
-      let used = c.used-n in
-      let at : h.i ≡ used.result = omega arith in
-      let whole : take h.i new.places ≡ list_of new = ap (λ (k : ℕ). take k new.places) (at ∙ used.ensures) ∙ take_min new.count new.places 256 len in
-      as_edit args.points new args.ok
-      (c.refuse.ensures
-      ∙ out_rise args.points new args.ok is-valid.ensures
-      if1.true if2.true
-      (h.invariant.1 ∙ ap (every finite_point) whole) if3.true (h.invariant.2 ∙ ap rising whole) c.if-rise.false)).0;
-  edit = (let good = c.well_formed in
-      let is-valid = c.is_valid in
-      let if1 = c.if-is_valid in
-      let if2 = c.if-ok in
-      let if3 = c.if-finite in
-      let args = c.args in
-      let new = args.new in
-      let len = places new _ good.1.1.0 in
-      let h = c.loop-i in
-      let used = c.used-n in
-      let at : h.i ≡ used.result = omega arith in
-      let whole : take h.i new.places ≡ list_of new = ap (λ (k : ℕ). take k new.places) (at ∙ used.ensures) ∙ take_min new.count new.places 256 len in
-      as_edit args.points new args.ok
-      (c.refuse.ensures
-      ∙ out_rise args.points new args.ok is-valid.ensures
-      if1.true if2.true
-      (h.invariant.1 ∙ ap (every finite_point) whole) if3.true (h.invariant.2 ∙ ap rising whole) c.if-rise.false)).1;
-}
+returns-else-rise c =
+    let good = c.well_formed in
+    let is-valid = c.is_valid in
+    let if1 = c.if-is_valid in
+    let if2 = c.if-ok in
+    let if3 = c.if-finite in
+    let args = c.args in
+    let new = args.new in
+    let len = places new _ good.1.1.0 in
+    let h = c.loop-i in
+    let used = c.used-n in
+    let at : h.i ≡ used.result = omega arith in
+    let whole : take h.i new.places ≡ list_of new = ap (λ (k : ℕ). take k new.places) (at ∙ used.ensures) ∙ take_min new.count new.places 256 len in
+    let w = as_edit args.points new args.ok
+    (c.refuse.ensures
+    ∙ out_rise args.points new args.ok is-valid.ensures
+    if1.true if2.true
+    (h.invariant.1 ∙ ap (every finite_point) whole) if3.true (h.invariant.2 ∙ ap rising whole) c.if-rise.false) in
+    record { finished = w.0; edit = w.1 }
 
 pub returns-else-finite : goal.returns-else-finite
-returns-else-finite c = record {
-  finished = (let good = c.well_formed in
-      let is-valid = c.is_valid in
-      let if1 = c.if-is_valid in
-      let if2 = c.if-ok in
-      let args = c.args in
-      let new = args.new in
-      let len = places new _ good.1.1.0 in
-      let h = c.loop-i in
-      let used = c.used-n in
-      let at : h.i ≡ used.result = omega arith in
-      let whole : take h.i new.places ≡ list_of new = ap (λ (k : ℕ). take k new.places) (at ∙ used.ensures) ∙ take_min new.count new.places 256 len in
-      as_edit args.points new args.ok
-      (c.refuse-else-finite.ensures
-      ∙ out_finite args.points new args.ok is-valid.ensures
-      if1.true if2.true
-      (h.invariant.1 ∙ ap (every finite_point) whole) c.if-finite.false)).0;
-  edit = (let good = c.well_formed in
-      let is-valid = c.is_valid in
-      let if1 = c.if-is_valid in
-      let if2 = c.if-ok in
-      let args = c.args in
-      let new = args.new in
-      let len = places new _ good.1.1.0 in
-      let h = c.loop-i in
-      let used = c.used-n in
-      let at : h.i ≡ used.result = omega arith in
-      let whole : take h.i new.places ≡ list_of new = ap (λ (k : ℕ). take k new.places) (at ∙ used.ensures) ∙ take_min new.count new.places 256 len in
-      as_edit args.points new args.ok
-      (c.refuse-else-finite.ensures
-      ∙ out_finite args.points new args.ok is-valid.ensures
-      if1.true if2.true
-      (h.invariant.1 ∙ ap (every finite_point) whole) c.if-finite.false)).1;
-}
+returns-else-finite c =
+    let good = c.well_formed in
+    let is-valid = c.is_valid in
+    let if1 = c.if-is_valid in
+    let if2 = c.if-ok in
+    let args = c.args in
+    let new = args.new in
+    let len = places new _ good.1.1.0 in
+    let h = c.loop-i in
+    let used = c.used-n in
+    let at : h.i ≡ used.result = omega arith in
+    let whole : take h.i new.places ≡ list_of new = ap (λ (k : ℕ). take k new.places) (at ∙ used.ensures) ∙ take_min new.count new.places 256 len in
+    let w = as_edit args.points new args.ok
+    (c.refuse-else-finite.ensures
+    ∙ out_finite args.points new args.ok is-valid.ensures
+    if1.true if2.true
+    (h.invariant.1 ∙ ap (every finite_point) whole) c.if-finite.false) in
+    record { finished = w.0; edit = w.1 }
 
 pub returns-else-ok : goal.returns-else-ok
-returns-else-ok c = record {
-  finished = (let is-valid = c.is_valid in
-      let if1 = c.if-is_valid in
-      let args = c.args in
-      as_edit args.points args.new args.ok
-      (c.refuse-else-ok.ensures ∙ out_ok args.points args.new args.ok is-valid.ensures if1.true c.if-ok.false)).0;
-  edit = (let is-valid = c.is_valid in
-      let if1 = c.if-is_valid in
-      let args = c.args in
-      as_edit args.points args.new args.ok
-      (c.refuse-else-ok.ensures ∙ out_ok args.points args.new args.ok is-valid.ensures if1.true c.if-ok.false)).1;
-}
+returns-else-ok c =
+    let is-valid = c.is_valid in
+    let if1 = c.if-is_valid in
+    let args = c.args in
+    let w = as_edit args.points args.new args.ok
+    (c.refuse-else-ok.ensures ∙ out_ok args.points args.new args.ok is-valid.ensures if1.true c.if-ok.false) in
+    record { finished = w.0; edit = w.1 }
 
 pub returns-else-is_valid : goal.returns-else-is_valid
-returns-else-is_valid c = record {
-  finished = (let is-valid = c.is_valid in
-      let args = c.args in
-      as_edit args.points args.new args.ok
-      (c.refuse-else-is_valid.ensures ∙ out_valid args.points args.new args.ok is-valid.ensures c.if-is_valid.false)).0;
-  edit = (let is-valid = c.is_valid in
-      let args = c.args in
-      as_edit args.points args.new args.ok
-      (c.refuse-else-is_valid.ensures ∙ out_valid args.points args.new args.ok is-valid.ensures c.if-is_valid.false)).1;
-}
+returns-else-is_valid c =
+    let is-valid = c.is_valid in
+    let args = c.args in
+    let w = as_edit args.points args.new args.ok
+    (c.refuse-else-is_valid.ensures ∙ out_valid args.points args.new args.ok is-valid.ensures c.if-is_valid.false) in
+    record { finished = w.0; edit = w.1 }
