@@ -1,4 +1,4 @@
-// The lines of a list on standard input, one after the other, and the report of those whose answer is
+// The lines of a list, one after the other, and the report of those whose answer is
 // not ours. A library of the tools `vectors` and `plays`: its functions are proved safe and ending.
 //
 //     line 15067 differs          the answer is not ours

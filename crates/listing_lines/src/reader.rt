@@ -1,10 +1,10 @@
-// Reading a list line by line through a buffer that the caller lends.
-ghost use Rattle.std.specs.Prelude.{◌≡◌, ◌-◌, ◌≤◌, length};
-ghost use Rattle.io.specs.Counts.{IsPrefixLen};
+// Reading a list line by line through a buffer that the caller lends. What is told of the lines is
+// printed to `out`.
+ghost use Rattle.std.specs.Prelude.{◌≡◌, ◌-◌, ◌≤◌, length, take};
 
 use crate::report::{counted, part_ended, unread};
-use libc::STDIN_FILENO;
 use listing::text::{Outcome, Place, after, find};
+use std::io;
 use std::num::wrapping_add_u64;
 
 // A list that is being read. The buffer's first `full` bytes are the list's, and the next line begins
@@ -72,20 +72,20 @@ fn is_run(s: &[u8]) -> bool {
 }
 
 // One more line has gone by.
-fn passed(mut r: Reader, s: &[u8]) -> Reader {
+fn passed(out: &impl Print, mut r: Reader, s: &[u8]) -> Reader {
     r.number = wrapping_add_u64(r.number, 1);
     if let Place::At(_) = after(s, 0, b"##") {
-        return part_ended(r);
+        return part_ended(out, r);
     }
     r
 }
 
 // The line s, which stands from a place of the buffer up to another.
-fn line(r: Reader, s: &[u8], from: usize, to: usize) -> NextLine
+fn line(out: &impl Print, r: Reader, s: &[u8], from: usize, to: usize) -> NextLine
     ensures { (result.from ≡ from) × (result.to ≡ to) }
 {
     NextLine {
-        reader: passed(r, s),
+        reader: passed(out, r, s),
         found: is_run(s),
         from,
         to,
@@ -93,7 +93,7 @@ fn line(r: Reader, s: &[u8], from: usize, to: usize) -> NextLine
 }
 
 // A line that fills the buffer. A comment is passed over, any other is no line.
-fn long_line(r: Reader, s: &[u8]) -> Reader {
+fn long_line(out: &impl Print, r: Reader, s: &[u8]) -> Reader {
     if s.len() == 0 {
         return end(r);
     }
@@ -101,9 +101,9 @@ fn long_line(r: Reader, s: &[u8]) -> Reader {
     if r.cut {
         return rest;
     }
-    let line = passed(rest, s);
+    let line = passed(out, rest, s);
     if is_run(s) {
-        return counted(line, Outcome::Unknown);
+        return counted(out, line, Outcome::Unknown);
     }
     line
 }
@@ -129,59 +129,76 @@ struct Read {
 }
 
 // One read, to the buffer's places from `held` on.
-fn read_after(buf: &mut [u8], held: usize) -> Read
+fn read_after(input: &mut impl io::Read, buf: &mut [u8], held: usize) -> Read
     requires { held ≤ length buf.old }
-    ensures { (held ≤ result.full) × IsPrefixLen result.full buf.new }
+    ensures { (held ≤ result.full) × (result.full ≤ length buf.new) × (result.full ≡ length (take result.full buf.new)) }
 {
-    let part = &mut buf[held..];
-    let got = libc::read(STDIN_FILENO, part);
-    Read {
-        full: held + io::count(got, part),
-        failed: got < 0,
+    match input.read(&mut buf[held..]) {
+        Ok(n) => Read {
+            full: held + n,
+            failed: false,
+        },
+        Err(_) => Read {
+            full: held,
+            failed: true,
+        },
     }
 }
 
 // The end of the list, after its last line, if that has no newline.
-fn last_line(r: Reader, s: &[u8], failed: bool) -> NextLine
+fn last_line(out: &impl Print, r: Reader, s: &[u8], failed: bool) -> NextLine
     ensures { (result.from ≤ result.to) × (result.to ≤ length s.now) }
 {
     let ended = end(r);
-    let told = if failed { unread(ended) } else { ended };
+    let told = if failed { unread(out, ended) } else { ended };
     if s.len() == 0 {
         return nothing(told);
     }
     if r.cut {
         return nothing(told);
     }
-    line(told, s, 0, s.len())
+    line(out, told, s, 0, s.len())
 }
 
 // A read after the bytes that are held, which are the start of a line.
-fn more(buf: &mut [u8], r: Reader, held: usize) -> NextLine
+fn more(
+    input: &mut impl io::Read,
+    out: &impl Print,
+    buf: &mut [u8],
+    r: Reader,
+    held: usize,
+) -> NextLine
     requires { held ≤ length buf.old }
     ensures { (result.from ≤ result.to) × (result.to ≤ length buf.old) }
 {
-    let read = read_after(buf, held);
+    let read = read_after(input, buf, held);
     let full = read.full;
     if full == held {
-        return last_line(r, &buf[..full], read.failed);
+        return last_line(out, r, &buf[..full], read.failed);
     }
     nothing(moved(r, 0, full, r.cut))
 }
 
 // The line that ends before the newline at `to`, unless it is the rest of one that is too long.
-fn whole_line(buf: &[u8], r: Reader, rest: bool, from: usize, to: usize) -> NextLine
+fn whole_line(
+    out: &impl Print,
+    buf: &[u8],
+    r: Reader,
+    rest: bool,
+    from: usize,
+    to: usize,
+) -> NextLine
     requires { (from ≤ to) × (to ≤ length buf.now) }
     ensures { (result.from ≤ result.to) × (result.to ≤ length buf.now) }
 {
     if rest {
         return nothing(r);
     }
-    line(r, &buf[from..to], from, to)
+    line(out, r, &buf[from..to], from, to)
 }
 
 // A line, if one is in the buffer, else a read.
-fn step(buf: &mut [u8], r: Reader) -> NextLine
+fn step(input: &mut impl io::Read, out: &impl Print, buf: &mut [u8], r: Reader) -> NextLine
     ensures { (result.from ≤ result.to) × (result.to ≤ length buf.old) }
 {
     let at = r.at;
@@ -195,19 +212,19 @@ fn step(buf: &mut [u8], r: Reader) -> NextLine
     let to = find(buf, at, b'\n');
     // what stands from `full` on is left from earlier
     if to < full {
-        return whole_line(buf, moved(r, to + 1, full, false), r.cut, at, to);
+        return whole_line(out, buf, moved(r, to + 1, full, false), r.cut, at, to);
     }
     if full - at == buf.len() {
-        return nothing(long_line(r, buf));
+        return nothing(long_line(out, r, buf));
     }
     let held = to_front(buf, at, full);
-    more(buf, r, held)
+    more(input, out, buf, r, held)
 }
 
 // The next line to be run; none where the list has ended, or the reader is not one of this list. A
 // proved loop has to end, and nothing says that a list does: so the steps are counted down from a
 // number that no run uses up.
-pub fn next(buf: &mut [u8], r: Reader) -> NextLine
+pub fn next(input: &mut impl io::Read, out: &impl Print, buf: &mut [u8], r: Reader) -> NextLine
     ensures { (result.from ≤ result.to) × (result.to ≤ length buf.old) }
 {
     let mut reader = r;
@@ -217,7 +234,7 @@ pub fn next(buf: &mut [u8], r: Reader) -> NextLine
         if reader.ended {
             break;
         }
-        let step = step(buf, reader);
+        let step = step(input, out, buf, reader);
         if step.found {
             return step;
         }

@@ -5,6 +5,7 @@ use crate::compare;
 use listing::bytes::{Bytes, bytes_of};
 use listing::text::{Outcome, Place, after, find};
 use listing_lines::Reader;
+use std::io;
 
 // Whether the first n of the lent bytes give the output.
 fn first_give(input: &mut [u8], n: usize, s: &[u8], out: &mut [u8; 20480]) -> bool
@@ -54,14 +55,20 @@ fn played(s: &[u8], input: &mut [u8], out: &mut [u8; 20480]) -> Outcome {
     played_from(s, end, from, &mut *input, &mut *out)
 }
 
-// Runs the lines of standard input. A proved loop has to end, and nothing says that a list does: so the lines are counted down from a
+// Runs the lines of the list. A proved loop has to end, and nothing says that a list does: so the lines are counted down from a
 // number that no run uses up.
-pub(crate) fn run(buf: &mut [u8], input: &mut [u8], out: &mut [u8; 20480]) -> Reader {
+pub(crate) fn run(
+    list: &mut impl io::Read,
+    report: &impl Print,
+    buf: &mut [u8],
+    input: &mut [u8],
+    out: &mut [u8; 20480],
+) -> Reader {
     let mut reader = listing_lines::start();
     let mut lines = u64::MAX;
     while lines > 0 {
         lines -= 1;
-        let line = listing_lines::next(buf, reader);
+        let line = listing_lines::next(list, report, buf, reader);
         if !line.found {
             return line.reader;
         }
@@ -69,7 +76,7 @@ pub(crate) fn run(buf: &mut [u8], input: &mut [u8], out: &mut [u8; 20480]) -> Re
         let to = line.to;
         let read = line.reader;
         let outcome = played(&buf[from..to], input, &mut *out);
-        reader = listing_lines::counted(read, outcome);
+        reader = listing_lines::counted(report, read, outcome);
     }
     reader
 }

@@ -14,9 +14,16 @@ fn buffer() -> [u8; 131072]
     [0; 131072]
 }
 
-fn main() {
+fn main(rt: HostRuntime) {
     let mut buf = buffer();
     let mut input = [0u8; 16640];
     let mut out = [0u8; 20480];
-    listing_lines::print_tally(list::run(&mut buf, &mut input, &mut out));
+    let read = list::run(
+        &mut rt.stdin(),
+        &rt.stdout(),
+        &mut buf,
+        &mut input,
+        &mut out,
+    );
+    listing_lines::print_tally(&rt.stdout(), read);
 }

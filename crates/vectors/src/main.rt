@@ -6,6 +6,7 @@ ghost use Rattle.std.specs.Prelude.{◌≡◌, length};
 
 use listing_lines::Reader;
 use session::Session;
+use std::io;
 
 mod calls_edit;
 mod dispatch;
@@ -33,10 +34,16 @@ struct Progress {
 }
 
 // Runs the next line.
-fn turn(buf: &mut [u8], r: Progress, memory: &mut [u64]) -> Progress {
+fn turn(
+    list: &mut impl io::Read,
+    report: &impl Print,
+    buf: &mut [u8],
+    r: Progress,
+    memory: &mut [u64],
+) -> Progress {
     let reader = r.reader;
     let session = r.session;
-    let line = listing_lines::next(buf, reader);
+    let line = listing_lines::next(list, report, buf, reader);
     let read = line.reader;
     if !line.found {
         return Progress {
@@ -51,15 +58,20 @@ fn turn(buf: &mut [u8], r: Progress, memory: &mut [u64]) -> Progress {
     let outcome = played.outcome;
     let after = played.session;
     Progress {
-        reader: listing_lines::counted(read, outcome),
+        reader: listing_lines::counted(report, read, outcome),
         session: after,
         ended: false,
     }
 }
 
-// Runs the lines of standard input. A proved loop has to end, and nothing says that a list does: so
+// Runs the lines of the list. A proved loop has to end, and nothing says that a list does: so
 // the lines are counted down from a number that no run uses up.
-fn replay(buf: &mut [u8], memory: &mut [u64]) -> Reader {
+fn replay(
+    list: &mut impl io::Read,
+    report: &impl Print,
+    buf: &mut [u8],
+    memory: &mut [u64],
+) -> Reader {
     let mut r = Progress {
         reader: listing_lines::start(),
         session: Session::open(0, memory),
@@ -68,7 +80,7 @@ fn replay(buf: &mut [u8], memory: &mut [u64]) -> Reader {
     let mut lines = u64::MAX;
     while lines > 0 {
         lines -= 1;
-        r = turn(buf, r, memory);
+        r = turn(list, report, buf, r, memory);
         if r.ended {
             return r.reader;
         }
@@ -76,8 +88,9 @@ fn replay(buf: &mut [u8], memory: &mut [u64]) -> Reader {
     r.reader
 }
 
-fn main() {
+fn main(rt: HostRuntime) {
     let mut buf = buffer();
     let mut memory = memory();
-    listing_lines::print_tally(replay(&mut buf, &mut memory));
+    let read = replay(&mut rt.stdin(), &rt.stdout(), &mut buf, &mut memory);
+    listing_lines::print_tally(&rt.stdout(), read);
 }

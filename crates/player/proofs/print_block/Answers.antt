@@ -8,18 +8,18 @@ use Rattle.player.proofs.print_block.Goals as goal
 
 pub print-requires : goal.print-requires
 unfolding told_written
-print-requires c =
+print-requires g c =
     let args = c.args in
     let next-block = c.next_block-piece in
     let written = c.in-Bytes in
     omega (arith, (moved args.play args.out.now written.n (sym (ap told_written written.is) ∙ next-block.ensures.answer)).0)
 
 pub returns-in-Refused : goal.returns-in-Refused
-returns-in-Refused c = λ q h. let z : ◌≡◌ {A = ℕ} 0 1 = cc in absurd (omega arith)
+returns-in-Refused g c = λ q h. let z : ◌≡◌ {A = ℕ} 0 1 = cc in absurd (omega arith)
 
 pub returns-in-Bytes : goal.returns-in-Bytes
 unfolding told_written
-returns-in-Bytes c =
+returns-in-Bytes g c =
     let args = c.args in
     let next-block = c.next_block-piece in
     let written = c.in-Bytes in

@@ -5,7 +5,7 @@ use borrow.Author.Rules.{rules}
 use Rattle.player.proofs.print_blocks.Given as goal
 
 abbrev pub invariant-loop-left : goal.invariant-loop-left
-invariant-loop-left l = Unit {0}
+invariant-loop-left g l = Unit {0}
 
 abbrev pub decreases-loop-left : goal.decreases-loop-left
-decreases-loop-left l = l.left.count - l.left.next
+decreases-loop-left g l = l.left.count - l.left.next

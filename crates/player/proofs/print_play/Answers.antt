@@ -6,6 +6,6 @@ use borrow.Author.Rules.{rules}
 use Rattle.player.proofs.print_play.Goals as goal
 
 pub print-requires : goal.print-requires
-print-requires c =
+print-requires g c =
     let args = c.args in
     omega (arith, c.open-opened.ensures.bytes, first_length (counted (play_input args.s.now)))

@@ -4,7 +4,7 @@ use Rattle.std.proofs.Common.{◌≡◌, length, arith, rules}
 use Rattle.listing_lines.proofs.reader.next.Given as goal
 
 abbrev pub invariant-loop-steps : goal.invariant-loop-steps
-invariant-loop-steps l = length l.buf ≡ length l.initial.buf
+invariant-loop-steps g l = length l.buf ≡ length l.initial.buf
 
 abbrev pub decreases-loop-steps : goal.decreases-loop-steps
-decreases-loop-steps l = l.steps
+decreases-loop-steps g l = l.steps
