@@ -7,7 +7,7 @@ use mathlib.Core.Path.{◌≡◌}
 use Rattle.vectors.proofs.replay.Goals as goal
 
 pub overflow_sub-lines : goal.overflow_sub-lines
-overflow_sub-lines c = omega arith
+overflow_sub-lines g c = omega arith
 
 pub loop-lines-smaller : goal.loop-lines-smaller
-loop-lines-smaller c = omega arith
+loop-lines-smaller g c = omega arith

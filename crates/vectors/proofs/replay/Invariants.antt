@@ -7,7 +7,7 @@ use mathlib.Core.Path.{◌≡◌}
 use Rattle.vectors.proofs.replay.Given as goal
 
 abbrev pub invariant-loop-lines : goal.invariant-loop-lines
-invariant-loop-lines l = (length l.buf ≡ length l.initial.buf) × (length l.memory ≡ length l.initial.memory)
+invariant-loop-lines g l = (length l.buf ≡ length l.initial.buf) × (length l.memory ≡ length l.initial.memory)
 
 abbrev pub decreases-loop-lines : goal.decreases-loop-lines
-decreases-loop-lines l = l.lines
+decreases-loop-lines g l = l.lines

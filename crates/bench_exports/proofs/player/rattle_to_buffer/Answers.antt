@@ -10,11 +10,5 @@ overflow_add-i c = omega arith
 pub loop-i-smaller : goal.loop-i-smaller
 loop-i-smaller c = omega arith
 
-pub loop-i-preserved : goal.loop-i-preserved
-loop-i-preserved c =
-    let loop = c.loop-i in
-    let to-buffer = c.to_buffer in
-    (omega arith, to-buffer.auto.1.1.1.0 ∙ loop.invariant.1)
-
 pub shape_of-out : goal.shape_of-out
 shape_of-out c = c.loop-i.invariant.1

@@ -10,12 +10,6 @@ overflow_add-i c = omega arith
 pub loop-i-smaller : goal.loop-i-smaller
 loop-i-smaller c = omega arith
 
-pub loop-i-preserved : goal.loop-i-preserved
-loop-i-preserved c =
-    let loop = c.loop-i in
-    let find-peaks = c.find_peaks-r in
-    (omega arith, find-peaks.auto.1.1.0 ∙ loop.invariant.1, find-peaks.auto.1.1.1.0 ∙ loop.invariant.2)
-
 pub shape_of-out_times : goal.shape_of-out_times
 shape_of-out_times c = c.loop-i.invariant.1
 

@@ -12,8 +12,7 @@ pub loop-i-smaller : goal.loop-i-smaller
 loop-i-smaller c = omega arith
 
 pub loop-i-preserved : goal.loop-i-preserved
-loop-i-preserved c =
-    (omega arith, c.forward-forward.auto.1.0 ∙ c.back-back.auto.1.0 ∙ c.loop-i.invariant.1)
+loop-i-preserved c = (omega arith, omega arith)
 
 pub shape_of-memory : goal.shape_of-memory
-shape_of-memory c = c.loop-i.invariant.1 ∙ c.edit-first.auto.1.1.0
+shape_of-memory c = omega arith

@@ -12,10 +12,7 @@ pub loop-i-smaller : goal.loop-i-smaller
 loop-i-smaller c = omega arith
 
 pub loop-i-preserved : goal.loop-i-preserved
-loop-i-preserved c =
-    let loop = c.loop-i in
-    let merged = c.merged-r in
-    (omega arith, merged.auto.1.1.1.0 ∙ loop.invariant.1)
+loop-i-preserved c = (omega arith, omega arith)
 
 pub shape_of-memory : goal.shape_of-memory
 shape_of-memory c = c.loop-i.invariant.1

@@ -3,7 +3,7 @@ use Rattle.std.proofs.Common.{◌≡◌, length, arith, rules}
 use Rattle.plays.proofs.list.run.Goals as goal
 
 pub overflow_sub-lines : goal.overflow_sub-lines
-overflow_sub-lines c = omega arith
+overflow_sub-lines g c = omega arith
 
 pub loop-lines-smaller : goal.loop-lines-smaller
-loop-lines-smaller c = omega arith
+loop-lines-smaller g c = omega arith

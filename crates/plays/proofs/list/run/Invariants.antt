@@ -3,7 +3,7 @@ use Rattle.std.proofs.Common.{◌≡◌, length, arith, rules}
 use Rattle.plays.proofs.list.run.Given as goal
 
 abbrev pub invariant-loop-lines : goal.invariant-loop-lines
-invariant-loop-lines l = (length l.buf ≡ length l.initial.buf) × (length l.input ≡ length l.initial.input)
+invariant-loop-lines g l = (length l.buf ≡ length l.initial.buf) × (length l.input ≡ length l.initial.input)
 
 abbrev pub decreases-loop-lines : goal.decreases-loop-lines
-decreases-loop-lines l = l.lines
+decreases-loop-lines g l = l.lines
