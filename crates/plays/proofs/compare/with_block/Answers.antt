@@ -21,4 +21,4 @@ returns-in-Bytes c =
     let args = c.args in
     let next-block = c.next_block-piece in
     let written = c.in-Bytes in
-    λ q h. moves_on args.play args.out.now written.n next-block.result.play (sym (ap told_written written.is) ∙ next-block.ensures.answer) next-block.ensures.left.0 h
+    λ q h. moves_on args.play args.out.now written.n next-block.result.play (sym (ap told_written written.is) ∙ next-block.ensures.answer) next-block.ensures.left h
