@@ -1,8 +1,5 @@
 -- `listing::bytes::bytes_of`: each byte stands after the one before, and no more are put than there is room.
-use Prim.Native.Nat.{◌-◌, ◌≤◌}
-use lib.ListN.{length, length-set}
-use mathlib.Core.Path.{◌≡◌}
-use borrow.Author.Rules.{rules}
+use lib.ListN.{length-set}
 use native.Mathlib.Omega.{arith}
 use Rattle.listing.proofs.bytes.bytes_of.Goals as goal
 

@@ -1,9 +1,7 @@
 -- `listing::bytes::bytes_of`: each byte stands after the one before, and no more are put than there is room.
 use Prim.Native.Nat.{◌-◌, ◌≤◌}
-use lib.ListN.{length, length-set}
+use lib.ListN.{length}
 use mathlib.Core.Path.{◌≡◌}
-use borrow.Author.Rules.{rules}
-use native.Mathlib.Omega.{arith}
 use Rattle.listing.proofs.bytes.bytes_of.Given as goal
 
 abbrev pub invariant-loop-at : goal.invariant-loop-at

@@ -1,9 +1,6 @@
 -- `listing::text::decimal_after` meets its contract: another digit is taken only where the number then stays below 2 ^ 64.
 -- Assumes nothing.
-use Prim.Native.Nat.{◌-◌, ◌^◌, ◌≤◌, ◌<◌}
 use native.Mathlib.Omega.{arith}
-use lib.ListN.{length}
-use borrow.Author.Rules.{rules}
 use Rattle.listing.proofs.text.decimal_after.Goals as goal
 
 pub loop-i-init : goal.loop-i-init

@@ -1,11 +1,8 @@
 -- `listing::text::hexadecimal` meets its contract: after i digits the number is below 16 ^ i.
 -- Assumes nothing.
 use mathlib.Core.Path.{◌≡◌}
-use Prim.Native.Nat.{◌+◌, ◌-◌, ◌^◌, ◌≤◌, ◌<◌}
 use native.Mathlib.Nat.{pow-zero}
 use native.Mathlib.Omega.{arith}
-use lib.ListN.{length}
-use borrow.Author.Rules.{rules}
 use Rattle.listing.proofs.Digits.{more, more_fits}
 use Rattle.listing.proofs.text.hexadecimal.Goals as goal
 

@@ -1,7 +1,6 @@
 -- `listing::text::same_double` meets its contract: a pattern tells two values apart.
 -- Assumes nothing.
 use lib.Ieee.{binary64}
-use borrow.Author.Rules.{rules}
 use Rattle.numbers.proofs.Tests.{yes}
 use Rattle.numbers.proofs.BitLaws.{same_bits_lem}
 use Rattle.listing.proofs.text.same_double.Goals as goal

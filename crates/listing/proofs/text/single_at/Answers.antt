@@ -1,7 +1,6 @@
 -- `listing::text::single_at` meets its contract: eight digits fit the 32 bits of a pattern.
 -- Assumes nothing.
 use native.Mathlib.Omega.{arith}
-use borrow.Author.Rules.{rules}
 use Rattle.listing.proofs.text.single_at.Goals as goal
 
 pub overflow_cast-b : goal.overflow_cast-b

@@ -1,6 +1,6 @@
 -- `listing_lines::reader::next` meets its contract: what a step gives is handed on, and the buffer stays as long. The measure is the number
 -- of steps that are left. Assumes nothing.
-use Rattle.std.proofs.Common.{◌≡◌, length, arith, rules}
+use Rattle.std.proofs.Common.{◌≡◌, length}
 use Rattle.listing_lines.proofs.reader.next.Given as goal
 
 abbrev pub invariant-loop-steps : goal.invariant-loop-steps

@@ -1,6 +1,6 @@
 -- `listing_lines::reader::to_front` meets its contract: after i bytes the buffer is as long as before.
 -- Assumes nothing.
-use Rattle.std.proofs.Common.{◌≡◌, ◌-◌, ◌≤◌, length, arith, length-set, rules}
+use Rattle.std.proofs.Common.{arith, length-set}
 use Rattle.listing_lines.proofs.reader.to_front.Goals as goal
 
 pub loop-i-init : goal.loop-i-init

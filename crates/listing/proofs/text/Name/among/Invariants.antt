@@ -1,7 +1,6 @@
 -- `listing::text::Name::among` ends: the place in the words moves on, and there are no more words than bytes.
 -- Assumes nothing.
 use Prim.Native.Nat.{◌-◌, ◌≤◌}
-use borrow.Author.Rules.{rules}
 use lib.ListN.{length}
 use Rattle.listing.proofs.text.Name.among.Given as goal
 
