@@ -305,11 +305,14 @@ fn slope(before: Lookup, after: Lookup) -> Lookup
     }
 }
 
+// As many points as a slope needs; with fewer it is 0.0.
+const SLOPE_POINTS: usize = 2;
+
 // 000's get_slope_at.
 pub fn get_slope_at(points: Points, enabled: bool, limits: Limits, time: f64) -> Lookup
     ensures { told result ≡ get_slope_at points enabled limits time }
 {
-    if points.count < 2 {
+    if points.count < SLOPE_POINTS {
         if lookup::is_valid(points, limits) {
             Lookup::Value(0.0)
         } else {

@@ -435,7 +435,8 @@ pub fn clamp_values(points: Points, min: f32, max: f32) -> EditedPoints
     ensures { result ≡ clamped_edit points min max }
 {
     let ok = numbers::order::is_finitef(min) & numbers::order::is_finitef(max);
-    if min > max {
+    let crossed = min > max;
+    if crossed {
         if ok {
             if points.is_valid() {
                 return refuse(points, Refusal::BoundsCross);

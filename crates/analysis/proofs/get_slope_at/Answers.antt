@@ -17,7 +17,7 @@ pub returns-then-is_valid : goal.returns-then-is_valid
 unfolding get_slope_at
 returns-then-is_valid c =
     let args = c.args in
-    let if1 = c.if-points-lt2 in
+    let if1 = c.if-points-lt-SLOPE_POINTS in
     let ps = args.points in
     let n : length (list_of ps) < 2 = omega (arith, length-take ps.count ps.places, if1.true) in
     rw (sym c.is_valid.ensures ∙ c.if-is_valid.true, lt-ltb (length (list_of ps)) 2 n)
@@ -26,11 +26,11 @@ pub returns-else-is_valid : goal.returns-else-is_valid
 unfolding get_slope_at
 returns-else-is_valid c = rw (sym c.is_valid.ensures ∙ c.if-is_valid.false)
 
-pub returns-else-points-lt2 : goal.returns-else-points-lt2
+pub returns-else-points-lt-SLOPE_POINTS : goal.returns-else-points-lt-SLOPE_POINTS
 unfolding get_slope_at get_value_at
-returns-else-points-lt2 c =
+returns-else-points-lt-SLOPE_POINTS c =
     let good = c.well_formed in
-    let if1 = c.if-points-lt2 in
+    let if1 = c.if-points-lt-SLOPE_POINTS in
     let get-value-at = c.get_value_at-before in
     let a = c.args in
     let ps = a.points in

@@ -8,13 +8,13 @@ use Rattle.pointwise.specs.Each.{changed}
 use Rattle.pointwise.specs.declared.Change.TheVariants.{Clamp}
 use Rattle.pointwise.proofs.Clamped.{in_order_lem, not_finite, invalid, crossed}
 use Rattle.pointwise.proofs.clamp_values.Goals as goal
-use Rattle.pointwise.proofs.clamp_values.Goals.{then-min-max+then-ok+else-is_valid, then-min-max+else-ok, else-min-max}
+use Rattle.pointwise.proofs.clamp_values.Goals.{then-crossed+then-ok+else-is_valid, then-crossed+else-ok, else-crossed}
 
 pub returns-then-is_valid : goal.returns-then-is_valid
 returns-then-is_valid c =
     let is-finitef = c.is_finitef in
     let is-finitef2 = c.is_finitef-2 in
-    let if1 = c.if-min-max in
+    let if1 = c.if-crossed in
     let if2 = c.if-ok in
     let is-valid = c.is_valid in
     let args = c.args in
@@ -33,8 +33,8 @@ returns c =
     let high = args.max in
     let ok = and_both is-finitef.ensures is-finitef2.ensures in
     c.edit_each.ensures ∙ ap (λ (b : Bool). edit_points ps b (map (changed (Clamp low high)) (list_of ps))) ok
-    ∙ (elim c.if-min-max.branch [
-      | then-min-max+then-ok+else-is_valid w ↦ invalid ps low high (sym w.is_valid.ensures ∙ w.if-is_valid.false)
-      | then-min-max+else-ok w ↦ not_finite ps low high (sym ok ∙ w.if-ok.false)
-      | else-min-max w ↦ in_order_lem ps low high w.if-min-max.false
+    ∙ (elim c.if-crossed.branch [
+      | then-crossed+then-ok+else-is_valid w ↦ invalid ps low high (sym w.is_valid.ensures ∙ w.if-is_valid.false)
+      | then-crossed+else-ok w ↦ not_finite ps low high (sym ok ∙ w.if-ok.false)
+      | else-crossed w ↦ in_order_lem ps low high w.if-crossed.false
     ])
