@@ -1,7 +1,7 @@
 -- What owning an envelope tells. Assumes nothing.
-use mathlib.Core.Path.{◌≡◌, sym, ◌∙◌}
+use mathlib.Core.Path.{◌≡◌}
 use mathlib.Core.List.{List}
-use lib.ListN.{length, length-map}
+use lib.ListN.{length}
 use mir.Val.{Val}
 use denote.Laws.{Is}
 use denote.Struct.Declared.{row}
@@ -10,4 +10,4 @@ use Rattle.envelope.specs.contracts.AutomationEnvelope.{the_type}
 
 -- there are 256 places
 pub places : (e : AutomationEnvelope) (vs : List Val) → Is (row the_type) e vs → length e.points.places ≡ 256
-places e vs g = sym (length-map e.points.places _) ∙ g.1.1.1.0.1.1.1.0.1.0.1
+places e vs g = g.1.1.1.0.1.1.1.0.1.0.1

@@ -22,7 +22,7 @@ returns c =
     let flags = high.ensures in
     λ i. record {
       target = low.ensures i;
-      points = record { count = get_or args.words.now 1 0; places = c.requires.1 i };
+      points = record { count = get_or args.words.now 1 0; places = c.requires.read i };
       enabled = (bit'.ensures ∙ ap (bit 1) flags) i;
       min_value = (limit-of.ensures ∙ (λ j. limit_of ((bit2.ensures ∙ ap (bit 2) flags) j) (low2.ensures j))) i;
       max_value = (limit-of2.ensures ∙ (λ j. limit_of ((bit3.ensures ∙ ap (bit 4) flags) j) (high2.ensures j))) i;

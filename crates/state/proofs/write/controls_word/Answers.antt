@@ -18,4 +18,4 @@ returns-in-Bezier c =
 
 pub returns-in_default : goal.returns-in_default
 unfolding of_bits to_bits
-returns-in_default c = ap (λ (k : Controls). halves (to_bits binary32 k.cp2) (to_bits binary32 k.cp1)) (sym (no-controls _ c.in_default.keys2))
+returns-in_default c = ap (λ (k : Controls). halves (to_bits binary32 k.cp2) (to_bits binary32 k.cp1)) (sym (no-controls _ c.in_default.not-Bezier))
