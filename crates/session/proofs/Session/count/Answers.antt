@@ -8,13 +8,13 @@ use Rattle.session.proofs.Session.count.Goals as goal
 
 pub slot_after-next-requires : goal.slot_after-next-requires
 slot_after-next-requires c =
-    (in_order_lem c.args.self c.requires.0).at_most
+    (in_order_lem c.args.self c.requires.sound).at_most
 
 pub store-requires : goal.store-requires
 store-requires c =
-    let o = in_order_lem c.args.self c.requires.0 in
+    let o = in_order_lem c.args.self c.requires.sound in
     let l = o.below (omega (arith, c.if-depth-eq0.false)) in
-    omega (arith, c.requires.1)
+    omega (arith, c.requires.memory_fits)
 
 pub returns-then-depth-eq0 : goal.returns-then-depth-eq0
 returns-then-depth-eq0 c =

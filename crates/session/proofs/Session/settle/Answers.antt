@@ -7,8 +7,8 @@ use Rattle.session.proofs.Session.settle.Goals as goal
 
 pub count-requires : goal.count-requires
 count-requires c = record {
-  sound = c.requires.0;
-  memory_fits = c.requires.1;
+  sound = c.requires.sound;
+  memory_fits = c.requires.memory_fits;
 }
 
 pub returns-then-bit_equal : goal.returns-then-bit_equal

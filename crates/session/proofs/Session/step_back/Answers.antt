@@ -13,21 +13,21 @@ use Rattle.session.proofs.Session.step_back.Goals as goal
 pub slot_before-slot-requires : goal.slot_before-slot-requires
 slot_before-slot-requires c =
     let s = c.args.self in
-    let o = in_order_lem s (and_right (valid_envelope s.envelope) (in_order s) c.requires.0) in
+    let o = in_order_lem s (and_right (valid_envelope s.envelope) (in_order s) c.requires.sound) in
     omega (arith, o.room, c.if-kept-eq0.false)
 
 pub overflow_add-self : goal.overflow_add-self
 overflow_add-self c =
     let s = c.args.self in
-    let o = in_order_lem s (and_right (valid_envelope s.envelope) (in_order s) c.requires.0) in
-    omega (arith, o.room, c.if-kept-eq0.false, c.requires.1)
+    let o = in_order_lem s (and_right (valid_envelope s.envelope) (in_order s) c.requires.sound) in
+    omega (arith, o.room, c.if-kept-eq0.false, c.requires.memory_fits)
 
 pub step_over-requires : goal.step_over-requires
 step_over-requires c =
     let s = c.args.self in
-    let o = in_order_lem s (and_right (valid_envelope s.envelope) (in_order s) c.requires.0) in
+    let o = in_order_lem s (and_right (valid_envelope s.envelope) (in_order s) c.requires.sound) in
     let l = before_below s c.slot_before-slot.result o (omega (arith, c.if-kept-eq0.false)) c.slot_before-slot.ensures in
-    omega (arith, l, c.requires.1)
+    omega (arith, l, c.requires.memory_fits)
 
 pub returns-then-kept-eq0 : goal.returns-then-kept-eq0
 returns-then-kept-eq0 c =

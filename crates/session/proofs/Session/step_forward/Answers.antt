@@ -13,21 +13,21 @@ use Rattle.session.proofs.Session.step_forward.Goals as goal
 pub slot_after-next-requires : goal.slot_after-next-requires
 slot_after-next-requires c =
     let s = c.args.self in
-    (in_order_lem s (and_right (valid_envelope s.envelope) (in_order s) c.requires.0)).at_most
+    (in_order_lem s (and_right (valid_envelope s.envelope) (in_order s) c.requires.sound)).at_most
 
 pub overflow_add-self : goal.overflow_add-self
 overflow_add-self c =
     let s = c.args.self in
-    let o = in_order_lem s (and_right (valid_envelope s.envelope) (in_order s) c.requires.0) in
-    omega (arith, o.room, c.if-ahead-eq0.false, c.requires.1)
+    let o = in_order_lem s (and_right (valid_envelope s.envelope) (in_order s) c.requires.sound) in
+    omega (arith, o.room, c.if-ahead-eq0.false, c.requires.memory_fits)
 
 pub step_over-requires : goal.step_over-requires
 step_over-requires c =
     let s = c.args.self in
-    let o = in_order_lem s (and_right (valid_envelope s.envelope) (in_order s) c.requires.0) in
+    let o = in_order_lem s (and_right (valid_envelope s.envelope) (in_order s) c.requires.sound) in
     let r = o.room in
     let l = o.below (omega (arith, r, c.if-ahead-eq0.false)) in
-    omega (arith, l, c.requires.1)
+    omega (arith, l, c.requires.memory_fits)
 
 pub returns-then-ahead-eq0 : goal.returns-then-ahead-eq0
 returns-then-ahead-eq0 c =
