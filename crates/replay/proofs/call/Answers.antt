@@ -1,4 +1,6 @@
 use mathlib.Core.Path.{ap, sym, ◌∙◌}
+use Rattle.std.specs.Prelude.{◌≢◌}
+use native.Mathlib.Omega.{arith}
 use Rattle.points.specs.declared.AutomationPoint.{AutomationPoint}
 use Rattle.envelope.specs.declared.AutomationEnvelope.{AutomationEnvelope}
 use Rattle.envelope.specs.declared.edit.Edit.TheVariants.{OfPoints}
@@ -88,13 +90,18 @@ returns-in-7 c =
 
 pub returns-in_default : goal.returns-in_default
 returns-in_default c =
-    let match = c.in_default in
     let new = c.new in
     let edit5 = c.edit-in_default in
     let a = c.args in
-    let r = match.rest in record {
+    let ne0 : a.kind ≢ 0 = omega arith in
+    let ne1 : a.kind ≢ 1 = omega arith in
+    let ne2 : a.kind ≢ 2 = omega arith in
+    let ne3 : a.kind ≢ 3 = omega arith in
+    let ne4 : a.kind ≢ 4 = omega arith in
+    let ne5 : a.kind ≢ 5 = omega arith in
+    let ne6 : a.kind ≢ 6 = omega arith in
+    let ne7 : a.kind ≢ 7 = omega arith in record {
       obeys = edit5.ensures ∙ ap (λ (p : AutomationPoint). call_of (edit (alone (OfPoints (AddPoint p)))) a.session a.memory.now) new.ensures
-          ∙ ap (λ (c : Call). call_of c a.session a.memory.now)
-          (sym (is_add a.kind a.x a.y r.0.0.0.0.0.0.0.1 r.0.0.0.0.0.0.1 r.0.0.0.0.0.1 r.0.0.0.0.1 r.0.0.0.1 r.0.0.1 r.0.1 r.1));
+          ∙ ap (λ (c : Call). call_of c a.session a.memory.now) (sym (is_add a.kind a.x a.y ne0 ne1 ne2 ne3 ne4 ne5 ne6 ne7));
       typed = call_typed a.kind a.x a.y c.well_formed.1.1.0.1 c.well_formed.1.1.1.0.1;
     }

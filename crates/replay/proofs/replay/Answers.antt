@@ -35,7 +35,7 @@ loop-i-preserved c =
     let t = loop-test.true in (
       omega (arith, t),
       l.invariant.1,
-      call.auto.1.1.1.1.0 ∙ l.invariant.2,
+      call.auto.memory ∙ l.invariant.2,
       simp length-set l.invariant.3,
       again a.target a.memory.now a.kinds.now a.xs.now a.ys.now a.codes.now l.codes l.i l.session l.memory l.invariant.4
           call.result _ c.code.result (omega (arith, t, l.invariant.1)) (omega (arith, t, l.invariant.1)) (omega (arith, t, l.invariant.1)) (omega (arith, t, l.invariant.1, l.invariant.3))
