@@ -178,13 +178,14 @@ fn next_time(n: usize, m: usize, i: usize, j: usize, a: f64, b: f64) -> Next
     }
     let x = numbers::order::order_key(a);
     let y = numbers::order::order_key(b);
+    let same = x == y;
     if x < y {
         Next {
             time: a,
             i: i + 1,
             j,
         }
-    } else if x == y {
+    } else if same {
         Next {
             time: a,
             i: i + 1,

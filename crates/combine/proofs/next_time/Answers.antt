@@ -22,22 +22,22 @@ returns-then-x-y c =
     let order-key = c.order_key-x in
     rw (lt-leb args.n args.i if1.false, lt-leb args.m args.j if2.false, ← order-key.ensures, ← c.order_key-y.ensures, lt-ltb _ _ c.if-x-y.true)
 
-pub returns-then-x-y-2 : goal.returns-then-x-y-2
+pub returns-then-same : goal.returns-then-same
 unfolding next_of
-returns-then-x-y-2 c =
+returns-then-same c =
     let args = c.args in
     let if1 = c.if-n-i in
     let if2 = c.if-m-j in
     let order-key = c.order_key-x in
     let order-key2 = c.order_key-y in
-    rw (lt-leb args.n args.i if1.false, lt-leb args.m args.j if2.false, ← order-key.ensures, ← order-key2.ensures, le-ltb _ _ c.if-x-y.false, eq-eqb _ _ c.if-x-y-2.true)
+    rw (lt-leb args.n args.i if1.false, lt-leb args.m args.j if2.false, ← order-key.ensures, ← order-key2.ensures, le-ltb _ _ c.if-x-y.false, eq-eqb _ _ c.if-same.true)
 
-pub returns-else-x-y-2 : goal.returns-else-x-y-2
+pub returns-else-same : goal.returns-else-same
 unfolding next_of
-returns-else-x-y-2 c =
+returns-else-same c =
     let args = c.args in
     let if1 = c.if-n-i in
     let if2 = c.if-m-j in
     let order-key = c.order_key-x in
     let order-key2 = c.order_key-y in
-    rw (lt-leb args.n args.i if1.false, lt-leb args.m args.j if2.false, ← order-key.ensures, ← order-key2.ensures, le-ltb _ _ c.if-x-y.false, ne_eqb _ _ c.if-x-y-2.false)
+    rw (lt-leb args.n args.i if1.false, lt-leb args.m args.j if2.false, ← order-key.ensures, ← order-key2.ensures, le-ltb _ _ c.if-x-y.false, ne_eqb _ _ c.if-same.false)
