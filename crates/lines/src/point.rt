@@ -45,12 +45,18 @@ pub enum PointLine {
     Is(AutomationPoint, usize),
 }
 
+// The curve with controls, by its code.
+const BEZIER: u32 = 5;
+
+// The code below the last that is no curve's.
+const NO_CURVE: u32 = 6;
+
 // The controls that a curve's number asks for.
 fn controls_at(t: &[u8; 256], s: &[u8], at: usize, code: u32) -> ControlsAt
     requires { DigitTable t.now }
     ensures { told_controls s.now result ≡ controls_form code (drop at s.now) }
 {
-    if code == 5 {
+    if code == BEZIER {
         let Single::Is(cp1, at2) = crate::field::single_at(t, s, at, 16, 8, b' ') else {
             return ControlsAt::Bad;
         };
@@ -118,7 +124,7 @@ fn point_of(r: RawPoint) -> PointSaid
     if !numbers::bits::finite_bitsf(r.value) {
         return PointSaid::Refused(Refusal::NotFinite);
     }
-    if r.curve == 6 {
+    if r.curve == NO_CURVE {
         return PointSaid::Refused(Refusal::SheetCurve);
     }
     if 22 <= r.curve {

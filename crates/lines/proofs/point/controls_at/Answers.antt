@@ -14,26 +14,26 @@ use Rattle.lines.proofs.point.controls_at.Goals as goal
 pub returns-in_default : goal.returns-in_default
 unfolding controls_form told_controls told_single
 returns-in_default c =
-    let if1 = c.if-code-eq5 in
+    let if1 = c.if-code-eq-BEZIER in
     let single-at = c.single_at in
     rw (eq-eqb _ 5 if1.true, told (told_single _) single-at.ensures.answer c.in_default.is)
 
 pub returns-in_default-single_at : goal.returns-in_default-single_at
 unfolding controls_form told_controls told_single
 returns-in_default-single_at c =
-    let if1 = c.if-code-eq5 in
+    let if1 = c.if-code-eq-BEZIER in
     let single-at = c.single_at in
     let cp1 = c.in-Is in
-    let single-at2 = c.single_at-then-code-eq5 in
+    let single-at2 = c.single_at-then-code-eq-BEZIER in
     rw (eq-eqb _ 5 if1.true, told (told_single _) single-at.ensures.answer cp1.is, told (told_single _) single-at2.ensures.answer c.in_default-single_at.is)
 
-pub returns-then-code-eq5 : goal.returns-then-code-eq5
+pub returns-then-code-eq-BEZIER : goal.returns-then-code-eq-BEZIER
 unfolding controls_form told_controls told_single
-returns-then-code-eq5 c =
-    let if1 = c.if-code-eq5 in
+returns-then-code-eq-BEZIER c =
+    let if1 = c.if-code-eq-BEZIER in
     let single-at = c.single_at in
     let cp1 = c.in-Is in
-    let single-at2 = c.single_at-then-code-eq5 in
+    let single-at2 = c.single_at-then-code-eq-BEZIER in
     rw (eq-eqb _ 5 if1.true, told (told_single _) single-at.ensures.answer cp1.is, told (told_single _) single-at2.ensures.answer c.in-Is-single_at.is)
 
 pub overflow_add-result : goal.overflow_add-result
@@ -46,11 +46,11 @@ pub returns-then-starts_with : goal.returns-then-starts_with
 unfolding controls_form told_controls
 returns-then-starts_with c =
     let args = c.args in
-    let if1 = c.if-code-eq5 in
+    let if1 = c.if-code-eq-BEZIER in
     rw (ne_eqb _ 5 if1.false, sym c.starts_with.ensures ∙ c.if-starts_with.true) (ap (λ (l : List ℕ). got (0, 0) l) (sym (drop-drop 4 args.at args.s.now)))
 
 pub returns-else-starts_with : goal.returns-else-starts_with
 unfolding controls_form told_controls
 returns-else-starts_with c =
-    let if1 = c.if-code-eq5 in
+    let if1 = c.if-code-eq-BEZIER in
     rw (ne_eqb _ 5 if1.false, sym c.starts_with.ensures ∙ c.if-starts_with.false)

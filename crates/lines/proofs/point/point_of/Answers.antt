@@ -17,14 +17,14 @@ returns-then-not-finite_bitsf c =
     let if1 = c.if-not-finite_bits in
     rw (sym finite-bits.ensures ∙ not-false _ if1.false-raw, sym c.finite_bitsf.ensures ∙ not-true _ c.if-not-finite_bitsf.true-raw)
 
-pub returns-then-r-eq6 : goal.returns-then-r-eq6
+pub returns-then-r-eq-NO_CURVE : goal.returns-then-r-eq-NO_CURVE
 unfolding point_meaning told_point
-returns-then-r-eq6 c =
+returns-then-r-eq-NO_CURVE c =
     let finite-bits = c.finite_bits in
     let if1 = c.if-not-finite_bits in
     let finite-bitsf = c.finite_bitsf in
     let if2 = c.if-not-finite_bitsf in
-    rw (sym finite-bits.ensures ∙ not-false _ if1.false-raw, sym finite-bitsf.ensures ∙ not-false _ if2.false-raw, eq-eqb _ 6 c.if-r-eq6.true)
+    rw (sym finite-bits.ensures ∙ not-false _ if1.false-raw, sym finite-bitsf.ensures ∙ not-false _ if2.false-raw, eq-eqb _ 6 c.if-r-eq-NO_CURVE.true)
 
 pub returns-then-r-ge22 : goal.returns-then-r-ge22
 unfolding point_meaning told_point
@@ -33,7 +33,7 @@ returns-then-r-ge22 c =
     let if1 = c.if-not-finite_bits in
     let finite-bitsf = c.finite_bitsf in
     let if2 = c.if-not-finite_bitsf in
-    let if3 = c.if-r-eq6 in
+    let if3 = c.if-r-eq-NO_CURVE in
     rw (sym finite-bits.ensures ∙ not-false _ if1.false-raw, sym finite-bitsf.ensures ∙ not-false _ if2.false-raw, ne_eqb _ 6 if3.false, le-ltb _ _ c.if-r-ge22.true)
 
 pub returns-then-not-finite_bitsf-2 : goal.returns-then-not-finite_bitsf-2
@@ -43,7 +43,7 @@ returns-then-not-finite_bitsf-2 c =
     let if1 = c.if-not-finite_bits in
     let finite-bitsf = c.finite_bitsf in
     let if2 = c.if-not-finite_bitsf in
-    let if3 = c.if-r-eq6 in
+    let if3 = c.if-r-eq-NO_CURVE in
     let if4 = c.if-r-ge22 in
     rw (
       sym finite-bits.ensures ∙ not-false _ if1.false-raw,
@@ -60,7 +60,7 @@ returns-then-not-finite_bitsf-3 c =
     let if1 = c.if-not-finite_bits in
     let finite-bitsf = c.finite_bitsf in
     let if2 = c.if-not-finite_bitsf in
-    let if3 = c.if-r-eq6 in
+    let if3 = c.if-r-eq-NO_CURVE in
     let if4 = c.if-r-ge22 in
     let finite-bitsf2 = c.finite_bitsf-2 in
     let if5 = c.if-not-finite_bitsf-2 in
@@ -104,7 +104,7 @@ returns c =
     let if1 = c.if-not-finite_bits in
     let finite-bitsf = c.finite_bitsf in
     let if2 = c.if-not-finite_bitsf in
-    let if3 = c.if-r-eq6 in
+    let if3 = c.if-r-eq-NO_CURVE in
     let if4 = c.if-r-ge22 in
     let finite-bitsf2 = c.finite_bitsf-2 in
     let if5 = c.if-not-finite_bitsf-2 in
