@@ -13,7 +13,7 @@ use Rattle.session.specs.Calls.{joined, committed, edit, call_of, Obeys}
 use Rattle.session.specs.declared.Session.{Session}
 use Rattle.session.specs.declared.SessionAnswer.{SessionAnswer}
 
--- a ticket that fits: the session and the memory that the same merge as an edit leaves, "one edit of the list, or none where F-2 calls it idle" (`commit-fits`)
+-- a ticket that fits: the session and the memory that the same merge as an edit leaves, "one edit of the list, or none where F-2 calls it idle" (`commit_fits`)
 abbrev pub CommitIsTheEdit : Type 0
 CommitIsTheEdit =
     (t : Ticket) (s : Session) (m : List ℕ) → valid_envelope t.first ≡ true → bit_equal s.envelope t.first ≡ true
@@ -25,19 +25,19 @@ pub record TypedParts (t : Ticket) (s : Session) : Type 0 where
   pub first : typed t.first ≡ true
   pub second : typed t.second ≡ true
 
--- "An accepted commit equals `merge` on the ticket's parts" (`commit-merges`)
+-- "An accepted commit equals `merge` on the ticket's parts" (`commit_merges`)
 abbrev pub CommitMerges : Type 0
 CommitMerges =
     (t : Ticket) (s : Session) (m : List ℕ) (a : SessionAnswer) (m' : List ℕ) → TypedParts t s → Obeys s m (edit (committed t)) a m' → said a.answer ≡ gives tt
     → join_of (Merge t.offset) t.first t.second ≡ record { said = gives tt; envelope = a.session.envelope }
 
--- "An editor wants to see how many points a merge will give before agreeing": what was shown is what an accepted commit gives (`shown-committed`)
+-- "An editor wants to see how many points a merge will give before agreeing": what was shown is what an accepted commit gives (`shown_committed`)
 abbrev pub ShownIsCommitted : Type 0
 ShownIsCommitted =
     (t : Ticket) (s : Session) (m : List ℕ) (a : SessionAnswer) (m' : List ℕ) → TypedParts t s → Obeys s m (edit (committed t)) a m' → said a.answer ≡ gives tt
     → (ask_of t.first t.second t.offset).said ≡ gives a.session.envelope.points.count
 
--- "Where that merge is refused, so is the commit, by the same number": to a valid session that has the ticket's first, and with its memory's length (`refused-ask`)
+-- "Where that merge is refused, so is the commit, by the same number": to a valid session that has the ticket's first, and with its memory's length (`refused_ask`)
 abbrev pub RefusedAskIsRefused : Type 0
 RefusedAskIsRefused =
     (t : Ticket) (s : Session) (m : List ℕ) (n : ℕ) → (ask_of t.first t.second t.offset).said ≡ refuses n

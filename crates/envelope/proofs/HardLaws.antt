@@ -1,5 +1,5 @@
 -- With hard on and both limits in order, every value found by lookup lies between them (`HardBetween` of specs/Promised), and nothing else turns on hard (`HardAside`). Assumes nothing.
--- A value that is found is a value constrained (`heard`), so limits' `hard-holds` speaks of it; a sample of a run that isn't refused is the lookup at its time.
+-- A value that is found is a value constrained (`heard`), so limits' `hard_holds` speaks of it; a sample of a run that isn't refused is the lookup at its time.
 use Prim.Native.Nat.{ℕ, ◌+◌, ◌<◌}
 use mathlib.Core.Path.{◌≡◌, refl, sym, ap, ◌∙◌}
 use mathlib.Core.Bool.{Bool, true, false, cond, ◌&&◌}

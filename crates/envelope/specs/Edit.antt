@@ -1,4 +1,4 @@
--- The Bench's edits, in 01's terms: what an edit says, and the envelope that comes back. `editOf` is 01's list of edits.
+-- The Bench's edits, in 01's terms: what an edit says, and the envelope that comes back. `edit_of` is 01's list of edits.
 use Rattle.std.specs.Prelude.{ℕ, Bool, true, cond, ◌&&◌, List, map}
 use Rattle.numbers.specs.Bounds.{finite}
 use Rattle.curve.specs.Curve.{finite_controls}

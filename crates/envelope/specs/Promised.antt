@@ -23,11 +23,11 @@ pub record Fair (e : AutomationEnvelope) (t : EditTold) : Type 0 where
   pub kept : (n : ℕ) → t.said ≡ refuses n → t.envelope ≡ e
   pub target : t.envelope.target ≡ e.target
 
--- so does every edit (`edit-fair`, proofs/EditLaws)
+-- so does every edit (`edit_fair`, proofs/EditLaws)
 abbrev pub EditsFair : Type 0
 EditsFair = (d : Edit) (e : AutomationEnvelope) → Fair e (edit_of d e)
 
--- and every edit with another envelope, which "keeps the first target" (`join-fair`, proofs/JoinLaws)
+-- and every edit with another envelope, which "keeps the first target" (`join_fair`, proofs/JoinLaws)
 abbrev pub JoinsFair : Type 0
 JoinsFair = (j : Join) (e other : AutomationEnvelope) → Fair e (join_of j e other)
 
@@ -45,7 +45,7 @@ pub record Between (e : AutomationEnvelope) (low high : Float) : Type 0 where
       → (i : ℕ) → i < sample_count rate duration → (v : Float) → value_at_of e (sample_time rate i) ≡ gives (some v)
       → lies_between low high (get_or (to_buffer_of e rate duration place buffer).buffer (place + i) nan) ≡ true
 
--- 02, F-1: "With both set, minimum at most maximum, every value found by lookup then lies between them" (`hard-between`, proofs/HardLaws)
+-- 02, F-1: "With both set, minimum at most maximum, every value found by lookup then lies between them" (`hard_between`, proofs/HardLaws)
 abbrev pub HardBetween : Type 0
 HardBetween = (e : AutomationEnvelope) (low high : Float) → Holding (limits_of e) low high → Between e low high
 
@@ -74,6 +74,6 @@ pub record Aside (e : AutomationEnvelope) (on : Bool) : Type 0 where
   pub merges : (offset : Float) (other : AutomationEnvelope) → Alike (join_of (Merge offset) (hard_as on e) other) (join_of (Merge offset) e other)
   pub merged : (offset : Float) (other : AutomationEnvelope) → join_of (Merge offset) other (hard_as on e) ≡ join_of (Merge offset) other e
 
--- so of every envelope (`hard-aside`, proofs/HardLaws)
+-- so of every envelope (`hard_aside`, proofs/HardLaws)
 abbrev pub HardAside : Type 0
 HardAside = (e : AutomationEnvelope) (on : Bool) → Aside e on

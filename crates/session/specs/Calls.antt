@@ -22,7 +22,7 @@ pub data Entry : Type 0 where
   joined : Join → AutomationEnvelope → Entry
   committed : Ticket → Entry
 
--- what it makes of an envelope. A commit is "`merge` on the ticket's parts": the envelope has to be the ticket's first (`fitsTicket`).
+-- what it makes of an envelope. A commit is "`merge` on the ticket's parts": the envelope has to be the ticket's first (`fits_ticket`).
 abbrev pub made_by : Entry → AutomationEnvelope → EditTold
 made_by (alone edit) e = edit_of edit e
 made_by (joined join other) e = join_of join e other

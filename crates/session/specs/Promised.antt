@@ -5,7 +5,7 @@ use Rattle.session.specs.Calls.{Call, Obeys}
 use Rattle.session.specs.declared.Session.{Session}
 use Rattle.session.specs.declared.SessionAnswer.{SessionAnswer}
 
--- "A refusal returns its number .. and changes nothing": "a refused call returns the session it got", and leaves the memory (`refused-call`, proofs/Refusals)
+-- "A refusal returns its number .. and changes nothing": "a refused call returns the session it got", and leaves the memory (`refused_call`, proofs/Refusals)
 abbrev pub RefusedCallChangesNothing : Type 0
 RefusedCallChangesNothing =
     (s : Session) (m : List ℕ) (c : Call) (a : SessionAnswer) (m' : List ℕ) (n : ℕ) → Obeys s m c a m' → said a.answer ≡ refuses n

@@ -4,7 +4,7 @@ use Rattle.envelope.specs.Typed.{typed}
 use Rattle.envelope.specs.declared.AutomationEnvelope.{AutomationEnvelope}
 use Rattle.state.specs.State.{pack, state_of}
 
--- "packed one-to-one": the words say the envelope (`stateOf-pack`, proofs/StateLaws), so the same words are the same envelope's (`pack_one`, there)
+-- "packed one-to-one": the words say the envelope (`state_of_pack`, proofs/StateLaws), so the same words are the same envelope's (`pack_one`, there)
 abbrev pub ReadsBack : Type 0
 ReadsBack = (e : AutomationEnvelope) → typed e ≡ true → state_of (pack e) ≡ e
 

@@ -1,5 +1,5 @@
 -- `commit::commit` meets its contract: where the ticket's first is valid and the session's envelope, bit for bit, the same merge as an edit is the commit
--- (`commit-fits`); else it is refused, as `refuse` says.
+-- (`commit_fits`); else it is refused, as `refuse` says.
 use mathlib.Core.Path.{sym, ◌∙◌}
 use mathlib.Core.Bool.{◌&&◌}
 use Rattle.numbers.proofs.Tests.{and_left, and_right}

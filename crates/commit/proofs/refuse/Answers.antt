@@ -1,4 +1,4 @@
--- `commit::refuse` meets its contract: what `admit` refuses, but 1 first (`commit-refused`); else 14, but 1 first (`commit-other`).
+-- `commit::refuse` meets its contract: what `admit` refuses, but 1 first (`commit_refused`); else 14, but 1 first (`commit_other`).
 use mathlib.Core.Path.{ap, sym, ◌∙◌}
 use mathlib.Core.Bool.{◌&&◌}
 use Rattle.points.specs.Checks.{refusal_of}

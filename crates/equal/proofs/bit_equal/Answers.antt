@@ -1,5 +1,5 @@
--- `equal::bit_equal` meets its contract: the settings differ, which decides (`by-settings`), or they don't, so that there are as many points (`same_count`) and
--- these decide (`by-points`).
+-- `equal::bit_equal` meets its contract: the settings differ, which decides (`by_settings`), or they don't, so that there are as many points (`same_count`) and
+-- these decide (`by_points`).
 use mathlib.Core.Path.{sym, ◌∙◌}
 use Rattle.equal.proofs.EqualLaws.{same_count, by_points, by_settings}
 use borrow.Author.Rules.{rules}

@@ -1,5 +1,5 @@
--- `equal::same_curve` meets its contract: other numbers (`curve-other`), the same number of a curve without controls (`curve-plain`), or Bezier's controls
--- (`curve-controls`).
+-- `equal::same_curve` meets its contract: other numbers (`curve_other`), the same number of a curve without controls (`curve_plain`), or Bezier's controls
+-- (`curve_controls`).
 use mathlib.Core.Path.{◌≡◌, sym, ◌∙◌}
 use lib.Ieee.{binary32}
 use Rattle.numbers.proofs.Tests.{and_both}

@@ -1,4 +1,4 @@
--- `equal::same_limit` meets its contract: its four cases are those of `bitEqualLimit`.
+-- `equal::same_limit` meets its contract: its four cases are those of `bit_equal_limit`.
 use borrow.Author.Rules.{rules}
 use Rattle.equal.proofs.same_limit.Goals as goal
 

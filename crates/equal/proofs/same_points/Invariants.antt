@@ -1,4 +1,4 @@
--- `equal::same_points` meets its contract: the pairs before i are bit-equal (`pair-more`), so that one that is not decides (`pair-early`), and at the end all are.
+-- `equal::same_points` meets its contract: the pairs before i are bit-equal (`pair_more`), so that one that is not decides (`pair_early`), and at the end all are.
 use Prim.Native.Nat.{ℕ, ◌≤◌, ◌<◌, ◌-◌, ◌+◌, min}
 use mathlib.Core.Path.{◌≡◌, sym, ap, ◌∙◌}
 use mathlib.Core.Bool.{Bool, true}

@@ -1,4 +1,4 @@
--- `session::load` meets its contract: `read_state` reads the part that it is lent, and that is `stateAt`: from the slot's first word on, `from + 1028 - from` words, which are 1,028.
+-- `session::load` meets its contract: `read_state` reads the part that it is lent, and that is `state_at`: from the slot's first word on, `from + 1028 - from` words, which are 1,028.
 use mathlib.Core.Path.{◌≡◌, ap, ◌∙◌}
 use Prim.Native.Nat.{ℕ, ◌+◌, ◌-◌, ◌*◌}
 use native.Mathlib.Omega.{arith}

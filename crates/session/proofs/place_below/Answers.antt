@@ -1,4 +1,4 @@
--- `session::place_below` meets its contract: `depth == 0` is the test of `placeBelow` (`eq-eqb`, `ne_eqb`), and either branch answers what that does.
+-- `session::place_below` meets its contract: `depth == 0` is the test of `place_below` (`eq-eqb`, `ne_eqb`), and either branch answers what that does.
 use borrow.Author.Tests.{eq-eqb, ne_eqb}
 use Rattle.session.proofs.place_below.Goals as goal
 

@@ -1,4 +1,4 @@
--- `session::slot_before` meets its contract: `at == 0` is the test of `slotBefore`: the last slot where it holds (`before-zero`), else the one before (`before-some`);
+-- `session::slot_before` meets its contract: `at == 0` is the test of `slot_before`: the last slot where it holds (`before_zero`), else the one before (`before_some`);
 -- no difference wraps, for `0 < depth` in the one case and `at` isn't 0 in the other.
 use Rattle.session.proofs.Ways.{before_zero, before_some}
 use borrow.Author.Rules.{rules}

@@ -1,4 +1,4 @@
--- `session::store` meets its contract: `fit_state` leaves `pack envelope` and no more in a part of 1,028 words (`part_count`, `part-written`),
+-- `session::store` meets its contract: `fit_state` leaves `pack envelope` and no more in a part of 1,028 words (`part_count`, `part_written`),
 -- and the words before and after that part stay (`Post-is`).
 use mathlib.Core.Path.{ap, ◌∙◌}
 use Prim.Native.Nat.{ℕ, ◌+◌, ◌-◌, ◌*◌}

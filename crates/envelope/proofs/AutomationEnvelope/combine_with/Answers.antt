@@ -1,5 +1,5 @@
 -- `envelope::AutomationEnvelope::combine_with` meets its contract: of the two `side`s `combine` gives the points judged by both envelopes' validity,
--- and `renew` of judged points is the outcome with the settings of `new` (`renewed-is`).
+-- and `renew` of judged points is the outcome with the settings of `new` (`renewed_is`).
 use mathlib.Core.Path.{ap, ◌∙◌}
 use mathlib.Core.Bool.{◌&&◌}
 use Rattle.combine.specs.Combine.{combined_points}

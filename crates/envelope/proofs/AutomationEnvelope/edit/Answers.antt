@@ -1,4 +1,4 @@
--- `envelope::AutomationEnvelope::edit` meets its contract: each of the seven variants goes to its method, whose contract is `editOf` of that variant.
+-- `envelope::AutomationEnvelope::edit` meets its contract: each of the seven variants goes to its method, whose contract is `edit_of` of that variant.
 use Rattle.envelope.specs.Edit.{edit_of}
 use borrow.Author.Rules.{rules}
 use Rattle.envelope.proofs.AutomationEnvelope.edit.Goals as goal

@@ -1,5 +1,5 @@
--- `envelope::AutomationEnvelope::edit_points` meets its contract: where the limits are finite, `settle` of the judged points is the edit's outcome (`edited-is`);
--- where they aren't, the envelope isn't valid, so the outcome is 1 (`limits-lost`).
+-- `envelope::AutomationEnvelope::edit_points` meets its contract: where the limits are finite, `settle` of the judged points is the edit's outcome (`edited_is`);
+-- where they aren't, the envelope isn't valid, so the outcome is 1 (`limits_lost`).
 use mathlib.Core.Path.{sym, ap, ◌∙◌}
 use Rattle.points.specs.Points.{list_of, valid_points}
 use Rattle.limits.specs.Limits.{finite_limits}

@@ -1,5 +1,5 @@
 -- `envelope::AutomationEnvelope::equal` meets its contract: `and_both` carries its calls' contracts through each `&`,
--- so the code branches on the test of `envelopesEqual`, and each branch answers what that does.
+-- so the code branches on the test of `envelopes_equal`, and each branch answers what that does.
 use mathlib.Core.Path.{sym, ap, ◌∙◌}
 use Rattle.numbers.proofs.Tests.{and_both}
 use Rattle.points.specs.Refusal.{gives}

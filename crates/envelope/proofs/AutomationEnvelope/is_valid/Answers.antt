@@ -1,4 +1,4 @@
--- `envelope::AutomationEnvelope::is_valid` meets its contract: `limits` answers `limitsOf self`, and `lookup::is_valid` of the points and those is `validEnvelope` by definition.
+-- `envelope::AutomationEnvelope::is_valid` meets its contract: `limits` answers `limits_of self`, and `lookup::is_valid` of the points and those is `valid_envelope` by definition.
 use mathlib.Core.Path.{ap, ◌∙◌}
 use Rattle.lookup.specs.Valid.{valid}
 use Rattle.limits.specs.declared.Limits.{Limits}

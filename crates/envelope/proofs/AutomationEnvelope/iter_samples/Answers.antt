@@ -1,5 +1,5 @@
--- `envelope::AutomationEnvelope::iter_samples` meets its contract: `limits` answers `limitsOf self`,
--- and with those limits the contract of `render::iter_samples` is this one, by definition of `iterSamplesOf`.
+-- `envelope::AutomationEnvelope::iter_samples` meets its contract: `limits` answers `limits_of self`,
+-- and with those limits the contract of `render::iter_samples` is this one, by definition of `iter_samples_of`.
 use mathlib.Core.Path.{sym}
 use borrow.Author.Rules.{rules}
 use Rattle.envelope.proofs.AutomationEnvelope.iter_samples.Goals as goal

@@ -1,5 +1,5 @@
--- `envelope::AutomationEnvelope::merge_with` meets its contract: if the other's limits are finite, `settle` of the merged points is an outcome (`edited-is`)
--- whose test is the validity of both envelopes (`other-pass`); if not, the other isn't valid, and the outcome is 1 (`other-lost`).
+-- `envelope::AutomationEnvelope::merge_with` meets its contract: if the other's limits are finite, `settle` of the merged points is an outcome (`edited_is`)
+-- whose test is the validity of both envelopes (`other_pass`); if not, the other isn't valid, and the outcome is 1 (`other_lost`).
 use mathlib.Core.Path.{sym, ap, ◌∙◌}
 use mathlib.Core.Bool.{◌&&◌}
 use Rattle.points.specs.Points.{valid_points}

@@ -1,5 +1,5 @@
--- `envelope::AutomationEnvelope::replace_points` meets its contract: where the limits are finite, `renew` of the judged points is the outcome (`renewed-is`),
--- for the points' validity is then the envelope's (`limits-pass`); where they aren't, the outcome is 1 (`limits-lost`).
+-- `envelope::AutomationEnvelope::replace_points` meets its contract: where the limits are finite, `renew` of the judged points is the outcome (`renewed_is`),
+-- for the points' validity is then the envelope's (`limits_pass`); where they aren't, the outcome is 1 (`limits_lost`).
 use mathlib.Core.Path.{sym, ap, ◌∙◌}
 use Rattle.points.specs.Points.{valid_points}
 use Rattle.limits.specs.Limits.{finite_limits}

@@ -1,5 +1,5 @@
 -- `envelope::AutomationEnvelope::set_enabled` meets its contract: `set` is asked with `true`, for this edit has no argument to refuse,
--- and as `limits` answers `limitsOf self`, its `setting` is `editOf (SetEnabled enabled)` by definition.
+-- and as `limits` answers `limits_of self`, its `setting` is `edit_of (SetEnabled enabled)` by definition.
 use mathlib.Core.Path.{ap, ◌∙◌}
 use mathlib.Core.Bool.{true}
 use Rattle.limits.specs.declared.Limits.{Limits}

@@ -1,5 +1,5 @@
 -- `envelope::AutomationEnvelope::set_min` meets its contract: `set` with the new minimum is `setting` by the code's test of it;
--- `is_finite` makes that test the proposal's own (`tested`), and then it is `editOf (SetMin min)` by definition.
+-- `is_finite` makes that test the proposal's own (`tested`), and then it is `edit_of (SetMin min)` by definition.
 use mathlib.Core.Path.{◌∙◌}
 use Rattle.points.specs.Points.{list_of}
 use Rattle.envelope.specs.Edit.{successor, edit_of}

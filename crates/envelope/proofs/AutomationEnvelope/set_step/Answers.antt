@@ -1,5 +1,5 @@
 -- `envelope::AutomationEnvelope::set_step` meets its contract: `set` with the new step is `setting` by the code's test of it;
--- `is_finite` makes that test the proposal's own (`tested`), and then it is `editOf (SetStep step)` by definition.
+-- `is_finite` makes that test the proposal's own (`tested`), and then it is `edit_of (SetStep step)` by definition.
 use mathlib.Core.Path.{◌∙◌}
 use Rattle.points.specs.Points.{list_of}
 use Rattle.envelope.specs.Edit.{successor, edit_of}

@@ -1,4 +1,4 @@
--- `envelope::AutomationEnvelope::settle` meets its contract: by `limits` and `is_finite` the code tests `finiteLimits (limits_of self)`, as `edited` does;
+-- `envelope::AutomationEnvelope::settle` meets its contract: by `limits` and `is_finite` the code tests `finite_limits (limits_of self)`, as `edited` does;
 -- where it holds `with_points` makes the envelope that `edited` names, else `refuse` gives its 1.
 use mathlib.Core.Path.{sym, ap, ◌∙◌}
 use Rattle.limits.specs.Limits.{finite_limits}

@@ -1,4 +1,4 @@
--- `envelope::AutomationEnvelope::side` meets its contract: by definition of `side_of`, as `limits` answers `limitsOf self`.
+-- `envelope::AutomationEnvelope::side` meets its contract: by definition of `side_of`, as `limits` answers `limits_of self`.
 use mathlib.Core.Path.{ap}
 use Rattle.limits.specs.declared.Limits.{Limits}
 use Rattle.combine.specs.declared.Side.{Side}

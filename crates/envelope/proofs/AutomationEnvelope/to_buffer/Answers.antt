@@ -1,5 +1,5 @@
--- `envelope::AutomationEnvelope::to_buffer` meets its contract: `limits` answers `limitsOf self`,
--- and with those limits both clauses of `render::to_buffer` are its own, by definition of `toBufferOf`.
+-- `envelope::AutomationEnvelope::to_buffer` meets its contract: `limits` answers `limits_of self`,
+-- and with those limits both clauses of `render::to_buffer` are its own, by definition of `to_buffer_of`.
 use mathlib.Core.Path.{sym}
 use borrow.Author.Rules.{rules}
 use Rattle.envelope.proofs.AutomationEnvelope.to_buffer.Goals as goal

@@ -1,5 +1,5 @@
 -- `session::Session::admit` meets its contract: the memory's length is the one check: as at opening, none fails (`admits`);
--- any other, and `MemoryLength` is the first that fails (`admits-not`).
+-- any other, and `MemoryLength` is the first that fails (`admits_not`).
 use Rattle.session.proofs.Ways.{admits, admits_not}
 use Rattle.session.proofs.Session.admit.Goals as goal
 

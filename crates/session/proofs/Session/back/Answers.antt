@@ -1,5 +1,5 @@
--- `session::Session::back` meets its contract: the tests in turn: not valid is 1 (`call-one`); then what `admit` refuses (`call-refused`);
--- else the memory has its length (`admitted-length`), and the rest is `step_back`'s (`call-behind`).
+-- `session::Session::back` meets its contract: the tests in turn: not valid is 1 (`call_one`); then what `admit` refuses (`call_refused`);
+-- else the memory has its length (`admitted_length`), and the rest is `step_back`'s (`call_behind`).
 use mathlib.Core.Path.{ap, sym, ◌∙◌}
 use mathlib.Core.Bool.{and-true}
 use Rattle.points.specs.Checks.{refusal_of}

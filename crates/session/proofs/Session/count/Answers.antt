@@ -1,5 +1,5 @@
 -- `session::Session::count` meets its contract: with no slot the memory stays (`count_none`); else the place is below D (`in_order`),
--- so its slot lies in the memory, and `store` puts the old envelope there (`count-put`).
+-- so its slot lies in the memory, and `store` puts the old envelope there (`count_put`).
 use mathlib.Core.Path.{refl}
 use native.Mathlib.Omega.{arith}
 use Rattle.session.proofs.Ways.{in_order_lem, count_none, count_put}

@@ -1,5 +1,5 @@
--- `session::Session::edit` meets its contract: the tests in turn: out of order is 1 (`edit-order`);
--- what `admit` refuses, but 1 for the envelope first (`edit-refused`); the edit's own answer (`edit-own`), whose 1 (`edit-one`) is the session's too.
+-- `session::Session::edit` meets its contract: the tests in turn: out of order is 1 (`edit_order`);
+-- what `admit` refuses, but 1 for the envelope first (`edit_refused`); the edit's own answer (`edit_own`), whose 1 (`edit_one`) is the session's too.
 use mathlib.Core.Path.{refl, ap, sym, ◌∙◌}
 use mathlib.Core.Bool.{and-true}
 use Rattle.envelope.specs.Envelope.{valid_envelope}

@@ -1,4 +1,4 @@
--- `session::Session::get_value_at` meets its contract: in order, it is valid just if its envelope is, and if not the envelope's own call gives the 1 (`value-own`);
+-- `session::Session::get_value_at` meets its contract: in order, it is valid just if its envelope is, and if not the envelope's own call gives the 1 (`value_own`);
 -- out of order it isn't valid, and the code gives the 1 (`value_not`).
 use mathlib.Core.Path.{sym, ◌∙◌}
 use Rattle.session.proofs.PlayLaws.{value_own, value_not}

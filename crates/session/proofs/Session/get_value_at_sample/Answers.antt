@@ -1,5 +1,5 @@
--- `session::Session::get_value_at_sample` meets its contract: in order, it is valid just if its envelope is, and if not the envelope's own call gives the 1 (`sample-own`);
--- out of order it isn't valid, and the code gives the 1 (`sample-not`).
+-- `session::Session::get_value_at_sample` meets its contract: in order, it is valid just if its envelope is, and if not the envelope's own call gives the 1 (`sample_own`);
+-- out of order it isn't valid, and the code gives the 1 (`sample_not`).
 use mathlib.Core.Path.{sym, ◌∙◌}
 use Rattle.session.proofs.PlayLaws.{sample_own, sample_not}
 use borrow.Author.Rules.{rules}

@@ -1,5 +1,5 @@
--- `session::Session::join` meets its contract: the tests in turn, as in `edit`, with 1 for either envelope: out of order (`edit-order`);
--- what `admit` refuses, but that 1 first (`edit-refused`); the join's own answer (`edit-own`), whose 1 (`join_one`) is the session's too.
+-- `session::Session::join` meets its contract: the tests in turn, as in `edit`, with 1 for either envelope: out of order (`edit_order`);
+-- what `admit` refuses, but that 1 first (`edit_refused`); the join's own answer (`edit_own`), whose 1 (`join_one`) is the session's too.
 use mathlib.Core.Path.{refl, ap, sym, ◌∙◌}
 use mathlib.Core.Bool.{◌&&◌}
 use Rattle.envelope.specs.Edit.{EditTold}

@@ -1,4 +1,4 @@
--- `session::Session::moved` meets its contract: by definition of `movedBy`: the session with the new envelope and numbers, field by field.
+-- `session::Session::moved` meets its contract: by definition of `moved_by`: the session with the new envelope and numbers, field by field.
 use mathlib.Core.Path.{refl}
 use Rattle.session.proofs.Session.moved.Goals as goal
 

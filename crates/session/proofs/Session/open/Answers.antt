@@ -1,4 +1,4 @@
--- `session::Session::open` meets its contract: by definition of `openSession`, as `AutomationEnvelope::new` answers `new target`.
+-- `session::Session::open` meets its contract: by definition of `open_session`, as `AutomationEnvelope::new` answers `new target`.
 use mathlib.Core.Path.{ap}
 use lib.ListN.{length}
 use Rattle.envelope.specs.declared.AutomationEnvelope.{AutomationEnvelope}

@@ -1,5 +1,5 @@
--- `session::Session::render` meets its contract: in order, it is valid just if its envelope is, and if not the envelope's own call gives the 1 (`render-own`);
--- out of order it isn't valid, and the code gives the 1 with the buffer as it was (`render-not`).
+-- `session::Session::render` meets its contract: in order, it is valid just if its envelope is, and if not the envelope's own call gives the 1 (`render_own`);
+-- out of order it isn't valid, and the code gives the 1 with the buffer as it was (`render_not`).
 use mathlib.Core.Path.{refl, sym, ◌∙◌}
 use Rattle.render.proofs.RenderLaws.{answers}
 use Rattle.session.proofs.PlayLaws.{render_own, render_not}

@@ -1,5 +1,5 @@
 -- `session::Session::settle` meets its contract: by what the edit says: accepted, `bit_equal` says whether it altered a bit: if none, the session stays
--- (`settle-idle`), else `count` makes what `settled` names (`settle-counted`); refused, its refusal is the call's (`settle-refused`).
+-- (`settle_idle`), else `count` makes what `settled` names (`settle_counted`); refused, its refusal is the call's (`settle_refused`).
 use mathlib.Core.Path.{sym, ◌∙◌}
 use Rattle.session.proofs.Ways.{settle_idle, settle_counted, settle_refused}
 use borrow.Author.Rules.{rules}

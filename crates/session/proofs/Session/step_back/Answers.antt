@@ -1,5 +1,5 @@
 -- `session::Session::step_back` meets its contract: nothing kept is 10 (`back_none`); else by `kept + ahead ≤ D` (`in_order`) no sum wraps
--- and the slot before the place is below D (`before-below`), so it lies in the memory, and `step_over` makes the step (`back-over`).
+-- and the slot before the place is below D (`before_below`), so it lies in the memory, and `step_over` makes the step (`back_over`).
 use mathlib.Core.Path.{ap, ◌∙◌}
 use native.Mathlib.Omega.{arith}
 use Rattle.numbers.proofs.Tests.{and_right}

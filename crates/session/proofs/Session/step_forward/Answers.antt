@@ -1,5 +1,5 @@
--- `session::Session::step_forward` meets its contract: nothing ahead is 10 (`forward-none`); else by `kept + ahead ≤ D` (`in_order`) no sum wraps
--- and the place is below D, so its slot lies in the memory, and `step_over` makes the step (`forward-over`).
+-- `session::Session::step_forward` meets its contract: nothing ahead is 10 (`forward_none`); else by `kept + ahead ≤ D` (`in_order`) no sum wraps
+-- and the place is below D, so its slot lies in the memory, and `step_over` makes the step (`forward_over`).
 use mathlib.Core.Path.{ap, ◌∙◌}
 use native.Mathlib.Omega.{arith}
 use Rattle.numbers.proofs.Tests.{and_right}

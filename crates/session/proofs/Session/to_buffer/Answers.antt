@@ -1,5 +1,5 @@
--- `session::Session::to_buffer` meets its contract: in order, it is valid just if its envelope is, and if not the envelope's own call gives the 1 (`buffer-own`);
--- out of order it isn't valid, and the code gives the 1 with the buffer as it was (`buffer-not`).
+-- `session::Session::to_buffer` meets its contract: in order, it is valid just if its envelope is, and if not the envelope's own call gives the 1 (`buffer_own`);
+-- out of order it isn't valid, and the code gives the 1 with the buffer as it was (`buffer_not`).
 use mathlib.Core.Path.{refl, sym, ◌∙◌}
 use Rattle.render.proofs.RenderLaws.{answers}
 use Rattle.session.proofs.PlayLaws.{buffer_own, buffer_not}

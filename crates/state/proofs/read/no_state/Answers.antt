@@ -1,4 +1,4 @@
--- `state::read::no_state` meets its contract: by definition of `refusedEdit`, with the empty envelope that `new` ensures.
+-- `state::read::no_state` meets its contract: by definition of `refused_edit`, with the empty envelope that `new` ensures.
 use mathlib.Core.Path.{ap}
 use Rattle.points.specs.declared.refusal.Refusal.TheVariants.{StoredState}
 use Rattle.envelope.specs.Edit.{refused_edit}

@@ -1,5 +1,5 @@
--- `state::read::read_places` meets its contract: the first i places are the words' points (`read-turn`, or `stands-turn` where four zeros mean
--- the unused place that stands there), same is whether they pack to these words (`same_turn`), and at 256 that is all (`read_all`, `same-all`).
+-- `state::read::read_places` meets its contract: the first i places are the words' points (`read_turn`, or `stands_turn` where four zeros mean
+-- the unused place that stands there), same is whether they pack to these words (`same_turn`), and at 256 that is all (`read_all`, `same_all`).
 use Prim.Native.Nat.{ℕ, ◌≤◌, ◌<◌, ◌-◌, ◌*◌, ◌+◌}
 use mathlib.Core.Path.{◌≡◌, refl, sym, ◌∙◌}
 use mathlib.Core.Bool.{true, and-true}

@@ -1,5 +1,5 @@
--- `state::read::same_point` meets its contract: each word is that of `packPoint`, as its call ensures, and four comparisons from `at` on
--- are `everyPair` with the four words there (`same-four`).
+-- `state::read::same_point` meets its contract: each word is that of `pack_point`, as its call ensures, and four comparisons from `at` on
+-- are `every_pair` with the four words there (`same_four`).
 use Prim.Native.Nat.{◌+◌}
 use mathlib.Core.Path.{◌∙◌}
 use mathlib.Core.Bool.{◌&&◌}

@@ -1,5 +1,5 @@
--- `state::read::same_settings` meets its contract: each word is that of `packSettings`, as its call ensures, and the four comparisons
--- are `everyPair` with the first four words (`same-four` at 0).
+-- `state::read::same_settings` meets its contract: each word is that of `pack_settings`, as its call ensures, and the four comparisons
+-- are `every_pair` with the first four words (`same_four` at 0).
 use mathlib.Core.Path.{ap, ◌∙◌}
 use mathlib.Core.Bool.{◌&&◌}
 use native.Mathlib.Omega.{arith}

@@ -1,4 +1,4 @@
--- `state::write::limit_bits` meets its contract: by the limit's two cases, as in `limitBits`: none is 0, and a number's bits are what `to_bitsf` ensures.
+-- `state::write::limit_bits` meets its contract: by the limit's two cases, as in `limit_bits`: none is 0, and a number's bits are what `to_bitsf` ensures.
 use mathlib.Core.Path.{sym, ap, ◌∙◌}
 use Rattle.state.specs.State.{limit_bits}
 use borrow.Author.Rules.{rules}

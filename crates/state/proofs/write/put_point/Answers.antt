@@ -1,4 +1,4 @@
--- `state::write::put_point` meets its contract: four stores one after another are one `sets` (`four-stores`), and each word is that of `packPoint`,
+-- `state::write::put_point` meets its contract: four stores one after another are one `sets` (`four_stores`), and each word is that of `pack_point`,
 -- as its call ensures; stores leave the length (`length-set`), so all four have their place.
 use mathlib.Core.Path.{◌∙◌}
 use mathlib.Core.List.{[], ◌∷◌}

@@ -1,4 +1,4 @@
--- `state::write::put_settings` meets its contract: the four stores are `sets` at 0 as they stand, and each word is that of `packSettings`,
+-- `state::write::put_settings` meets its contract: the four stores are `sets` at 0 as they stand, and each word is that of `pack_settings`,
 -- as its call ensures; stores leave the length (`length-set`), so all four have their place.
 use mathlib.Core.Path.{ap, ◌∙◌}
 use mathlib.Core.List.{[], ◌∷◌}

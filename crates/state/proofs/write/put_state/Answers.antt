@@ -1,4 +1,4 @@
--- `state::write::put_state` meets its contract: after the settings, `Stored` says that the words of the first i points stand from word 4 on (`put-turn`);
+-- `state::write::put_state` meets its contract: after the settings, `Stored` says that the words of the first i points stand from word 4 on (`put_turn`);
 -- at 256 settings and points are `pack`, the words after it stay (`put_all`), and 256 - i falls.
 use Prim.Native.Nat.{◌≤◌, ◌-◌}
 use mathlib.Core.Path.{ap, ◌∙◌}

@@ -1,4 +1,4 @@
--- `state::write::value_word` meets its contract: by definition of `valueWord`, by what its calls ensure; a curve's number is below 22 (`code_lt`), so its double and the flag fit a u32.
+-- `state::write::value_word` meets its contract: by definition of `value_word`, by what its calls ensure; a curve's number is below 22 (`code_lt`), so its double and the flag fit a u32.
 use native.Mathlib.Omega.{arith}
 use Rattle.curve.proofs.Laws.{code_lt}
 use borrow.Author.Rules.{rules}

@@ -1,5 +1,5 @@
 -- `envelope::edit::PointsEdit::apply` meets its contract: each of the 18 variants goes to one function,
--- whose contract is `pointsEdited` of that variant by definition: `clampedEdit` for `ClampValues`, `editPoints` for all others.
+-- whose contract is `points_edited` of that variant by definition: `clamped_edit` for `ClampValues`, `edit_points` for all others.
 use Rattle.settle.specs.Settle.{edit_points}
 use Rattle.pointwise.specs.Each.{clamped_edit}
 use Rattle.envelope.specs.Edit.{points_edited}

@@ -1,5 +1,5 @@
 -- `envelope::edit::Replacement::apply` meets its contract: each of the four variants goes to one function of `insert`,
--- whose contract, an `editPoints`, is `replacedPoints` of that variant by definition.
+-- whose contract, an `edit_points`, is `replaced_points` of that variant by definition.
 use Rattle.settle.specs.Settle.{edit_points}
 use Rattle.envelope.specs.Edit.{replaced_points}
 use borrow.Author.Rules.{rules}
