@@ -1,5 +1,4 @@
 use Rattle.lent.specs.Merge.{merge_start}
-use borrow.Author.Rules.{rules}
 use Rattle.lent.proofs.merge_start.Goals as goal
 
 pub returns : goal.returns

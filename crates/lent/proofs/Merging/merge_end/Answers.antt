@@ -1,7 +1,6 @@
 use mathlib.Core.Path.{◌∙◌}
 use Rattle.lent.specs.Merge.{merge_end}
 use Rattle.lent.proofs.Folds.{end_good}
-use borrow.Author.Rules.{rules}
 use Rattle.lent.proofs.Merging.merge_end.Goals as goal
 
 pub returns-then-self : goal.returns-then-self

@@ -1,5 +1,4 @@
 use Rattle.lent.specs.Merge.{merge_step}
-use borrow.Author.Rules.{rules}
 use Rattle.lent.proofs.Merging.merge_step.Goals as goal
 
 pub returns : goal.returns
