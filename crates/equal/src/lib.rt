@@ -61,6 +61,9 @@ fn same_position(a: SamplePosition, b: SamplePosition) -> bool
     }
 }
 
+// The curve with controls, by its code.
+const BEZIER: u32 = 5;
+
 // Only Bezier, number 5, has controls to compare.
 fn same_curve(c: CurveType, d: CurveType) -> bool
     ensures { result ≡ bit_equal_curve c d }
@@ -69,7 +72,7 @@ fn same_curve(c: CurveType, d: CurveType) -> bool
     if code != d.code() {
         return false;
     }
-    if code != 5 {
+    if code != BEZIER {
         return true;
     }
     let a = c.controls();

@@ -292,7 +292,8 @@ impl Session {
         ensures { called result memory.new ≡ behind back self memory.old }
     {
         let kept = self.kept;
-        if kept == 0 {
+        let none_kept = kept == 0;
+        if none_kept {
             self.refuse(Refusal::NoStep)
         } else {
             let slot = slot_before(self.length / 1028, self.at);
@@ -307,7 +308,8 @@ impl Session {
         ensures { called result memory.new ≡ behind forward self memory.old }
     {
         let ahead = self.ahead;
-        if ahead == 0 {
+        let none_ahead = ahead == 0;
+        if none_ahead {
             self.refuse(Refusal::NoStep)
         } else {
             let at = self.at;

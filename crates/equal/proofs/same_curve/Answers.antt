@@ -15,12 +15,12 @@ returns-then-code c =
     let a = c.args in
     curve_other a.c a.d (λ (e : code a.c ≡ code a.d). c.if-code.true (code'.ensures ∙ e ∙ sym c.code.ensures))
 
-pub returns-then-code-ne5 : goal.returns-then-code-ne5
-returns-then-code-ne5 c =
+pub returns-then-code-ne-BEZIER : goal.returns-then-code-ne-BEZIER
+returns-then-code-ne-BEZIER c =
     let code' = c.code-code in
     let code2' = c.code in
     let a = c.args in
-    curve_plain a.c a.d (sym code'.ensures ∙ c.if-code.false ∙ code2'.ensures) (λ (e : code a.c ≡ 5). c.if-code-ne5.true (code'.ensures ∙ e))
+    curve_plain a.c a.d (sym code'.ensures ∙ c.if-code.false ∙ code2'.ensures) (λ (e : code a.c ≡ 5). c.if-code-ne-BEZIER.true (code'.ensures ∙ e))
 
 pub returns : goal.returns
 returns c =

@@ -19,24 +19,24 @@ pub overflow_add-self : goal.overflow_add-self
 overflow_add-self c =
     let s = c.args.self in
     let o = in_order_lem s (and_right (valid_envelope s.envelope) (in_order s) c.requires.sound) in
-    omega (arith, o.room, c.if-ahead-eq0.false, c.requires.memory_fits)
+    omega (arith, o.room, c.if-none_ahead.false, c.requires.memory_fits)
 
 pub step_over-requires : goal.step_over-requires
 step_over-requires c =
     let s = c.args.self in
     let o = in_order_lem s (and_right (valid_envelope s.envelope) (in_order s) c.requires.sound) in
     let r = o.room in
-    let l = o.below (omega (arith, r, c.if-ahead-eq0.false)) in
+    let l = o.below (omega (arith, r, c.if-none_ahead.false)) in
     omega (arith, l, c.requires.memory_fits)
 
-pub returns-then-ahead-eq0 : goal.returns-then-ahead-eq0
-returns-then-ahead-eq0 c =
+pub returns-then-none_ahead : goal.returns-then-none_ahead
+returns-then-none_ahead c =
     let a = c.args in
     ap (λ (x : SessionAnswer). called x a.memory.now) c.refuse.ensures
-    ∙ forward_none a.self a.memory.now (called c.refuse.result a.memory.now) c.if-ahead-eq0.true
+    ∙ forward_none a.self a.memory.now (called c.refuse.result a.memory.now) c.if-none_ahead.true
 
-pub returns-else-ahead-eq0 : goal.returns-else-ahead-eq0
-returns-else-ahead-eq0 c =
+pub returns-else-none_ahead : goal.returns-else-none_ahead
+returns-else-none_ahead c =
     let a = c.args in
-    forward_over a.self a.memory.now _ c.slot_after-next.result (omega (arith, c.if-ahead-eq0.false)) c.slot_after-next.ensures
+    forward_over a.self a.memory.now _ c.slot_after-next.result (omega (arith, c.if-none_ahead.false)) c.slot_after-next.ensures
     c.step_over.ensures
