@@ -125,7 +125,8 @@ fn same_points(points: Points, others: Points) -> bool
         let p = points.places[i];
         let q = others.places[i];
         i += 1;
-        if !same_point(p, q) {
+        let same = same_point(p, q);
+        if !same {
             return false;
         }
     }

@@ -53,6 +53,9 @@ fn refused(why: Refusal, line: u32, out: &mut [u8; 20480]) -> Opened
     }
 }
 
+// As many samples as a play may have.
+const MOST_SAMPLES: u64 = 4294967295;
+
 // Reads the input, and writes the names above the samples or the refusal.
 pub fn open(s: &[u8], out: &mut [u8; 20480]) -> Opened
     ensures { Opens (counted (play_input s.now)) out.old result out.new }
@@ -63,7 +66,7 @@ pub fn open(s: &[u8], out: &mut [u8; 20480]) -> Opened
         SheetAnswer::Refused(why, line) => refused(why, line, out),
         SheetAnswer::Accepted => {
             let count = numbers::convert::f64_to_u64(r.duration * r.rate);
-            if 4294967295 < count {
+            if MOST_SAMPLES < count {
                 return refused(Refusal::TooManySamples, 0, out);
             }
             let envelope = r.envelope;

@@ -161,7 +161,8 @@ fn put_state(envelope: AutomationEnvelope, words: &mut [u64])
 pub fn fit_state(envelope: AutomationEnvelope, words: &mut [u64])
     ensures { words.new ≡ state_over envelope words.old }
 {
-    if 1028 > words.len() {
+    let short = 1028 > words.len();
+    if short {
         return;
     }
     put_state(envelope, &mut *words);
@@ -172,7 +173,8 @@ pub fn write_state(envelope: AutomationEnvelope, words: &mut [u64]) -> Answer
     ensures answer { said result ≡ (write_state envelope words.old).said }
     ensures words_after { words.new ≡ (write_state envelope words.old).words }
 {
-    if !envelope.is_valid() {
+    let valid = envelope.is_valid();
+    if !valid {
         return Answer::Refused(Refusal::NotValid);
     }
     if words.len() < 1028 {

@@ -46,8 +46,8 @@ bounds-others-i c = omega arith
 pub overflow_add-i : goal.overflow_add-i
 overflow_add-i c = omega arith
 
-pub returns-then-not-same_point : goal.returns-then-not-same_point
-returns-then-not-same_point c =
+pub returns-then-not-same : goal.returns-then-not-same
+returns-then-not-same c =
     let used = c.used-n in
     let loop = c.loop-i in
     let test = c.loop-i-test.true in
@@ -60,8 +60,8 @@ returns-then-not-same_point c =
     sym
     (pair_early bit_equal_point (loop.i + 1) (list_of a) (list_of b)
     (pairs_are a b (loop.i + 1) used.result used.ensures (used.ensures ∙ ap (λ (k : ℕ). min k 256) c.requires) (omega (arith, test))
-    ∙ next_pair a.places b.places loop.i c.same_point.result la lb (omega (arith, test, used.ensures)) loop.invariant.1 c.same_point.ensures
-    ∙ not-true c.same_point.result c.if-not-same_point.true-raw))
+    ∙ next_pair a.places b.places loop.i c.same_point-same.result la lb (omega (arith, test, used.ensures)) loop.invariant.1 c.same_point-same.ensures
+    ∙ c.if-not-same.true))
 
 pub loop-i-smaller : goal.loop-i-smaller
 loop-i-smaller c = omega arith
@@ -78,8 +78,8 @@ loop-i-preserved c =
     let la : length a.places ≡ 256 = places a _ good.0 in
     let lb : length b.places ≡ 256 = places b _ good.1.0 in (
       omega arith,
-      next_pair a.places b.places loop.i c.same_point.result la lb (omega (arith, test, used.ensures)) loop.invariant.1 c.same_point.ensures
-          ∙ not-false c.same_point.result c.if-not-same_point.false-raw,
+      next_pair a.places b.places loop.i c.same_point-same.result la lb (omega (arith, test, used.ensures)) loop.invariant.1 c.same_point-same.ensures
+          ∙ c.if-not-same.false,
     )
 
 pub returns : goal.returns

@@ -4,10 +4,10 @@ use Rattle.state.proofs.Calls.{over_none, over_all}
 use borrow.Author.Rules.{rules}
 use Rattle.state.proofs.write.fit_state.Goals as goal
 
-pub returns-then-words-lt1028 : goal.returns-then-words-lt1028
-returns-then-words-lt1028 c = over_none c.args.envelope c.args.words.now c.if-words-lt1028.true
+pub returns-then-short : goal.returns-then-short
+returns-then-short c = over_none c.args.envelope c.args.words.now c.if-short.true
 
 pub returns : goal.returns
 returns c =
     let a = c.args in
-    c.put_state.ensures ∙ over_all a.envelope a.words.now c.if-words-lt1028.false
+    c.put_state.ensures ∙ over_all a.envelope a.words.now c.if-short.false
