@@ -1,7 +1,6 @@
 -- `listing_points::buffers::marked` meets its contract: it writes the 1024 places, and there are as many after it.
 -- Assumes nothing.
 use Prim.Native.Nat.{◌-◌, ◌≤◌}
-use borrow.Author.Rules.{rules}
 use lib.ListN.{length}
 use mathlib.Core.Path.{◌≡◌}
 use Rattle.listing_points.proofs.buffers.marked.Given as goal

@@ -1,7 +1,6 @@
 -- `listing_points::buffers::says_buffer` reads inside the buffer, and ends.
 -- Assumes nothing.
 use Prim.Native.Nat.{◌-◌, ◌≤◌}
-use borrow.Author.Rules.{rules}
 use lib.ListN.{length}
 use Rattle.listing_points.proofs.buffers.says_buffer.Given as goal
 

@@ -1,7 +1,6 @@
 -- `listing_points::lists::says_middles` reads inside both lists, and ends.
 -- Assumes nothing.
 use Prim.Native.Nat.{◌-◌, ◌≤◌}
-use borrow.Author.Rules.{rules}
 use lib.ListN.{length}
 use Rattle.listing_points.proofs.lists.says_middles.Given as goal
 

@@ -1,7 +1,6 @@
 -- `listing_points::lists::times_unchanged` reads inside the list, and ends.
 -- Assumes nothing.
 use Prim.Native.Nat.{◌-◌, ◌≤◌}
-use borrow.Author.Rules.{rules}
 use lib.ListN.{length}
 use Rattle.listing_points.proofs.lists.times_unchanged.Given as goal
 

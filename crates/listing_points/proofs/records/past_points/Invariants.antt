@@ -1,7 +1,6 @@
 -- `listing_points::records::past_points` ends: the points that are left become fewer.
 -- Assumes nothing.
 use Prim.Native.Nat.{◌-◌, ◌≤◌}
-use borrow.Author.Rules.{rules}
 use Rattle.listing_points.proofs.records.past_points.Given as goal
 
 abbrev pub invariant-loop-i : goal.invariant-loop-i

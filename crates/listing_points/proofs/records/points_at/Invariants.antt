@@ -1,7 +1,6 @@
 -- `listing_points::records::points_at` writes the 256 places only, and ends.
 -- Assumes nothing.
 use Prim.Native.Nat.{◌-◌, ◌≤◌}
-use borrow.Author.Rules.{rules}
 use Rattle.listing_points.proofs.records.points_at.Given as goal
 
 abbrev pub invariant-loop-i : goal.invariant-loop-i

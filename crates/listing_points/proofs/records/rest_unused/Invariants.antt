@@ -1,7 +1,6 @@
 -- `listing_points::records::rest_unused` reads the 256 places only, and ends.
 -- Assumes nothing.
 use Prim.Native.Nat.{◌-◌, ◌≤◌}
-use borrow.Author.Rules.{rules}
 use Rattle.listing_points.proofs.records.rest_unused.Given as goal
 
 abbrev pub invariant-loop-i : goal.invariant-loop-i
