@@ -3,7 +3,6 @@ use mathlib.Core.Path.{◌≡◌, sym, ap, ◌∙◌}
 use native.Mathlib.Omega.{arith}
 use Rattle.sheet.specs.Told.{told_written}
 use Rattle.play.proofs.Blocks.{moved, moves_on}
-use borrow.Author.Rules.{rules}
 use Rattle.player.proofs.print_block.Goals as goal
 
 pub print-requires : goal.print-requires

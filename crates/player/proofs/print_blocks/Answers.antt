@@ -1,7 +1,5 @@
-use Prim.Native.Nat.{◌-◌}
 use native.Mathlib.Omega.{arith}
 use borrow.Author.Tests.{not-false}
-use borrow.Author.Rules.{rules}
 use Rattle.player.proofs.print_blocks.Goals as goal
 
 pub loop-left-smaller : goal.loop-left-smaller

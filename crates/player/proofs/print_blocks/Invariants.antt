@@ -1,7 +1,4 @@
 use Prim.Native.Nat.{◌-◌}
-use native.Mathlib.Omega.{arith}
-use borrow.Author.Tests.{not-false}
-use borrow.Author.Rules.{rules}
 use Rattle.player.proofs.print_blocks.Given as goal
 
 abbrev pub invariant-loop-left : goal.invariant-loop-left

@@ -2,7 +2,6 @@ use native.Mathlib.Omega.{arith}
 use Rattle.sheet.specs.Sheet.{play_input}
 use Rattle.play.specs.Play.{counted}
 use Rattle.play.proofs.Texts.{first_length}
-use borrow.Author.Rules.{rules}
 use Rattle.player.proofs.print_play.Goals as goal
 
 pub print-requires : goal.print-requires

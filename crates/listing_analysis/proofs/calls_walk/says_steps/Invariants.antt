@@ -1,7 +1,6 @@
 -- `listing_analysis::calls_walk::says_steps` ends: the calls that are left become fewer.
 -- Assumes nothing.
 use Prim.Native.Nat.{◌-◌, ◌≤◌}
-use borrow.Author.Rules.{rules}
 use Rattle.listing_analysis.proofs.calls_walk.says_steps.Given as goal
 
 abbrev pub invariant-loop-i : goal.invariant-loop-i

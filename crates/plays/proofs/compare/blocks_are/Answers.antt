@@ -1,5 +1,5 @@
 -- `plays::compare::blocks_are`: each block leaves fewer samples.
-use Rattle.std.proofs.Common.{◌-◌, arith, rules}
+use Rattle.std.proofs.Common.{arith}
 use borrow.Author.Tests.{not-false}
 use Rattle.plays.proofs.compare.blocks_are.Goals as goal
 

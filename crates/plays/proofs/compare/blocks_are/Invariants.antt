@@ -1,6 +1,5 @@
 -- `plays::compare::blocks_are`: each block leaves fewer samples.
-use Rattle.std.proofs.Common.{◌-◌, arith, rules}
-use borrow.Author.Tests.{not-false}
+use Rattle.std.proofs.Common.{◌-◌}
 use Rattle.plays.proofs.compare.blocks_are.Given as goal
 
 abbrev pub invariant-loop-left : goal.invariant-loop-left

@@ -1,5 +1,5 @@
 -- `plays::compare::gives`: the first bytes of a play lie within the lent ones.
-use Rattle.std.proofs.Common.{arith, rules}
+use Rattle.std.proofs.Common.{arith}
 use Rattle.sheet.specs.Sheet.{play_input}
 use Rattle.play.specs.Play.{counted}
 use Rattle.play.proofs.Texts.{first_length}

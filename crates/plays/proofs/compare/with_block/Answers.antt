@@ -1,5 +1,5 @@
 -- `plays::compare::with_block`: a block that was written lies within the lent bytes, and moves the play on.
-use Rattle.std.proofs.Common.{◌≡◌, ℕ, sym, ap, ◌∙◌, arith, rules}
+use Rattle.std.proofs.Common.{◌≡◌, ℕ, sym, ap, ◌∙◌, arith}
 use Rattle.sheet.specs.Told.{told_written}
 use Rattle.play.proofs.Blocks.{moved, moves_on}
 use Rattle.plays.proofs.compare.with_block.Goals as goal

@@ -1,5 +1,5 @@
 -- `plays::compare::with_bytes`: byte after byte, up to the end.
-use Rattle.std.proofs.Common.{◌-◌, ◌≤◌, length, rules}
+use Rattle.std.proofs.Common.{◌-◌, ◌≤◌, length}
 use Rattle.plays.proofs.compare.with_bytes.Given as goal
 
 abbrev pub invariant-loop-i : goal.invariant-loop-i

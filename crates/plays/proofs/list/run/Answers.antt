@@ -1,5 +1,5 @@
 -- `plays::list::run` ends: the measure is the number of lines that are left.
-use Rattle.std.proofs.Common.{◌≡◌, length, arith, rules}
+use Rattle.std.proofs.Common.{arith}
 use Rattle.plays.proofs.list.run.Goals as goal
 
 pub overflow_sub-lines : goal.overflow_sub-lines

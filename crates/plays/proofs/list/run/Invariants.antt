@@ -1,5 +1,5 @@
 -- `plays::list::run` ends: the measure is the number of lines that are left.
-use Rattle.std.proofs.Common.{◌≡◌, length, arith, rules}
+use Rattle.std.proofs.Common.{◌≡◌, length}
 use Rattle.plays.proofs.list.run.Given as goal
 
 abbrev pub invariant-loop-lines : goal.invariant-loop-lines
