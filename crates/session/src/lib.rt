@@ -208,7 +208,8 @@ impl Session {
             Answer::Accepted => {
                 let old = self.envelope;
                 let made = r.envelope;
-                if equal::bit_equal(old, made) {
+                let same = equal::bit_equal(old, made);
+                if same {
                     self.stay()
                 } else {
                     self.count(made, memory)

@@ -11,16 +11,16 @@ count-requires c = record {
   memory_fits = c.requires.memory_fits;
 }
 
-pub returns-then-bit_equal : goal.returns-then-bit_equal
-returns-then-bit_equal c =
+pub returns-then-same : goal.returns-then-same
+returns-then-same c =
     let a = c.args in
-    settle_idle a.self a.memory.now a.r _ c.stay.ensures c.in-Accepted.is (sym c.bit_equal.ensures ∙ c.if-bit_equal.true)
+    settle_idle a.self a.memory.now a.r _ c.stay.ensures c.in-Accepted.is (sym c.bit_equal-same.ensures ∙ c.if-same.true)
 
-pub returns-else-bit_equal : goal.returns-else-bit_equal
-returns-else-bit_equal c =
+pub returns-else-same : goal.returns-else-same
+returns-else-same c =
     let a = c.args in
     settle_counted a.self a.memory.now a.r c.count.result _ c.count.ensures c.in-Accepted.is
-    (sym c.bit_equal.ensures ∙ c.if-bit_equal.false)
+    (sym c.bit_equal-same.ensures ∙ c.if-same.false)
 
 pub returns-in-Refused : goal.returns-in-Refused
 returns-in-Refused c =
