@@ -1,7 +1,6 @@
 -- `ask::ask_merge` meets its contract: what `counted` says of what `merge` says and leaves; the ticket is made of the arguments.
 use mathlib.Core.Path.{ap, ◌∙◌}
 use Rattle.ask.specs.Ask.{count_said, ask_of}
-use borrow.Author.Rules.{rules}
 use Rattle.ask.proofs.ask_merge.Goals as goal
 
 pub returns : goal.returns

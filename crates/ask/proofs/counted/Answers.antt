@@ -3,7 +3,6 @@ use mathlib.Core.Path.{ap, sym}
 use Rattle.points.specs.Refusal.{said}
 use Rattle.points.specs.declared.refusal.Answer.{Answer}
 use Rattle.ask.specs.Ask.{count_if}
-use borrow.Author.Rules.{rules}
 use Rattle.ask.proofs.counted.Goals as goal
 
 pub returns-in-Accepted : goal.returns-in-Accepted

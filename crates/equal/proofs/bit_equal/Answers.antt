@@ -2,7 +2,6 @@
 -- these decide (`by_points`).
 use mathlib.Core.Path.{sym, ◌∙◌}
 use Rattle.equal.proofs.EqualLaws.{same_count, by_points, by_settings}
-use borrow.Author.Rules.{rules}
 use Rattle.equal.proofs.bit_equal.Goals as goal
 
 pub same_points-requires : goal.same_points-requires

@@ -1,6 +1,5 @@
 -- `equal::same_bits` meets its contract, by what `to_bits` ensures of each.
 use lib.Dec.{eqb}
-use borrow.Author.Rules.{rules}
 use Rattle.equal.proofs.same_bits.Goals as goal
 
 pub returns : goal.returns

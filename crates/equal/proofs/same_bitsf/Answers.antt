@@ -1,6 +1,5 @@
 -- `equal::same_bitsf` meets its contract, by what `to_bitsf` ensures of each.
 use lib.Dec.{eqb}
-use borrow.Author.Rules.{rules}
 use Rattle.equal.proofs.same_bitsf.Goals as goal
 
 pub returns : goal.returns

@@ -6,7 +6,6 @@ use Rattle.numbers.proofs.Tests.{and_both}
 use Rattle.curve.specs.Curve.{code}
 use Rattle.equal.specs.Equal.{same_bits}
 use Rattle.equal.proofs.EqualLaws.{curve_other, curve_plain, curve_controls}
-use borrow.Author.Rules.{rules}
 use Rattle.equal.proofs.same_curve.Goals as goal
 
 pub returns-then-code : goal.returns-then-code

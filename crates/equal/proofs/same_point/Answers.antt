@@ -1,6 +1,5 @@
 -- `equal::same_point` meets its contract, by what its four comparisons ensure.
 use mathlib.Core.Bool.{◌&&◌}
-use borrow.Author.Rules.{rules}
 use Rattle.equal.proofs.same_point.Goals as goal
 
 pub returns : goal.returns

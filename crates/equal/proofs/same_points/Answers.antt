@@ -1,12 +1,11 @@
 -- `equal::same_points` meets its contract: the pairs before i are bit-equal (`pair_more`), so that one that is not decides (`pair_early`), and at the end all are.
-use Prim.Native.Nat.{ℕ, ◌≤◌, ◌<◌, ◌-◌, ◌+◌, min}
+use Prim.Native.Nat.{ℕ, ◌≤◌, ◌<◌, ◌+◌, min}
 use mathlib.Core.Path.{◌≡◌, sym, ap, ◌∙◌}
 use mathlib.Core.Bool.{Bool, true}
 use mathlib.Core.List.{List}
 use native.Mathlib.Omega.{arith}
 use lib.ListN.{length, get_or, take}
 use lib.Seq.{take-take}
-use borrow.Author.Tests.{not-true, not-false}
 use Rattle.numbers.proofs.Tests.{and_both}
 use Rattle.points.specs.Point.{any_point}
 use Rattle.points.specs.Points.{list_of, every_pair}

@@ -1,19 +1,11 @@
 -- `equal::same_points` meets its contract: the pairs before i are bit-equal (`pair_more`), so that one that is not decides (`pair_early`), and at the end all are.
-use Prim.Native.Nat.{ℕ, ◌≤◌, ◌<◌, ◌-◌, ◌+◌, min}
-use mathlib.Core.Path.{◌≡◌, sym, ap, ◌∙◌}
+use Prim.Native.Nat.{ℕ, ◌≤◌, ◌-◌}
+use mathlib.Core.Path.{◌≡◌}
 use mathlib.Core.Bool.{Bool, true}
 use mathlib.Core.List.{List}
-use native.Mathlib.Omega.{arith}
-use lib.ListN.{length, get_or, take}
-use lib.Seq.{take-take}
-use borrow.Author.Tests.{not-true, not-false}
-use Rattle.numbers.proofs.Tests.{and_both}
-use Rattle.points.specs.Point.{any_point}
-use Rattle.points.specs.Points.{list_of, every_pair}
-use Rattle.points.proofs.Laws.{pair_none, pair_more, pair_early, take_min}
-use Rattle.points.proofs.Good.{places}
+use lib.ListN.{take}
+use Rattle.points.specs.Points.{every_pair}
 use Rattle.points.specs.declared.AutomationPoint.{AutomationPoint}
-use Rattle.points.specs.declared.Points.{Points}
 use Rattle.equal.specs.Equal.{bit_equal_point}
 use Rattle.equal.proofs.same_points.Given as goal
 

@@ -1,7 +1,6 @@
 -- `equal::same_settings` meets its contract, by what `same_limit` ensures of each pair of limits.
 use mathlib.Core.Bool.{◌&&◌, beq}
 use lib.Dec.{eqb}
-use borrow.Author.Rules.{rules}
 use Rattle.equal.proofs.same_settings.Goals as goal
 
 pub returns : goal.returns

@@ -7,7 +7,6 @@ use Rattle.envelope.specs.Envelope.{valid_envelope}
 use Rattle.envelope.specs.Edit.{renewed, join_proposal, join_of}
 use Rattle.envelope.specs.declared.edit.Join.TheVariants.{Combine}
 use Rattle.envelope.proofs.Outcomes.{renewed_is}
-use borrow.Author.Rules.{rules}
 use Rattle.envelope.proofs.AutomationEnvelope.combine_with.Goals as goal
 
 pub returns : goal.returns

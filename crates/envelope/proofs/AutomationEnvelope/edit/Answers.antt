@@ -1,6 +1,5 @@
 -- `envelope::AutomationEnvelope::edit` meets its contract: each of the seven variants goes to its method, whose contract is `edit_of` of that variant.
 use Rattle.envelope.specs.Edit.{edit_of}
-use borrow.Author.Rules.{rules}
 use Rattle.envelope.proofs.AutomationEnvelope.edit.Goals as goal
 
 pub returns-in-OfPoints : goal.returns-in-OfPoints

@@ -5,7 +5,6 @@ use Rattle.points.specs.Points.{list_of, valid_points}
 use Rattle.limits.specs.Limits.{finite_limits}
 use Rattle.envelope.specs.Edit.{told_edit, proposed, points_edited, edited, edit_of}
 use Rattle.envelope.proofs.Outcomes.{edited_is, limits_lost}
-use borrow.Author.Rules.{rules}
 use Rattle.envelope.proofs.AutomationEnvelope.edit_points.Goals as goal
 
 pub returns-then-is_finite : goal.returns-then-is_finite

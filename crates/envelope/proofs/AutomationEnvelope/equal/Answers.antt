@@ -4,7 +4,6 @@ use mathlib.Core.Path.{sym, ap, ◌∙◌}
 use Rattle.numbers.proofs.Tests.{and_both}
 use Rattle.points.specs.Refusal.{gives}
 use Rattle.envelope.specs.Envelope.{envelopes_equal}
-use borrow.Author.Rules.{rules}
 use Rattle.envelope.proofs.AutomationEnvelope.equal.Goals as goal
 
 pub returns-then-is_valid : goal.returns-then-is_valid

@@ -1,7 +1,6 @@
 -- `envelope::AutomationEnvelope::find_peaks` meets its contract: `limits` answers `limits_of self`,
 -- and with those limits the three clauses of `analysis::find_peaks` are its own, by definition of `find_middles_of`.
 use mathlib.Core.Path.{sym}
-use borrow.Author.Rules.{rules}
 use Rattle.envelope.proofs.AutomationEnvelope.find_peaks.Goals as goal
 
 pub returns-clause-answer : goal.returns-clause-answer

@@ -2,7 +2,6 @@
 use mathlib.Core.Path.{ap, ◌∙◌}
 use Rattle.lookup.specs.Valid.{valid}
 use Rattle.limits.specs.declared.Limits.{Limits}
-use borrow.Author.Rules.{rules}
 use Rattle.envelope.proofs.AutomationEnvelope.is_valid.Goals as goal
 
 pub returns : goal.returns

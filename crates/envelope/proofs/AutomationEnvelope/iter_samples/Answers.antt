@@ -1,7 +1,6 @@
 -- `envelope::AutomationEnvelope::iter_samples` meets its contract: `limits` answers `limits_of self`,
 -- and with those limits the contract of `render::iter_samples` is this one, by definition of `iter_samples_of`.
 use mathlib.Core.Path.{sym}
-use borrow.Author.Rules.{rules}
 use Rattle.envelope.proofs.AutomationEnvelope.iter_samples.Goals as goal
 
 pub returns : goal.returns

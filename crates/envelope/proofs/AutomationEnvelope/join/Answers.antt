@@ -1,6 +1,5 @@
 -- `envelope::AutomationEnvelope::join` meets its contract: each of the two variants goes to its method, whose contract is `join_of` of that variant.
 use Rattle.envelope.specs.Edit.{join_of}
-use borrow.Author.Rules.{rules}
 use Rattle.envelope.proofs.AutomationEnvelope.join.Goals as goal
 
 pub returns-in-Merge : goal.returns-in-Merge

@@ -8,7 +8,6 @@ use Rattle.limits.specs.Limits.{finite_limits}
 use Rattle.envelope.specs.Edit.{told_edit, edited, join_proposal, join_of}
 use Rattle.envelope.specs.declared.edit.Join.TheVariants.{Merge}
 use Rattle.envelope.proofs.Outcomes.{edited_is, other_lost, other_pass}
-use borrow.Author.Rules.{rules}
 use Rattle.envelope.proofs.AutomationEnvelope.merge_with.Goals as goal
 
 pub returns-then-is_finite : goal.returns-then-is_finite

@@ -1,7 +1,6 @@
 -- `envelope::AutomationEnvelope::render` meets its contract: `limits` answers `limits_of self`,
 -- and with those limits both clauses of `render::render` are its own, by definition of `render_of`.
 use mathlib.Core.Path.{sym}
-use borrow.Author.Rules.{rules}
 use Rattle.envelope.proofs.AutomationEnvelope.render.Goals as goal
 
 pub returns-clause-answer : goal.returns-clause-answer

@@ -4,7 +4,6 @@ use mathlib.Core.Path.{ap}
 use Rattle.points.specs.Refusal.{gives}
 use Rattle.envelope.specs.declared.AutomationEnvelope.{AutomationEnvelope}
 use Rattle.envelope.specs.Edit.{EditTold, told_edit}
-use borrow.Author.Rules.{rules}
 use Rattle.envelope.proofs.AutomationEnvelope.renew.Goals as goal
 
 pub returns-in-Accepted : goal.returns-in-Accepted

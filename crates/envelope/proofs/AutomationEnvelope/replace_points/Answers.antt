@@ -5,7 +5,6 @@ use Rattle.points.specs.Points.{valid_points}
 use Rattle.limits.specs.Limits.{finite_limits}
 use Rattle.envelope.specs.Edit.{told_edit, constructed, replaced_points, renewed, edit_of}
 use Rattle.envelope.proofs.Outcomes.{renewed_is, limits_lost, limits_pass}
-use borrow.Author.Rules.{rules}
 use Rattle.envelope.proofs.AutomationEnvelope.replace_points.Goals as goal
 
 pub returns-then-is_finite : goal.returns-then-is_finite

@@ -5,7 +5,6 @@ use Rattle.points.specs.Refusal.{gives}
 use Rattle.envelope.specs.declared.AutomationEnvelope.{AutomationEnvelope}
 use Rattle.envelope.specs.Edit.{EditTold, told_edit}
 use Rattle.envelope.proofs.Outcomes.{set-made, set-lost, set-invalid}
-use borrow.Author.Rules.{rules}
 use Rattle.envelope.proofs.AutomationEnvelope.set.Goals as goal
 
 pub returns-then-ok : goal.returns-then-ok

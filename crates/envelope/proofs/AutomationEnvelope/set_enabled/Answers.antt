@@ -4,7 +4,6 @@ use mathlib.Core.Path.{ap, ◌∙◌}
 use mathlib.Core.Bool.{true}
 use Rattle.limits.specs.declared.Limits.{Limits}
 use Rattle.envelope.specs.Edit.{setting, with_settings, edit_of}
-use borrow.Author.Rules.{rules}
 use Rattle.envelope.proofs.AutomationEnvelope.set_enabled.Goals as goal
 
 pub returns : goal.returns

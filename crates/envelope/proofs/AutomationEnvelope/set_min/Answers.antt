@@ -5,7 +5,6 @@ use Rattle.points.specs.Points.{list_of}
 use Rattle.envelope.specs.Edit.{successor, edit_of}
 use Rattle.envelope.specs.declared.edit.Edit.TheVariants.{SetMin}
 use Rattle.envelope.proofs.Outcomes.{tested}
-use borrow.Author.Rules.{rules}
 use Rattle.envelope.proofs.AutomationEnvelope.set_min.Goals as goal
 
 pub returns : goal.returns

@@ -6,7 +6,6 @@ use Rattle.limits.specs.declared.Limits.{Limits}
 use Rattle.points.specs.Refusal.{said}
 use Rattle.envelope.specs.declared.AutomationEnvelope.{AutomationEnvelope}
 use Rattle.envelope.specs.Edit.{EditTold, told_edit, edited}
-use borrow.Author.Rules.{rules}
 use Rattle.envelope.proofs.AutomationEnvelope.settle.Goals as goal
 
 pub returns-then-is_finite : goal.returns-then-is_finite

@@ -2,7 +2,6 @@
 use mathlib.Core.Path.{ap}
 use Rattle.limits.specs.declared.Limits.{Limits}
 use Rattle.combine.specs.declared.Side.{Side}
-use borrow.Author.Rules.{rules}
 use Rattle.envelope.proofs.AutomationEnvelope.side.Goals as goal
 
 pub returns : goal.returns

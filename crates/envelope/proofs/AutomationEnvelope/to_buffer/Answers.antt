@@ -1,7 +1,6 @@
 -- `envelope::AutomationEnvelope::to_buffer` meets its contract: `limits` answers `limits_of self`,
 -- and with those limits both clauses of `render::to_buffer` are its own, by definition of `to_buffer_of`.
 use mathlib.Core.Path.{sym}
-use borrow.Author.Rules.{rules}
 use Rattle.envelope.proofs.AutomationEnvelope.to_buffer.Goals as goal
 
 pub returns-clause-answer : goal.returns-clause-answer

@@ -1,7 +1,6 @@
 -- `state::read::limit_of` meets its contract: the flag's two cases are those of `limit_of`, and the number is what `from_bitsf` ensures.
 use mathlib.Core.Path.{ap}
 use Rattle.limits.specs.declared.Limit.TheVariants as limit
-use borrow.Author.Rules.{rules}
 use Rattle.state.proofs.read.limit_of.Goals as goal
 
 pub returns-then-has : goal.returns-then-has

@@ -3,7 +3,6 @@ use mathlib.Core.Path.{ap}
 use Rattle.points.specs.declared.refusal.Refusal.TheVariants.{StoredState}
 use Rattle.envelope.specs.Edit.{refused_edit}
 use Rattle.envelope.specs.declared.AutomationEnvelope.{AutomationEnvelope}
-use borrow.Author.Rules.{rules}
 use Rattle.state.proofs.read.no_state.Goals as goal
 
 pub returns : goal.returns

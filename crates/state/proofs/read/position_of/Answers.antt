@@ -1,5 +1,4 @@
 -- `state::read::position_of` meets its contract: the flag's two cases are those of `position_of`.
-use borrow.Author.Rules.{rules}
 use Rattle.state.proofs.read.position_of.Goals as goal
 
 pub returns-then-has : goal.returns-then-has

@@ -1,16 +1,12 @@
 -- `state::read::read_places` meets its contract: the first i places are the words' points (`read_turn`, or `stands_turn` where four zeros mean
 -- the unused place that stands there), same is whether they pack to these words (`same_turn`), and at 256 that is all (`read_all`, `same_all`).
-use Prim.Native.Nat.{ℕ, ◌≤◌, ◌<◌, ◌-◌, ◌*◌, ◌+◌}
-use mathlib.Core.Path.{◌≡◌, refl, sym, ◌∙◌}
-use mathlib.Core.Bool.{true, and-true}
-use native.Mathlib.Omega.{arith}
+use Prim.Native.Nat.{ℕ, ◌≤◌, ◌<◌, ◌-◌, ◌*◌}
+use mathlib.Core.Path.{◌≡◌}
 use lib.Dec.{eqb}
-use lib.ListN.{length, take, drop, get_or, length-set, get_or-replicate}
-use lib.Seq.{get_or-set_other}
+use lib.ListN.{length, take, drop, get_or}
 use Rattle.points.specs.Point.{unused, any_point}
 use Rattle.points.specs.Points.{every_pair}
 use Rattle.state.specs.State.{pack_points, points_of}
-use Rattle.state.proofs.Words.{unused_read, unused_same, read_none, same_none, read_turn, stands_turn, same_turn, read_all, same_all}
 use Rattle.state.proofs.read.read_places.Given as goal
 
 abbrev pub invariant-loop-i : goal.invariant-loop-i

@@ -8,7 +8,6 @@ use lib.Ieee.{binary32, of_bits}
 use Rattle.curve.specs.Curve.{curve_of}
 use Rattle.state.specs.State.{bit, position_of, point_of}
 use Rattle.state.proofs.Words.{point_at_lem}
-use borrow.Author.Rules.{rules}
 use Rattle.state.proofs.read.read_point.Goals as goal
 
 pub returns : goal.returns

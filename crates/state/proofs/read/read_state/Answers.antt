@@ -9,7 +9,6 @@ use Rattle.envelope.specs.Envelope.{valid_envelope}
 use Rattle.envelope.specs.declared.AutomationEnvelope.{AutomationEnvelope}
 use Rattle.state.specs.State.{pack_settings}
 use Rattle.state.proofs.Calls.{tested, other_length, accepted, refused}
-use borrow.Author.Rules.{rules}
 use Rattle.state.proofs.read.read_state.Goals as goal
 
 pub returns-then-words-ne1028 : goal.returns-then-words-ne1028

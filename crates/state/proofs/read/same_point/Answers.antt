@@ -7,7 +7,6 @@ use lib.Dec.{eqb}
 use lib.ListN.{get_or}
 use Rattle.state.specs.State.{pack_point}
 use Rattle.state.proofs.Words.{same_four}
-use borrow.Author.Rules.{rules}
 use Rattle.state.proofs.read.same_point.Goals as goal
 
 pub returns : goal.returns

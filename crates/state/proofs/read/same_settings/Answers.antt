@@ -8,7 +8,6 @@ use lib.ListN.{get_or}
 use Rattle.limits.specs.declared.Limits.{Limits}
 use Rattle.state.specs.State.{halves, flags, bounds_word, pack_settings}
 use Rattle.state.proofs.Words.{same_four}
-use borrow.Author.Rules.{rules}
 use Rattle.state.proofs.read.same_settings.Goals as goal
 
 pub returns : goal.returns

@@ -2,7 +2,6 @@
 use mathlib.Core.Path.{ap, ◌∙◌}
 use lib.ListN.{get_or}
 use Rattle.state.specs.State.{bit, limit_of, state_of}
-use borrow.Author.Rules.{rules}
 use Rattle.state.proofs.read.with_places.Goals as goal
 
 pub returns : goal.returns

@@ -6,7 +6,6 @@ use Rattle.curve.specs.Curve.{controls}
 use Rattle.curve.specs.declared.Controls.{Controls}
 use Rattle.curve.proofs.Plain.{no-controls}
 use Rattle.state.specs.State.{halves, controls_word}
-use borrow.Author.Rules.{rules}
 use Rattle.state.proofs.write.controls_word.Goals as goal
 
 pub returns-in-Bezier : goal.returns-in-Bezier

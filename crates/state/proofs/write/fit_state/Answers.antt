@@ -1,7 +1,6 @@
 -- `state::write::fit_state` meets its contract: by the room that there is: with fewer than 1,028 words they stay (`over_none`), else they are what `put_state` ensures (`over_all`).
 use mathlib.Core.Path.{◌∙◌}
 use Rattle.state.proofs.Calls.{over_none, over_all}
-use borrow.Author.Rules.{rules}
 use Rattle.state.proofs.write.fit_state.Goals as goal
 
 pub returns-then-short : goal.returns-then-short

@@ -1,7 +1,6 @@
 -- `state::write::limit_bits` meets its contract: by the limit's two cases, as in `limit_bits`: none is 0, and a number's bits are what `to_bitsf` ensures.
 use mathlib.Core.Path.{sym, ap, ◌∙◌}
 use Rattle.state.specs.State.{limit_bits}
-use borrow.Author.Rules.{rules}
 use Rattle.state.proofs.write.limit_bits.Goals as goal
 
 pub returns-in-Number : goal.returns-in-Number

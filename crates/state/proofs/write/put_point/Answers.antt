@@ -7,7 +7,6 @@ use lib.ListN.{length-set}
 use lib.Seq.{sets}
 use Rattle.state.specs.State.{pack_point}
 use Rattle.state.proofs.Words.{four_stores}
-use borrow.Author.Rules.{rules}
 use Rattle.state.proofs.write.put_point.Goals as goal
 
 pub bounds-words-at-2 : goal.bounds-words-at-2

@@ -7,7 +7,6 @@ use lib.ListN.{length-set}
 use lib.Seq.{sets}
 use Rattle.limits.specs.declared.Limits.{Limits}
 use Rattle.state.specs.State.{halves, flags, bounds_word, pack_settings}
-use borrow.Author.Rules.{rules}
 use Rattle.state.proofs.write.put_settings.Goals as goal
 
 pub bounds-words-1 : goal.bounds-words-1

@@ -1,15 +1,9 @@
 -- `state::write::put_state` meets its contract: after the settings, `Stored` says that the words of the first i points stand from word 4 on (`put_turn`);
 -- at 256 settings and points are `pack`, the words after it stay (`put_all`), and 256 - i falls.
 use Prim.Native.Nat.{◌≤◌, ◌-◌}
-use mathlib.Core.Path.{ap, ◌∙◌}
-use native.Mathlib.Omega.{arith}
-use borrow.Author.Rules.{rules}
-use lib.ListN.{length, take}
-use lib.Seq.{length-sets}
-use Rattle.points.specs.Point.{any_point}
-use Rattle.state.specs.State.{pack_settings, pack_points}
-use Rattle.state.proofs.Good.{places}
-use Rattle.state.proofs.Words.{Stored, stored_length, put_none, put_turn, put_all}
+use lib.ListN.{take}
+use Rattle.state.specs.State.{pack_points}
+use Rattle.state.proofs.Words.{Stored}
 use Rattle.state.proofs.write.put_state.Given as goal
 
 abbrev pub invariant-loop-i : goal.invariant-loop-i

@@ -1,7 +1,6 @@
 -- `state::write::value_word` meets its contract: by definition of `value_word`, by what its calls ensure; a curve's number is below 22 (`code_lt`), so its double and the flag fit a u32.
 use native.Mathlib.Omega.{arith}
 use Rattle.curve.proofs.Laws.{code_lt}
-use borrow.Author.Rules.{rules}
 use Rattle.state.proofs.write.value_word.Goals as goal
 
 pub overflow_mul-code : goal.overflow_mul-code

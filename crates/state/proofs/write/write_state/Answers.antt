@@ -3,7 +3,6 @@ use mathlib.Core.Path.{sym, ap, ◌∙◌}
 use borrow.Author.Tests.{not-true, not-false}
 use Rattle.state.specs.State.{WordsTold}
 use Rattle.state.proofs.Calls.{not_valid, no_room, room}
-use borrow.Author.Rules.{rules}
 use Rattle.state.proofs.write.write_state.Goals as goal
 
 pub returns-then-not-valid : goal.returns-then-not-valid

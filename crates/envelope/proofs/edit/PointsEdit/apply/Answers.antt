@@ -3,7 +3,6 @@
 use Rattle.settle.specs.Settle.{edit_points}
 use Rattle.pointwise.specs.Each.{clamped_edit}
 use Rattle.envelope.specs.Edit.{points_edited}
-use borrow.Author.Rules.{rules}
 use Rattle.envelope.proofs.edit.PointsEdit.apply.Goals as goal
 
 pub returns-in-AddPoint : goal.returns-in-AddPoint

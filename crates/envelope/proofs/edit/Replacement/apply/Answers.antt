@@ -2,7 +2,6 @@
 -- whose contract, an `edit_points`, is `replaced_points` of that variant by definition.
 use Rattle.settle.specs.Settle.{edit_points}
 use Rattle.envelope.specs.Edit.{replaced_points}
-use borrow.Author.Rules.{rules}
 use Rattle.envelope.proofs.edit.Replacement.apply.Goals as goal
 
 pub returns-in-FadeIn : goal.returns-in-FadeIn
