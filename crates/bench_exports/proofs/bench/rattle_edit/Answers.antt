@@ -1,4 +1,4 @@
-use Rattle.std.proofs.Common.{◌-◌, ◌≤◌, arith}
+use Rattle.std.proofs.Common.{arith}
 use Rattle.bench_exports.proofs.bench.rattle_edit.Goals as goal
 
 pub loop-i-init : goal.loop-i-init

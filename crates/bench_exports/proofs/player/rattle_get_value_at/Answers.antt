@@ -1,4 +1,4 @@
-use Rattle.std.proofs.Common.{◌-◌, ◌≤◌, length, arith}
+use Rattle.std.proofs.Common.{arith}
 use Rattle.bench_exports.proofs.player.rattle_get_value_at.Goals as goal
 
 pub loop-i-init : goal.loop-i-init

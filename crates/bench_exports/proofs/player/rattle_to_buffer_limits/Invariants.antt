@@ -1,4 +1,4 @@
-use Rattle.std.proofs.Common.{◌≡◌, ◌-◌, ◌≤◌, length, refl, ◌∙◌, arith}
+use Rattle.std.proofs.Common.{◌≡◌, ◌-◌, ◌≤◌, length}
 use Rattle.bench_exports.proofs.player.rattle_to_buffer_limits.Given as goal
 
 abbrev pub invariant-loop-i : goal.invariant-loop-i

@@ -1,4 +1,4 @@
-use Rattle.std.proofs.Common.{◌-◌, ◌≤◌, arith}
+use Rattle.std.proofs.Common.{◌-◌, ◌≤◌}
 use Rattle.bench_exports.proofs.ranges.rattle_get_range_samples.Given as goal
 
 abbrev pub invariant-loop-i : goal.invariant-loop-i

@@ -1,4 +1,4 @@
-use Rattle.std.proofs.Common.{◌-◌, ◌≤◌, length, arith}
+use Rattle.std.proofs.Common.{◌-◌, ◌≤◌, length}
 use Rattle.bench_exports.proofs.ranges.rattle_get_slope_at.Given as goal
 
 abbrev pub invariant-loop-i : goal.invariant-loop-i

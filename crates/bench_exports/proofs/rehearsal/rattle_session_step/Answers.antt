@@ -1,4 +1,4 @@
-use Rattle.std.proofs.Common.{◌≡◌, ◌-◌, ◌≤◌, length, refl, ◌∙◌, arith}
+use Rattle.std.proofs.Common.{refl, arith}
 use Rattle.bench_exports.proofs.rehearsal.rattle_session_step.Goals as goal
 
 pub loop-i-init : goal.loop-i-init

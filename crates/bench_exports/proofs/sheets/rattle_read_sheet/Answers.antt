@@ -1,5 +1,5 @@
 -- `bench_exports::sheets::rattle_read_sheet` ends: each turn leaves one less.
-use Rattle.std.proofs.Common.{◌-◌, arith, rules}
+use Rattle.std.proofs.Common.{arith}
 use Rattle.bench_exports.proofs.sheets.rattle_read_sheet.Goals as goal
 
 pub overflow_add-i : goal.overflow_add-i

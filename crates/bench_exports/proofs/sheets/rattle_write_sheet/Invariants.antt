@@ -1,5 +1,5 @@
 -- `bench_exports::sheets::rattle_write_sheet` ends, and the lent bytes stay as many.
-use Rattle.std.proofs.Common.{◌≡◌, ◌-◌, ◌≤◌, length, refl, arith, rules}
+use Rattle.std.proofs.Common.{◌≡◌, ◌-◌, ◌≤◌, length}
 use Rattle.bench_exports.proofs.sheets.rattle_write_sheet.Given as goal
 
 abbrev pub invariant-loop-i : goal.invariant-loop-i
