@@ -1,7 +1,6 @@
 -- `listing_lent::merge::list_at` writes the 320 places only, and ends.
 -- Assumes nothing.
 use Prim.Native.Nat.{◌-◌, ◌≤◌}
-use borrow.Author.Rules.{rules}
 use Rattle.listing_lent.proofs.merge.list_at.Given as goal
 
 abbrev pub invariant-loop-i : goal.invariant-loop-i

@@ -1,7 +1,6 @@
 -- `listing_lent::sheets::says_bytes` reads inside the line and the bytes, and ends.
 -- Assumes nothing.
 use Prim.Native.Nat.{◌+◌, ◌-◌, ◌≤◌}
-use borrow.Author.Rules.{rules}
 use lib.ListN.{length}
 use Rattle.listing_lent.proofs.sheets.says_bytes.Given as goal
 

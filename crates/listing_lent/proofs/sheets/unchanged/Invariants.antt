@@ -1,7 +1,6 @@
 -- `listing_lent::sheets::unchanged` reads inside the bytes, and ends.
 -- Assumes nothing.
 use Prim.Native.Nat.{◌-◌, ◌≤◌}
-use borrow.Author.Rules.{rules}
 use lib.ListN.{length}
 use Rattle.listing_lent.proofs.sheets.unchanged.Given as goal
 
