@@ -1,10 +1,7 @@
 -- `listing_looks::words::mark` ends: the measure is the number of words that are left.
 -- Assumes nothing.
-use Prim.Native.Nat.{◌-◌, ◌≤◌}
-use borrow.Author.Rules.{rules}
 use native.Mathlib.Omega.{arith}
-use lib.ListN.{length, length-set}
-use mathlib.Core.Path.{◌≡◌}
+use lib.ListN.{length-set}
 use Rattle.listing_looks.proofs.words.mark.Goals as goal
 
 pub loop-i-smaller : goal.loop-i-smaller

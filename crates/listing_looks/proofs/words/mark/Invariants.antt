@@ -1,9 +1,7 @@
 -- `listing_looks::words::mark` ends: the measure is the number of words that are left.
 -- Assumes nothing.
 use Prim.Native.Nat.{◌-◌, ◌≤◌}
-use borrow.Author.Rules.{rules}
-use native.Mathlib.Omega.{arith}
-use lib.ListN.{length, length-set}
+use lib.ListN.{length}
 use mathlib.Core.Path.{◌≡◌}
 use Rattle.listing_looks.proofs.words.mark.Given as goal
 

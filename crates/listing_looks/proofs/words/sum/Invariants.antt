@@ -1,7 +1,6 @@
 -- `listing_looks::words::sum` ends: the measure is the number of words that are left.
 -- Assumes nothing.
 use Prim.Native.Nat.{◌-◌, ◌≤◌}
-use borrow.Author.Rules.{rules}
 use lib.ListN.{length}
 use Rattle.listing_looks.proofs.words.sum.Given as goal
 

@@ -1,10 +1,7 @@
 -- `listing_tickets::commits::copy` ends: the measure is the number of words that are left.
 -- Assumes nothing.
-use Prim.Native.Nat.{◌-◌, ◌≤◌}
-use borrow.Author.Rules.{rules}
 use native.Mathlib.Omega.{arith}
-use lib.ListN.{length, length-set}
-use mathlib.Core.Path.{◌≡◌}
+use lib.ListN.{length-set}
 use Rattle.listing_tickets.proofs.commits.copy.Goals as goal
 
 pub loop-i-init : goal.loop-i-init

@@ -1,9 +1,6 @@
 -- `listing_tickets::commits::same_words` ends: the measure is the number of words that are left.
 -- Assumes nothing.
-use Prim.Native.Nat.{◌-◌, ◌≤◌}
-use borrow.Author.Rules.{rules}
 use native.Mathlib.Omega.{arith}
-use lib.ListN.{length}
 use Rattle.listing_tickets.proofs.commits.same_words.Goals as goal
 
 pub loop-i-init : goal.loop-i-init
