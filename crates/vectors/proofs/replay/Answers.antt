@@ -1,9 +1,6 @@
 -- `vectors::replay` ends: the measure is the number of lines that are left.
 -- Assumes nothing.
 use native.Mathlib.Omega.{arith}
-use borrow.Author.Rules.{rules}
-use lib.ListN.{length}
-use mathlib.Core.Path.{◌≡◌}
 use Rattle.vectors.proofs.replay.Goals as goal
 
 pub overflow_sub-lines : goal.overflow_sub-lines

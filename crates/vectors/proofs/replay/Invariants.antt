@@ -1,7 +1,5 @@
 -- `vectors::replay` ends: the measure is the number of lines that are left.
 -- Assumes nothing.
-use native.Mathlib.Omega.{arith}
-use borrow.Author.Rules.{rules}
 use lib.ListN.{length}
 use mathlib.Core.Path.{◌≡◌}
 use Rattle.vectors.proofs.replay.Given as goal
