@@ -1,33 +1,33 @@
-"""An edit of the repository, and where and by what the prover refuses it. tools/edits and trial/definitions/run stand on it."""
+"""An edit of the repository, and where and by what the prover refuses it. tools/edits, trial/run and trial/definitions/run stand on it."""
 import os
 import re
 
 ANTT = re.compile(r"^(\S+\.(?:antt|rt)):(\d+):\d+: error: (.*)$")
 COMPILER = re.compile(r"^(\S+\.rt):(\d+):\d+: error\[([\w-]+)\]: (.*)$")
-SEARCHED = re.compile(r"^note: (\S+\.rt):(\d+):\d+: it is not proved that (.*) \(`([^`]+)`\)$")
+SEARCHED = re.compile(r"^note: (\S+\.rt):(\d+):\d+: it is not proved that (.*?) \(`([^`]+)`\)(.*)$")
 NOT_COVERED = re.compile(r"^fn (\S+): not proved; (.*?): (\S+\.rt):(\d+):\d+: (.*)$")
 DECLARED = re.compile(r"^`([^`]+)`: (.*)$", re.S)
-FOLLOWS = re.compile(r"^`[^`]*` was not admitted")
+FOLLOWS = re.compile(r"^`[^`]*` was not admitted|^\d+ declarations? that depends? on `")
+GOAL = r"(?:Answers|Invariants|Proof)\.antt$"
 
 # What a message says, by its words: the first that fits. `fact` is a statement that no longer holds; what is in no line is unknown.
 WORDS = [
-    ("need gone", r"^`tie\.[^`\n]+`: module `[^`\n]*` has no "),
-    ("name", r"^`[^`\n]*` is not in scope|^(`[^`\n]*`: )?module `[^`\n]*` has no "),
-    ("need new", r"^expected type `tie\.(Need|InvT|MeasureT)\S* ?.*but this has type `tie\."),
+    ("goal gone", r"^`goal\.[^`\n]+`: module `[^`\n]*` has no "),
     ("shape", r"^record `[^`]*` has no field |^this pattern needs a function |^a dimension \(|^an? [^\n]* is expected here"),
+    ("name", r"^`[^`\n]*` is not in scope|^(`[^`\n]*`: )?module `[^`\n]*` has no |^`[^`\n]*` is no name"),
     ("shape", r"where one has `mir\.Syntax\.|the other has `mir\.Syntax\.|where one has `\S*Lts\.After-|the other has `\S*Lts\.After-"),
     ("fact", r"^computed as far as they go, the two (types|sides|values) (first differ|differ only|are) "),
     ("fact", r"^as printed, the two (types|sides|values) (first differ|differ only) "),
-    ("fact", r"^expected type `.*but this has type `"),
+    ("fact", r"^expected type `"),
     ("fact", r"^`rw`: no occurrence of the path's left endpoint|^give a proof of that as the last argument, `rw L t`"),
     ("fact", r"^list the missing equation with its arguments|^`rw`: neither the goal nor the list settles argument "),
     ("fact", r"^`omega`: the (goal|part `[^`]*` of the goal) does not follow"),
-    ("fact", r"^`search`: no proof of |^`cc`: "),
+    ("fact", r"^`search`: no proof of |^`cc`: |^`grind`: |^it is not proved that "),
 ]
 WORDS = [(kind, re.compile(words, re.S)) for kind, words in WORDS]
 
-# What a need asks, by its name; the others ask that the code is safe and ends.
-ASKS = [("result", r"returns|same-length|same-references"), ("invariant", r"\w+-(holds|again)"), ("requires", r".*-requires")]
+# What a goal asks, by its name; the others ask that the code is safe and ends.
+ASKS = [("result", r"returns(-.+)?"), ("invariant", r".+-(init|preserved)(-.+)?"), ("requires", r".+-requires(-.+)?")]
 
 # The kinds that say nothing of what the edited program does.
 EMPTY = {
@@ -35,8 +35,7 @@ EMPTY = {
     "not covered": "the prover doesn't cover the function",
     "name": "a name is out of scope",
     "contract": "a contract is no longer one",
-    "need gone": "a need is gone",
-    "need new": "a need is new and has no proof",
+    "goal gone": "a goal is gone",
     "shape": "the proof no longer fits the code's shape",
     "unknown": "the message is of no known kind",
 }
@@ -78,48 +77,42 @@ class Edit:
 
 
 class Refusal:
-    """An error of a log: its place, the declaration, the need that this answers (or none), the kind and the message."""
+    """An error of a log: its place, the declaration, the goal that this answers (or none), the kind and the message."""
 
-    def __init__(self, file, line, name, need, kind, message):
-        self.file, self.line, self.name, self.need, self.kind, self.message = file, line, name, need, kind, message
+    def __init__(self, file, line, name, goal, kind, message):
+        self.file, self.line, self.name, self.goal, self.kind, self.message = file, line, name, goal, kind, message
 
     def function(self):
         """Whether it stands at a function, not in a law."""
-        return self.file.startswith("src/") or self.file.endswith("/Proof.antt")
+        return self.file.startswith("src/") or bool(re.search(GOAL, self.file))
 
     def asks(self):
         """What it asks: the result, a loop's invariant, a call's requires, or that the code is safe and ends."""
-        if self.need is None:
-            return "law" if not self.function() else "helper" if self.file.endswith("/Proof.antt") else "-"
-        for asks, needs in ASKS:
-            if re.fullmatch("(" + needs + r")(-\d+)?", self.need):
+        if self.goal is None:
+            return "law" if not self.function() else "helper" if re.search(GOAL, self.file) else "-"
+        for asks, goals in ASKS:
+            if re.fullmatch(goals, self.goal):
                 return asks
         return "safety"
 
 
-def kind_of(file, name, message):
+def kind_of(file, message):
     for kind, words in WORDS:
         if words.search(message):
             break
     else:
         kind = "unknown"
-    if kind in ("need gone", "name"):
+    if kind in ("goal gone", "name"):
         return kind
     if file.startswith("src/"):
         return "contract"
-    if file.endswith("/Proof.antt"):
-        if name.startswith(("Inv-", "μ-")):
-            return "shape"
-        if name.endswith("-spec"):
-            return "need new"
-    return kind
+    return "shape" if file.endswith("/Invariants.antt") else kind
 
 
-def need_of(read, file, name):
-    """The need that a declaration of a Proof.antt answers."""
-    text = read(file) if file.endswith("/Proof.antt") else None
-    found = re.search(r"^ *" + re.escape(name) + r" :\s+tie\.Need-([\w-]+)", text or "", re.M)
-    return found.group(1) if found else None
+def goal_of(read, file, name):
+    """The goal that a declaration of an Answers.antt or an Invariants.antt answers."""
+    text = read(file) if re.search(GOAL, file) else None
+    return name if re.search(r"^(?:abbrev )?(?:pub )?" + re.escape(name) + r" :\s+goal\.", text or "", re.M) else None
 
 
 def by_hand(read, name):
@@ -133,7 +126,8 @@ def refusals(log, below, read):
     found, uncovered, lines = [], [], log.split("\n")
 
     def place(path):
-        return path.rpartition(below + "/")[2]
+        path = path.rpartition(below + "/")[2]
+        return path[2:] if path.startswith("./") else path
 
     for at, line in enumerate(lines):
         if said := NOT_COVERED.match(line):
@@ -145,14 +139,14 @@ def refusals(log, below, read):
             file, number, name, what = said.groups()
             found.append(Refusal(place(file), int(number), name, None, "compiler", what))
         elif said := SEARCHED.match(line):
-            file, number, what, need = said.groups()
-            found.append(Refusal(place(file), int(number), need, need, "fact", "it is not proved that " + what))
+            file, number, what, goal, rest = said.groups()
+            found.append(Refusal(place(file), int(number), goal, goal, "fact", "it is not proved that " + what + rest))
         elif said := ANTT.match(line):
             file, number, what = place(said.group(1)), int(said.group(2)), whole(lines, at, said.group(3))
             named = DECLARED.match(what)
             name, message = named.groups() if named else ("", what)
             if not FOLLOWS.match(message):
-                found.append(Refusal(file, number, name, need_of(read, file, name), kind_of(file, name, message), message))
+                found.append(Refusal(file, number, name, goal_of(read, file, name), kind_of(file, message), message))
     return uncovered + found
 
 
