@@ -18,7 +18,7 @@ WORDS = [
     ("shape", r"where one has `mir\.Syntax\.|the other has `mir\.Syntax\.|where one has `\S*Lts\.After-|the other has `\S*Lts\.After-"),
     ("fact", r"^computed as far as they go, the two (types|sides|values) (first differ|differ only|are) "),
     ("fact", r"^as printed, the two (types|sides|values) (first differ|differ only) "),
-    ("fact", r"^expected type `"),
+    ("fact", r"^expected type `|^on the face `"),
     ("fact", r"^`rw`: no occurrence of the path's left endpoint|^give a proof of that as the last argument, `rw L t`"),
     ("fact", r"^list the missing equation with its arguments|^`rw`: neither the goal nor the list settles argument "),
     ("fact", r"^`omega`: the (goal|part `[^`]*` of the goal) does not follow"),
