@@ -8,7 +8,7 @@ SEARCHED = re.compile(r"^note: (\S+\.rt):(\d+):\d+: it is not proved that (.*?) 
 NOT_COVERED = re.compile(r"^fn (\S+): not proved; (.*?): (\S+\.rt):(\d+):\d+: (.*)$")
 DECLARED = re.compile(r"^`([^`]+)`: (.*)$", re.S)
 FOLLOWS = re.compile(r"^`[^`]*` was not admitted|^\d+ declarations? that depends? on `")
-GOAL = r"(?:Answers|Invariants|Proof)\.antt$"
+GOAL = r"(?:Answers|Invariants)\.antt$"
 
 # What a message says, by its words: the first that fits. `fact` is a statement that no longer holds; what is in no line is unknown.
 WORDS = [
@@ -115,11 +115,6 @@ def goal_of(read, file, name):
     return name if re.search(r"^(?:abbrev )?(?:pub )?" + re.escape(name) + r" :\s+goal\.", text or "", re.M) else None
 
 
-def by_hand(read, name):
-    """Whether a function's proof says that it is by hand: the log then has it as not covered wherever it isn't proved."""
-    return "by hand" in (read("/".join(["proofs"] + name.split("::")[1:] + ["Proof.antt"])) or "")
-
-
 def refusals(log, below, read):
     """The errors of a log in its order, without those that only follow from another; but what isn't covered comes first, since
     the rest follows from it. Places are said from the folder `below` on, the last parts of its path."""
@@ -132,8 +127,6 @@ def refusals(log, below, read):
     for at, line in enumerate(lines):
         if said := NOT_COVERED.match(line):
             name, why, file, number, what = said.groups()
-            if by_hand(read, name):
-                continue
             uncovered.append(Refusal(place(file), int(number), name, None, "not covered", f"{why}: {what}"))
         elif said := COMPILER.match(line):
             file, number, name, what = said.groups()
