@@ -13,7 +13,7 @@ GOAL = r"(?:Answers|Invariants)\.antt$"
 # What a message says, by its words: the first that fits. `fact` is a statement that no longer holds; what is in no line is unknown.
 WORDS = [
     ("goal gone", r"^`goal\.[^`\n]+`: module `[^`\n]*` has no "),
-    ("shape", r"^record `[^`]*` has no field |^this pattern needs a function |^a dimension \(|^an? [^\n]* is expected here"),
+    ("shape", r"^record `|^this pattern needs a function |^a dimension \(|^an? [^\n]* is expected here"),
     ("name", r"^`[^`\n]*` is not in scope|^(`[^`\n]*`: )?module `[^`\n]*` has no |^`[^`\n]*` is no name"),
     ("shape", r"where one has `mir\.Syntax\.|the other has `mir\.Syntax\.|where one has `\S*Lts\.After-|the other has `\S*Lts\.After-"),
     ("fact", r"^computed as far as they go, the two (types|sides|values) (first differ|differ only|are) "),
