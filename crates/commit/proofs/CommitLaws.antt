@@ -4,7 +4,6 @@ use mathlib.Core.Path.{◌≡◌, refl, ap, sym, ◌∙◌}
 use mathlib.Core.Bool.{Bool, true, false, cond, ◌&&◌}
 use mathlib.Core.List.{List}
 use mathlib.Core.Option.{Option, none, some}
-use lib.ListN.{length}
 use Rattle.numbers.proofs.Tests.{and_left, and_right}
 use Rattle.points.specs.Checks.{first_failing, unless_refused, gate}
 use Rattle.points.specs.Points.{every}

@@ -13,7 +13,7 @@ use borrow.Author.Tests.{lt-ltb, le-ltb, le-leb, eq-eqb, ne_eqb}
 use Rattle.numbers.proofs.Tests.{and_left, and_right}
 use Rattle.points.specs.Checks.{first_failing, unless_refused}
 use Rattle.points.proofs.CheckLaws.{all_hold}
-use Rattle.points.specs.Refusal.{Said, refuses, said, number}
+use Rattle.points.specs.Refusal.{Said, refuses, number}
 use Rattle.points.specs.Points.{every}
 use Rattle.points.specs.declared.refusal.Refusal.{Refusal}
 use Rattle.envelope.specs.Envelope.{valid_envelope}

@@ -6,7 +6,7 @@ use mathlib.Core.Option.{Option, none, some}
 use Rattle.numbers.proofs.Tests.{either}
 use Rattle.points.specs.Checks.{first_failing}
 use Rattle.points.proofs.CheckLaws.{gate_either, never}
-use Rattle.points.specs.Refusal.{Said, refuses, gives, said, number}
+use Rattle.points.specs.Refusal.{Said, refuses, gives, number}
 use Rattle.envelope.specs.declared.AutomationEnvelope.{AutomationEnvelope}
 use Rattle.equal.specs.Equal.{bit_equal}
 use Rattle.state.specs.State.{unpacked}

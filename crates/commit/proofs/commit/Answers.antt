@@ -4,7 +4,6 @@ use mathlib.Core.Path.{sym, ◌∙◌}
 use mathlib.Core.Bool.{◌&&◌}
 use Rattle.numbers.proofs.Tests.{and_left, and_right}
 use Rattle.commit.proofs.CommitLaws.{commit_fits}
-use borrow.Author.Rules.{rules}
 use Rattle.commit.proofs.commit.Goals as goal
 
 pub refuse-requires : goal.refuse-requires

@@ -5,7 +5,6 @@ use Rattle.points.specs.Checks.{refusal_of}
 use Rattle.session.specs.Session.{called}
 use Rattle.session.specs.declared.SessionAnswer.{SessionAnswer}
 use Rattle.commit.proofs.CommitLaws.{commit_refused, commit_other}
-use borrow.Author.Rules.{rules}
 use Rattle.commit.proofs.refuse.Goals as goal
 
 pub returns-in-Accepted : goal.returns-in-Accepted

@@ -9,7 +9,6 @@ use Rattle.envelope.specs.declared.edit.PointsEdit.TheVariants.{AddPoint}
 use Rattle.ask.specs.declared.Ticket.{Ticket}
 use Rattle.session.specs.Calls.{Call, edit, alone, joined, committed, call_of}
 use Rattle.replay.proofs.ReplayLaws.{is_back, is_forward, is_off, is_on, is_shift, is_scale, is_merge, is_commit, is_add, call_typed}
-use borrow.Author.Rules.{rules}
 use Rattle.replay.proofs.call.Goals as goal
 
 pub returns-in-0 : goal.returns-in-0

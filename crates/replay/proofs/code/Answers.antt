@@ -2,7 +2,6 @@ use mathlib.Core.Path.{ap, sym}
 use Rattle.replay.specs.Replay.{said_of}
 use Rattle.replay.proofs.ReplayLaws.{refusal_said}
 use Rattle.points.specs.Refusal.{said}
-use borrow.Author.Rules.{rules}
 use Rattle.replay.proofs.code.Goals as goal
 
 pub returns-in-Accepted : goal.returns-in-Accepted

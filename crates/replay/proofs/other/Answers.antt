@@ -7,7 +7,6 @@ use Rattle.envelope.specs.declared.AutomationEnvelope.{AutomationEnvelope}
 use Rattle.envelope.specs.declared.edit.Edit.TheVariants.{OfPoints}
 use Rattle.envelope.specs.declared.edit.PointsEdit.TheVariants.{AddPoint}
 use Rattle.replay.specs.Replay.{other_from}
-use borrow.Author.Rules.{rules}
 use Rattle.replay.proofs.other.Goals as goal
 
 pub returns : goal.returns

@@ -1,9 +1,8 @@
-use borrow.Author.Rules.{rules}
-use Prim.Native.Nat.{◌≤◌, ◌-◌, min}
-use mathlib.Core.Path.{◌≡◌, refl, ◌∙◌}
+use Prim.Native.Nat.{min}
+use mathlib.Core.Path.{refl, ◌∙◌}
 use native.Mathlib.Omega.{arith}
-use lib.ListN.{length, length-set}
-use Rattle.replay.proofs.ReplayLaws.{Replaying, begun, again, ended}
+use lib.ListN.{length-set}
+use Rattle.replay.proofs.ReplayLaws.{begun, again, ended}
 use Rattle.replay.proofs.replay.Goals as goal
 
 pub loop-i-init : goal.loop-i-init

@@ -2,7 +2,6 @@
 use mathlib.Core.Path.{ap}
 use Rattle.envelope.specs.declared.AutomationEnvelope.{AutomationEnvelope}
 use Rattle.replay.specs.Replay.{ticket_from}
-use borrow.Author.Rules.{rules}
 use Rattle.replay.proofs.ticket.Goals as goal
 
 pub returns : goal.returns

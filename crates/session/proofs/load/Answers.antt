@@ -5,7 +5,6 @@ use native.Mathlib.Omega.{arith}
 use lib.ListN.{take, drop}
 use Rattle.state.specs.State.{read_state}
 use Rattle.session.specs.Session.{state_at}
-use borrow.Author.Rules.{rules}
 use Rattle.session.proofs.load.Goals as goal
 
 pub returns : goal.returns

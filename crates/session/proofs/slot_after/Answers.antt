@@ -1,7 +1,6 @@
 -- `session::slot_after` meets its contract: `1 < depth - at` says that `at + 1` is below the depth, with no sum to wrap (`after_yes`);
 -- else, as `at ≤ depth`, no slot comes after and the first is next (`after_no`).
 use Rattle.session.proofs.Ways.{after_yes, after_no}
-use borrow.Author.Rules.{rules}
 use Rattle.session.proofs.slot_after.Goals as goal
 
 pub returns-then-depth-at-gt1 : goal.returns-then-depth-at-gt1

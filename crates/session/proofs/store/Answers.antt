@@ -10,7 +10,6 @@ use Rattle.lookup.proofs.RunLaws.{part_count}
 use Rattle.state.specs.State.{pack}
 use Rattle.session.specs.Session.{stored}
 use Rattle.session.proofs.Ways.{part_written}
-use borrow.Author.Rules.{rules}
 use Rattle.session.proofs.store.Goals as goal
 
 pub returns : goal.returns

@@ -3,7 +3,6 @@
 use mathlib.Core.Path.{refl}
 use native.Mathlib.Omega.{arith}
 use Rattle.session.proofs.Ways.{in_order_lem, count_none, count_put}
-use borrow.Author.Rules.{rules}
 use Rattle.session.proofs.Session.count.Goals as goal
 
 pub slot_after-next-requires : goal.slot_after-next-requires

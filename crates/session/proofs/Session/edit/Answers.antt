@@ -10,7 +10,6 @@ use Rattle.session.specs.Calls.{alone}
 use Rattle.envelope.proofs.EditLaws.{edit_one}
 use Rattle.session.proofs.Ways.{admitted_length, edit_order, edit_refused, edit_own}
 use Rattle.session.specs.declared.SessionAnswer.{SessionAnswer}
-use borrow.Author.Rules.{rules}
 use Rattle.session.proofs.Session.edit.Goals as goal
 
 pub settle-requires : goal.settle-requires

@@ -7,7 +7,6 @@ use Rattle.session.specs.Session.{valid_session, called}
 use Rattle.session.specs.Calls.{forward}
 use Rattle.session.proofs.Ways.{admitted_length, call_one, call_refused, call_behind}
 use Rattle.session.specs.declared.SessionAnswer.{SessionAnswer}
-use borrow.Author.Rules.{rules}
 use Rattle.session.proofs.Session.forward.Goals as goal
 
 pub step_forward-requires : goal.step_forward-requires

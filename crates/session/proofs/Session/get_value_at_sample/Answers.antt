@@ -2,7 +2,6 @@
 -- out of order it isn't valid, and the code gives the 1 (`sample_not`).
 use mathlib.Core.Path.{sym, ◌∙◌}
 use Rattle.session.proofs.PlayLaws.{sample_own, sample_not}
-use borrow.Author.Rules.{rules}
 use Rattle.session.proofs.Session.get_value_at_sample.Goals as goal
 
 pub returns-then-in_order : goal.returns-then-in_order

@@ -1,7 +1,6 @@
 -- `session::Session::in_order` meets its contract: with `kept ≤ D`, `ahead ≤ D - kept` says `kept + ahead ≤ D` with no sum to wrap (`order_yes`);
 -- with more kept than D the sum is too much for any `ahead` (`order_no`).
 use Rattle.session.proofs.Ways.{order_yes, order_no}
-use borrow.Author.Rules.{rules}
 use Rattle.session.proofs.Session.in_order.Goals as goal
 
 pub returns-then-kept-depth : goal.returns-then-kept-depth

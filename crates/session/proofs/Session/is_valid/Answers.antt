@@ -1,6 +1,5 @@
 -- `session::Session::is_valid` meets its contract: `valid_session` is by definition the conjunction of what `is_valid` of the envelope and `in_order` answer.
 use mathlib.Core.Bool.{◌&&◌}
-use borrow.Author.Rules.{rules}
 use Rattle.session.proofs.Session.is_valid.Goals as goal
 
 pub returns : goal.returns

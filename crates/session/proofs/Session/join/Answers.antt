@@ -9,7 +9,6 @@ use Rattle.session.specs.Calls.{joined}
 use Rattle.envelope.proofs.JoinLaws.{join_one}
 use Rattle.session.proofs.Ways.{admitted_length, edit_order, edit_refused, edit_own}
 use Rattle.session.specs.declared.SessionAnswer.{SessionAnswer}
-use borrow.Author.Rules.{rules}
 use Rattle.session.proofs.Session.join.Goals as goal
 
 pub settle-requires : goal.settle-requires

@@ -3,7 +3,6 @@ use mathlib.Core.Path.{ap}
 use lib.ListN.{length}
 use Rattle.envelope.specs.declared.AutomationEnvelope.{AutomationEnvelope}
 use Rattle.session.specs.Session.{opened, open_session}
-use borrow.Author.Rules.{rules}
 use Rattle.session.proofs.Session.open.Goals as goal
 
 pub returns : goal.returns

@@ -3,7 +3,6 @@ use mathlib.Core.Path.{◌≡◌, ap, ◌∙◌}
 use mathlib.Core.Bool.{cond}
 use Rattle.points.specs.declared.refusal.Refusal.TheVariants.{NotValid}
 use Rattle.session.specs.Session.{refused_by}
-use borrow.Author.Rules.{rules}
 use Rattle.session.proofs.Session.refuse_after.Goals as goal
 use Rattle.session.proofs.Session.refuse_after.Goals.{then-valid, else-valid}
 

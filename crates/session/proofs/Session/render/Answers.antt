@@ -3,7 +3,6 @@
 use mathlib.Core.Path.{refl, sym, ◌∙◌}
 use Rattle.render.proofs.RenderLaws.{answers}
 use Rattle.session.proofs.PlayLaws.{render_own, render_not}
-use borrow.Author.Rules.{rules}
 use Rattle.session.proofs.Session.render.Goals as goal
 
 pub returns-then-in_order-clause-answer : goal.returns-then-in_order-clause-answer

@@ -2,7 +2,6 @@
 -- (`settle_idle`), else `count` makes what `settled` names (`settle_counted`); refused, its refusal is the call's (`settle_refused`).
 use mathlib.Core.Path.{sym, ◌∙◌}
 use Rattle.session.proofs.Ways.{settle_idle, settle_counted, settle_refused}
-use borrow.Author.Rules.{rules}
 use Rattle.session.proofs.Session.settle.Goals as goal
 
 pub count-requires : goal.count-requires

@@ -7,7 +7,6 @@ use Rattle.envelope.specs.Envelope.{valid_envelope}
 use Rattle.session.specs.Session.{in_order, called}
 use Rattle.session.proofs.Ways.{in_order_lem, before_below, back_none, back_over}
 use Rattle.session.specs.declared.SessionAnswer.{SessionAnswer}
-use borrow.Author.Rules.{rules}
 use Rattle.session.proofs.Session.step_back.Goals as goal
 
 pub slot_before-slot-requires : goal.slot_before-slot-requires

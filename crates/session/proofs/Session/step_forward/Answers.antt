@@ -7,7 +7,6 @@ use Rattle.envelope.specs.Envelope.{valid_envelope}
 use Rattle.session.specs.Session.{in_order, called}
 use Rattle.session.proofs.Ways.{in_order_lem, forward_none, forward_over}
 use Rattle.session.specs.declared.SessionAnswer.{SessionAnswer}
-use borrow.Author.Rules.{rules}
 use Rattle.session.proofs.Session.step_forward.Goals as goal
 
 pub slot_after-next-requires : goal.slot_after-next-requires

@@ -1,7 +1,6 @@
 -- `session::Session::step_over` meets its contract: by what `load` answers: accepted, the state there packs a valid envelope, and the two change places (`step_done`);
 -- refused, it packs none, and that is 12 (`step_bad`).
 use Rattle.session.proofs.Ways.{step_done, step_bad}
-use borrow.Author.Rules.{rules}
 use Rattle.session.proofs.Session.step_over.Goals as goal
 
 pub returns-in-Accepted : goal.returns-in-Accepted

@@ -3,7 +3,6 @@
 use mathlib.Core.Path.{refl, sym, ◌∙◌}
 use Rattle.render.proofs.RenderLaws.{answers}
 use Rattle.session.proofs.PlayLaws.{buffer_own, buffer_not}
-use borrow.Author.Rules.{rules}
 use Rattle.session.proofs.Session.to_buffer.Goals as goal
 
 pub returns-then-in_order-clause-answer : goal.returns-then-in_order-clause-answer
