@@ -284,9 +284,11 @@ module _ (fade_in sustain fade_out : Float) (c : CurveType) where
   pub pulse_fine : ((given && finite_point (third fade_in sustain)) && finite_point (fourth fade_in sustain fade_out c)) ≡ (given && every finite_point (pulse_list fade_in sustain fade_out c))
   pulse_fine = go given refl
     where
-      go : (b : Bool) → given ≡ b → ((b && finite_point (third fade_in sustain)) && finite_point (fourth fade_in sustain fade_out c)) ≡ (b && every finite_point (pulse_list fade_in sustain fade_out c))
+      go : (b : Bool) → given ≡ b
+          → ((b && finite_point (third fade_in sustain)) && finite_point (fourth fade_in sustain fade_out c)) ≡ (b && every finite_point (pulse_list fade_in sustain fade_out c))
       go true h =
           sym (sums (finite_point (third fade_in sustain)) (finite_point (fourth fade_in sustain fade_out c))
-          (and_left (finite fade_in) (finite sustain) (and_left (finite fade_in && finite sustain) (finite fade_out) (and_left (finite fade_in && finite sustain && finite fade_out) (finite_controls c) h)))
+          (and_left (finite fade_in) (finite sustain)
+          (and_left (finite fade_in && finite sustain) (finite fade_out) (and_left (finite fade_in && finite sustain && finite fade_out) (finite_controls c) h)))
           (and_right (finite fade_in && finite sustain && finite fade_out) (finite_controls c) h) refl refl)
       go false h = refl

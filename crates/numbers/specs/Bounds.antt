@@ -1,5 +1,5 @@
 -- The larger and the smaller of two numbers, a number held between two, and which values are finite.
--- 01: "max and min: a NaN gives the other; equal zeros keep the first." IEEE 754-2008's max_num and min_num, with 01's choice of the zero.
+-- 01: "max and min: a NaN gives the other; equal zeros keep the first." IEEE 754-2008's maxNum and minNum, with 01's choice of the zero.
 use Rattle.std.specs.Prelude.{Bool, true, false, cond, from_bits, is_nan, Float}
 use Rattle.std.specs.Float.{nan, inf, fin, binary64}
 use Rattle.std.specs.Float.Ieee.{lt}

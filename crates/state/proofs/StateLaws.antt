@@ -295,7 +295,8 @@ position_typed false n h = refl
 point_typed : (w : List ℕ) → every word w ≡ true → typed_point (point_of w) ≡ true
 unfolding point_of
 point_typed w h =
-    and_both (and_both (and_both (read_fits binary64 (get_or w 0 0)) (position_typed (bit 1 (high (get_or w 3 0))) (get_or w 1 0) (every_get_d word w 1 0 refl h))) (read_fits binary32 (low (get_or w 3 0))))
+    and_both
+    (and_both (and_both (read_fits binary64 (get_or w 0 0)) (position_typed (bit 1 (high (get_or w 3 0))) (get_or w 1 0) (every_get_d word w 1 0 refl h))) (read_fits binary32 (low (get_or w 3 0))))
     (curve_typed (high (get_or w 3 0) / 2) _ _ (read_fits binary32 (low (get_or w 2 0))) (read_fits binary32 (high (get_or w 2 0))))
 
 points_typed : (n : ℕ) (w : List ℕ) → every word w ≡ true → every typed_point (points_of n w) ≡ true

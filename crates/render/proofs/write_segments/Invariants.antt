@@ -10,7 +10,9 @@ use Rattle.lookup.specs.Runs.{run}
 use Rattle.render.proofs.write_segments.Given as goal
 
 abbrev pub invariant-loop-i : goal.invariant-loop-i
-invariant-loop-i l = (l.i ≤ length l.initial.out) × (length l.out ≡ length l.initial.out) × (l.k ≡ l.first + l.i) × (l.out ≡ run (sample_or l.silent l.points true l.limits l.rate) l.first l.i ++ drop l.i l.initial.out)
+invariant-loop-i l =
+    (l.i ≤ length l.initial.out) × (length l.out ≡ length l.initial.out) × (l.k ≡ l.first + l.i) ×
+    (l.out ≡ run (sample_or l.silent l.points true l.limits l.rate) l.first l.i ++ drop l.i l.initial.out)
 
 abbrev pub decreases-loop-i : goal.decreases-loop-i
 decreases-loop-i l = length l.initial.out - l.i

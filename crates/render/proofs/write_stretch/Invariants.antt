@@ -11,7 +11,9 @@ use Rattle.render.specs.Writer.{inside, segment_at}
 use Rattle.render.proofs.write_stretch.Given as goal
 
 abbrev pub invariant-loop-i : goal.invariant-loop-i
-invariant-loop-i l = (1 ≤ l.i) × (l.i ≤ length l.initial.out) × (length l.out ≡ length l.initial.out) × (l.k ≡ l.first + l.i) × ((j : ℕ) → j < l.i → 0 < j → inside l.seg (sample_time l.rate (l.first + j)) ≡ true)
+invariant-loop-i l =
+    (1 ≤ l.i) × (l.i ≤ length l.initial.out) × (length l.out ≡ length l.initial.out) × (l.k ≡ l.first + l.i) ×
+    ((j : ℕ) → j < l.i → 0 < j → inside l.seg (sample_time l.rate (l.first + j)) ≡ true)
     × (l.out ≡ run (λ n. segment_at l.limits l.seg (sample_time l.rate n)) l.first l.i ++ drop l.i l.initial.out)
 
 abbrev pub decreases-loop-i : goal.decreases-loop-i

@@ -10,7 +10,9 @@ use Rattle.state.specs.State.{pack_points, points_of}
 use Rattle.state.proofs.read.read_places.Given as goal
 
 abbrev pub invariant-loop-i : goal.invariant-loop-i
-invariant-loop-i l = (l.i ≤ 256) × (length l.places ≡ 256) × (take l.i l.places ≡ points_of l.i (drop 4 l.words)) × (l.same ≡ every_pair eqb (pack_points (points_of l.i (drop 4 l.words))) (take (4 * l.i) (drop 4 l.words)))
+invariant-loop-i l =
+    (l.i ≤ 256) × (length l.places ≡ 256) × (take l.i l.places ≡ points_of l.i (drop 4 l.words)) ×
+    (l.same ≡ every_pair eqb (pack_points (points_of l.i (drop 4 l.words))) (take (4 * l.i) (drop 4 l.words)))
     × ((k : ℕ) → l.i ≤ k → k < 256 → get_or l.places k any_point ≡ unused)
 
 abbrev pub decreases-loop-i : goal.decreases-loop-i
