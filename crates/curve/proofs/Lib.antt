@@ -1,5 +1,4 @@
--- Laws that the crates above cite too: a curve's number and back, its controls.
+-- Laws that the crates above cite too: a curve's number and back, its controls, and the derived `==`.
 pub mod Laws
--- What the proofs of several functions cite.
 pub mod Plain
-pub mod Codes
+pub mod Equal

@@ -13,7 +13,7 @@ use Rattle.curve.specs.declared.CurveType.TheVariants.{Linear, Exponential, Loga
 use Rattle.curve.specs.declared.CurveType.TheVariants.{CubicInOut, QuartIn, QuartOut, QuartInOut, QuintIn, QuintOut, QuintInOut}
 
 -- 01: "first clamps the fraction t to 0..1 (NaN stays)"; a -0.0 stays too
-unfoldable pub clamped : Float → Float
+abbrev pub clamped : Float → Float
 clamped t = clamped_to f0 f1 t
 
 -- 001's `cubic_bezier`

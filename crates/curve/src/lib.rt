@@ -5,7 +5,7 @@ ghost use Rattle.std.specs.Prelude.{◌≡◌};
 ghost use Rattle.curve.specs.Curve.{clamped, cubic_bezier, in_out, quad_in_out, stepped, bounced, eased, interpolated, code, is_linear, controls, curve_of, finite_controls, same_curve};
 ghost use Rattle.curve.specs.declared.CurveType.TheVariants.{CubicInOut, QuartInOut, QuintInOut};
 
-#[derive(Clone, Copy)]
+#[derive(Clone, Copy, Debug, PartialEq)]
 pub enum CurveType {
     Linear,
     Exponential,
@@ -31,26 +31,14 @@ pub enum CurveType {
 }
 
 // The control numbers of a Bezier curve; 0.0 for the others.
-#[derive(Clone, Copy)]
+#[derive(Clone, Copy, Debug, PartialEq)]
 pub struct Controls {
     pub cp1: f32,
     pub cp2: f32,
 }
 
-// Rust's `t.clamp(0.0, 1.0)`: a NaN stays.
-pub fn clamp(t: f32) -> f32
-    ensures { result ≡ clamped t }
-{
-    if t < 0.0 {
-        return 0.0;
-    }
-    if t > 1.0 {
-        return 1.0;
-    }
-    t
-}
-
 // B(t) = (1-t)³·0 + 3(1-t)²t·cp1 + 3(1-t)t²·cp2 + t³·1
+#[tactic(auto, unfolding(crate::specs::Curve::cubic_bezier))]
 pub fn cubic_bezier(t: f32, cp1: f32, cp2: f32) -> f32
     ensures { result ≡ cubic_bezier t cp1 cp2 }
 {
@@ -62,19 +50,22 @@ pub fn cubic_bezier(t: f32, cp1: f32, cp2: f32) -> f32
 }
 
 // What the in-out curves share: `early` below 0.5, and from there 1.0 less half of `late`.
+#[tactic(auto, unfolding(crate::specs::Curve::in_out))]
 fn in_out(t: f32, early: f32, late: f32) -> f32
     ensures { result ≡ in_out t early late }
 {
     if t < 0.5 { early } else { 1.0 - late / 2.0 }
 }
 
+#[tactic(auto, unfolding(crate::specs::Curve::quad_in_out))]
 fn quad_in_out(t: f32) -> f32
     ensures { result ≡ quad_in_out t }
 {
     let u = -2.0 * t + 2.0;
-    in_out(t, 2.0 * t * t, numbers::root::square(u))
+    in_out(t, 2.0 * t * t, u * u)
 }
 
+#[tactic(auto, unfolding(crate::specs::Curve::eased))]
 fn cubic_in_out(t: f32) -> f32
     ensures { result ≡ eased CubicInOut t }
 {
@@ -82,6 +73,7 @@ fn cubic_in_out(t: f32) -> f32
     in_out(t, 4.0 * t * t * t, u * u * u)
 }
 
+#[tactic(auto, unfolding(crate::specs::Curve::eased))]
 fn quart_in_out(t: f32) -> f32
     ensures { result ≡ eased QuartInOut t }
 {
@@ -89,6 +81,7 @@ fn quart_in_out(t: f32) -> f32
     in_out(t, 8.0 * t * t * t * t, u * u * u * u)
 }
 
+#[tactic(auto, unfolding(crate::specs::Curve::eased))]
 fn quint_in_out(t: f32) -> f32
     ensures { result ≡ eased QuintInOut t }
 {
@@ -96,6 +89,7 @@ fn quint_in_out(t: f32) -> f32
     in_out(t, 16.0 * t * t * t * t * t, u * u * u * u * u)
 }
 
+#[tactic(auto, unfolding(crate::specs::Curve::stepped))]
 fn stepped(t: f32) -> f32
     ensures { result ≡ stepped t }
 {
@@ -103,6 +97,7 @@ fn stepped(t: f32) -> f32
 }
 
 // The Bounce curve, of 1.0 - t.
+#[tactic(auto, unfolding(crate::specs::Curve::bounced))]
 fn bounce(t: f32) -> f32
     ensures { result ≡ bounced t }
 {
@@ -122,13 +117,14 @@ fn bounce(t: f32) -> f32
 
 impl CurveType {
     // The fraction t, eased.
+    #[tactic(auto, using(numbers::proofs::StdRoot::std_sqrt), unfolding(crate::specs::Curve::eased))]
     fn ease(self, t: f32) -> f32
         ensures { result ≡ eased self t }
     {
         match self {
             CurveType::Linear => t,
             CurveType::Exponential => t * t,
-            CurveType::Logarithmic => numbers::root::sqrtf(t),
+            CurveType::Logarithmic => t.sqrt(),
             CurveType::SCurve => quad_in_out(t),
             CurveType::Stepped => stepped(t),
             CurveType::Bezier(cp1, cp2) => cubic_bezier(t, cp1, cp2),
@@ -137,7 +133,7 @@ impl CurveType {
                 let s = 1.70158;
                 t * t * ((s + 1.0) * t - s)
             }
-            CurveType::Circular => 1.0 - numbers::root::sqrtf(1.0 - t * t),
+            CurveType::Circular => 1.0 - (1.0 - t * t).sqrt(),
             CurveType::QuadIn => t * t,
             CurveType::QuadOut => 1.0 - (1.0 - t) * (1.0 - t),
             CurveType::QuadInOut => quad_in_out(t),
@@ -163,14 +159,16 @@ impl CurveType {
     }
 
     // The value at the fraction t, which is clamped first, between `start` and `end`.
+    #[tactic(auto, unfolding(crate::specs::Curve::interpolated))]
     pub fn interpolate(self, start: f32, end: f32, t: f32) -> f32
         ensures { result ≡ interpolated self start end t }
     {
-        let t_eased = self.ease(clamp(t));
+        let t_eased = self.ease(t.clamp(0.0, 1.0));
         start + (end - start) * t_eased
     }
 
     // The number of the case on the sheet: 001's order from 0. 6 is Elastic's, which is left out.
+    #[tactic(auto, unfolding(crate::specs::Curve::code))]
     pub fn code(self) -> u32
         ensures { result ≡ code self }
     {
@@ -200,6 +198,7 @@ impl CurveType {
     }
 
     // The curve of a number, back from `code` and `controls`; Linear where it is no curve's.
+    #[tactic(auto, unfolding(crate::specs::Curve::curve_of))]
     pub fn from_code(code: u32, cp1: f32, cp2: f32) -> CurveType
         ensures { result ≡ curve_of code cp1 cp2 }
     {
@@ -235,6 +234,7 @@ impl CurveType {
     }
 
     // The control numbers, 0.0 for each where the curve has none.
+    #[tactic(auto, unfolding(crate::specs::Curve::controls))]
     pub fn controls(self) -> Controls
         ensures { result ≡ controls self }
     {
@@ -246,19 +246,11 @@ impl CurveType {
     }
 
     // Whether both control numbers are finite.
+    #[tactic(auto, unfolding(crate::specs::Curve::finite_controls))]
     pub fn is_finite(self) -> bool
         ensures { result ≡ finite_controls self }
     {
         let c = self.controls();
-        numbers::order::is_finitef(c.cp1) & numbers::order::is_finitef(c.cp2)
-    }
-
-    // Rust's derived `==`.
-    pub fn eq(self, other: CurveType) -> bool
-        ensures { result ≡ same_curve self other }
-    {
-        let a = self.controls();
-        let b = other.controls();
-        (self.code() == other.code()) & (a.cp1 == b.cp1) & (a.cp2 == b.cp2)
+        c.cp1.is_finite() & c.cp2.is_finite()
     }
 }

@@ -1,12 +1,13 @@
 -- `narrow` of an `f64` read from its pattern b: by the exponent's field, the pattern of the result. Assumes nothing.
 -- The field is j + 1, the digits with the leading one are D = 2 ^ 52 + t, and the value is D * 2 ^ j / 2 ^ 1074.
-use Rattle.std.proofs.Common.{◌≡◌, ℕ, zero, suc, ◌+◌, ◌-◌, ◌*◌, ◌/◌, ◌%◌, ◌^◌, ◌<◌, ◌≤◌, Bool, true, false, cond, not, T, eqb, leb, ◌⊎◌, sym, refl, ap, ◌∙◌, subst, inl, inr, le_trans, lt_of_lt_of_le, le_of_suc-le-suc, add-zero, lt_irrefl, mod-lt, mod-eq_of_lt, eq-or-lt_of_le, zero-add, arith, lit<, lit≤, pow_pos, pow_mono, ne_eqb}
+use Rattle.std.proofs.Common.{◌≡◌, ℕ, zero, suc, ◌+◌, ◌-◌, ◌*◌, ◌/◌, ◌%◌, ◌^◌, ◌<◌, ◌≤◌, Bool, true, false, cond, not, T, eqb, leb, ◌⊎◌, sym, refl, ap, ◌∙◌, subst, inl, inr, le_trans, lt_of_lt_of_le, le_of_suc-le-suc, add-zero, lt_irrefl, mod-lt, mod-eq_of_lt, eq-or-lt_of_le, zero-add, arith, lit<, lit≤, leb→le, pow_pos, pow_mono, ne_eqb}
 use lib.Pow.{field}
 use lib.Ieee.{Float, nan, inf, fin, binary32, binary64, up, down, odd, round, of_fields, of_bits, to_bits, is_nan, fits}
 use lib.Ieee.Fits.{down_pos, round-fits, nan-fits, inf-fits}
 use lib.Ieee.Exact.{HasValue, odd_sign}
 use lib.Ieee.Scale.{round_same}
 use lib.Ieee.Nearest.{closest}
+use lib.Dec.{nleb→lt}
 use borrow.Author.Tests.{lt-leb}
 use Rattle.numbers.specs.Narrow.{narrow}
 use Rattle.numbers.proofs.Closest.{carried, closest_zero}
@@ -211,3 +212,17 @@ plain b lo hi =
     split : (b e t D : ℕ) → e ≡ b / 4503599627370496 → t ≡ b % 4503599627370496 → D ≡ 4503599627370496 + t → 897 ≤ e
         → b ≡ ((896 + (e - 897)) * 8388608 + D / 536870912) * 536870912 + D % 536870912
     split b e t D p q r l = omega arith
+
+-- ---- the highest bit of a pattern of 64
+pub bit : (b : ℕ) → b < 2 * 2 ^ 63 → b / 2 ^ 63 ≡ cond (leb (2 ^ 63) b) 1 0
+bit b h = go (leb (2 ^ 63) b) (leb→le (2 ^ 63) b) (nleb→lt (2 ^ 63) b)
+  where
+    above : (n : ℕ) → n < 2 * 9223372036854775808 → 9223372036854775808 ≤ n → n / 9223372036854775808 ≡ 1
+    above n a c = omega arith
+
+    under : (n : ℕ) → n < 9223372036854775808 → n / 9223372036854775808 ≡ 0
+    under n a = omega arith
+
+    go : (a : Bool) → (T a → 2 ^ 63 ≤ b) → (T (not a) → b < 2 ^ 63) → b / 2 ^ 63 ≡ cond a 1 0
+    go true p q = above b h (p tt)
+    go false p q = under b (q tt)

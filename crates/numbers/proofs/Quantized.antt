@@ -5,12 +5,14 @@ use lib.Dec.{eqb-suc-zero}
 use lib.Ieee.{Float, nan, inf, fin, Format, binary64, up, down, round, mul, div, le, lt, eq, is_nan}
 use lib.Ieee.Fits.{up_pos, down_pos, mul-fits}
 use lib.Ieee.Nearest.{div_mono}
+use Rattle.std.specs.Float.{round_with}
 use Rattle.numbers.specs.Whole.{round_away, nearest_multiple}
 use Rattle.numbers.specs.Bounds.{finite}
 use Rattle.numbers.specs.Order.{before, order_key}
 use Rattle.numbers.proofs.OrderLaws.{before_key}
 use Rattle.numbers.proofs.BitLaws.{zero_bits}
 use Rattle.numbers.proofs.Compare.{finite_number}
+use Rattle.numbers.proofs.Halves.{away_is}
 use Rattle.numbers.specs.Promised.{KeepsOrder}
 use Rattle.numbers.proofs.Rounds.{Rounds, keeps_order, gives_number}
 
@@ -34,12 +36,12 @@ half_cross a p b q P Q l = mul-le-mul_right 1 (div_mono (2 * a + p) (2 * p) (2 *
 -- ---- the three operations
 
 rounding : (f : Format) → Rounds f (round_away f)
-unfolding round_away
+unfolding round_with
 rounding f = record {
   num = λ m e. (2 * (m * up e) + down e) / (2 * down e);
   den = λ e. 1;
   at_inf = λ s. refl;
-  at_fin = λ s m e. refl;
+  at_fin = away_is f;
   above = λ e. zero-lt-suc 0;
   cross = λ m k e c. half_cross (m * up e) (down e) (k * up c) (down c) (down_pos e) (down_pos c);
 }

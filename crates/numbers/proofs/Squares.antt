@@ -1,5 +1,5 @@
 -- Squares of whole numbers, and the square root cut to a whole number. Assumes nothing.
-use Rattle.std.proofs.Common.{◌≡◌, ℕ, zero, suc, ◌+◌, ◌*◌, ◌/◌, ◌^◌, ◌<◌, ◌≤◌, Bool, true, false, cond, not, T, leb, sym, refl, ap, ◌∙◌, subst, zero-le, le_trans, le_of_eq, lt_of_lt_of_le, lt_of_le_of_lt, mul_assoc, mul_comm, div-lt_iff_lt-mul, add-mul, mul-le-mul, le_antisymm, one-mul, lt_of_not-le, mul-one, mul-add, not-le_of_lt, mul_left_comm, add-one, arith, leb→le}
+use Rattle.std.proofs.Common.{◌≡◌, ℕ, zero, suc, ◌+◌, ◌*◌, ◌/◌, ◌^◌, ◌<◌, ◌≤◌, Bool, true, false, cond, not, T, leb, sym, refl, ap, ◌∙◌, subst, le_trans, le_of_eq, lt_of_lt_of_le, mul_assoc, mul_comm, div-lt_iff_lt-mul, add-mul, mul-le-mul, one-mul, lt_of_not-le, mul-one, mul-add, not-le_of_lt, mul_left_comm, arith, leb→le}
 use native.Mathlib.Nat.{pow-succ'}
 use lib.Dec.{nleb→lt}
 use lib.Ieee.{size}
@@ -9,9 +9,6 @@ use Rattle.numbers.specs.Root.{root_in, root}
 -- of two squares, the smaller has the smaller root
 pub root_lt : (a b : ℕ) → a * a < b * b → a < b
 root_lt a b h = lt_of_not-le (λ (g : b ≤ a). not-le_of_lt h (mul-le-mul g g))
-
-pub below : (r b n c : ℕ) → r * r ≤ n → n < c → c ≡ b * b → r < b
-below r b n c h k e = root_lt r b (lt_of_le_of_lt h (subst (λ (x : ℕ). n < x) e k))
 
 -- r is the root of n, cut
 abbrev pub Cut : ℕ → ℕ → Type 0
@@ -29,42 +26,6 @@ square_twice x = mul_assoc 2 x (2 * x) ∙ ap (λ (y : ℕ). 2 * y) (mul_left_co
   where
     go : (s : ℕ) → 2 * (2 * s) ≡ 4 * s
     go s = omega arith
-
--- ---- r is the root of n, rounded: n lies between the squares of r less a half and of r and a half
-abbrev pub Near : ℕ → ℕ → Type 0
-Near n r = (n ≤ r * r + r) × (r * r < n + r)
-
-near_below : (n q b : ℕ) → Near n q → n ≤ b * b + b → q ≤ b
-near_below n zero b h l = zero-le
-near_below n (suc p) b h l = lt_of_not-le (λ (g : b ≤ p). clash n p b (p * p) (b * b) (suc p * suc p) (ap (λ (x : ℕ). x * x) (sym (add-one p)) ∙ square_next p) h.1 l g (mul-le-mul g g))
-  where
-    clash : (n p b P B Q : ℕ) → Q ≡ P + 2 * p + 1 → Q < n + suc p → n ≤ B + b → b ≤ p → B ≤ P → ⊥
-    clash n p b P B Q e h l g k = omega arith
-
-near_unique : (n q r : ℕ) → Near n q → Near n r → q ≡ r
-near_unique n q r a b = le_antisymm (near_below n q r a b.0) (near_below n r q b a.0)
-
-pub near_lt : (n q b : ℕ) → Near n q → n < b * b → q ≤ b
-near_lt n q b h l = near_below n q b h (go n (b * b) b l)
-  where
-    go : (n B b : ℕ) → n < B → n ≤ B + b
-    go n B b l = omega arith
-
--- from the root that is cut: up to r and a half it stays
-pub near_stays : (n r q : ℕ) → Cut n r → 0 < r → Near n q → n ≤ r * r + r → q ≡ r
-near_stays n r q c p w g = near_unique n q r w (g, go n r (r * r) p c.0)
-  where
-    go : (n r R : ℕ) → 0 < r → R ≤ n → R < n + r
-    go n r R p h = omega arith
-
-pub near_moves : (n r q : ℕ) → Cut n r → Near n q → r * r + r < n → q ≡ r + 1
-near_moves n r q c w g = near_unique n q (r + 1) w (go n r (r * r) ((r + 1) * (r + 1)) (square_next r) c.1, up n r (r * r) ((r + 1) * (r + 1)) (square_next r) g)
-  where
-    go : (n r R S : ℕ) → S ≡ R + 2 * r + 1 → n < S → n ≤ S + (r + 1)
-    go n r R S e h = omega arith
-
-    up : (n r R S : ℕ) → S ≡ R + 2 * r + 1 → R + r < n → S < n + (r + 1)
-    up n r R S e h = omega arith
 
 -- ---- `root_in`
 step : (n s : ℕ) → Cut (n / 4) s → Cut n (cond (leb ((2 * s + 1) * (2 * s + 1)) n) (2 * s + 1) (2 * s))

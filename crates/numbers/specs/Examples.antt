@@ -1,7 +1,7 @@
 -- Worked cases, each computed from the definitions: a float is given by its bit pattern. P11 and P14 are 01's proved examples; the others are those of docs/ROUNDING.md.
 use Rattle.std.specs.Prelude.{◌≡◌, ℕ, true, pos, refl, Float}
-use Rattle.std.specs.Float.{binary32, binary64}
-use Rattle.std.specs.Float.Ieee.{of_int, to_unsigned, of_bits, to_bits, mul, is_nan, lt}
+use Rattle.std.specs.Float.{binary32, binary64, round_with}
+use Rattle.std.specs.Float.Ieee.{of_int, to_unsigned, of_bits, to_bits, round, mul, is_nan, lt}
 use Rattle.numbers.specs.Narrow.{narrow}
 use Rattle.numbers.specs.Whole.{round_away}
 use Rattle.numbers.specs.Root.{sqrt}
@@ -17,17 +17,17 @@ bits = to_bits binary32
 
 -- -2.5 gives -3, which is P8's rounding
 pub half_away : bits (round_away binary32 (f32 0xC020_0000)) ≡ 0xC040_0000
-unfolding round_away of_bits to_bits
+unfolding round_with of_bits to_bits round
 half_away = refl
 
 -- 0.49999997, the last below a half, gives 0.0
 pub below_half : bits (round_away binary32 (f32 0x3EFF_FFFF)) ≡ 0
-unfolding round_away of_bits to_bits
+unfolding round_with of_bits to_bits round
 below_half = refl
 
 -- -0.3 gives -0.0
 pub sign_kept : bits (round_away binary32 (f32 0xBE99_999A)) ≡ 0x8000_0000
-unfolding round_away of_bits to_bits
+unfolding round_with of_bits to_bits round
 sign_kept = refl
 
 -- P11: 16,777,219 gives 16,777,220

@@ -5,21 +5,6 @@ ghost use Rattle.std.specs.Float.{binary32, binary64};
 ghost use Rattle.std.specs.Float.Ieee.Nearest.{closest};
 ghost use Rattle.numbers.specs.Narrow.{narrow};
 
-// x cut towards zero: a NaN and negatives give 0, too large gives 2^64 - 1. Rust's `x as u64`.
-pub fn f64_to_u64(x: f64) -> u64
-    ensures { result ≡ Ieee.to_unsigned 64 x }
-{
-    if x > -1.0 {
-        if x < 18446744073709551616.0 {
-            std::num::truncating_f64_to_u64(x)
-        } else {
-            0xffff_ffff_ffff_ffff
-        }
-    } else {
-        0
-    }
-}
-
 // n / 2^k to the nearest whole number, a tie to the even one: to the remainder r come one less than
 // half of 2^k and the quotient's last digit, which carries into the quotient q where it moves up.
 fn nearest_shr(n: u64, k: u64) -> u64

@@ -5,8 +5,7 @@ use lib.Ieee.{Float, binary32, binary64, of_fields, of_bits, to_bits, is_nan}
 use lib.Ieee.Nearest.{closest}
 use Rattle.numbers.specs.Narrow.{narrow}
 use Rattle.numbers.proofs.Closest.{closest_le}
-use Rattle.numbers.proofs.Signs.{bit}
-use Rattle.numbers.proofs.Narrowing.{sign, s, e, t, read, t_lt, huge, medium, little, tiny}
+use Rattle.numbers.proofs.Narrowing.{bit, sign, s, e, t, read, t_lt, huge, medium, little, tiny}
 use Rattle.numbers.proofs.convert.narrow_bits.Goals as goal
 
 sign_is : (b : ℕ) → b < 2 ^ 64 → b / 2 ^ 63 * 2147483648 ≡ sign (s b)

@@ -1,7 +1,0 @@
--- `curve::quint_in_out` meets its contract, by what `in_out` ensures. Assumes nothing.
-use Rattle.curve.specs.Curve.{eased}
-use Rattle.curve.proofs.quint_in_out.Goals as goal
-
-pub returns : goal.returns
-unfolding eased
-returns c = rw c.in_out.ensures
