@@ -93,7 +93,7 @@ impl Bounds {
     fn range(self) -> Range
         ensures { range_told result ≡ gives (as_range self) }
     {
-        if numbers::order::is_finitef(self.low) {
+        if self.low.is_finite() {
             Range::Pair(self.low, self.high)
         } else {
             Range::None
@@ -158,7 +158,7 @@ pub fn get_range(
     ensures { range_told result ≡ get_range points enabled limits start_time end_time }
 {
     if lookup::is_valid(points, limits) {
-        if numbers::order::is_finite(start_time) & numbers::order::is_finite(end_time) {
+        if start_time.is_finite() & end_time.is_finite() {
             times_range(points, enabled, limits, start_time, end_time)
                 .inside(points, start_time, end_time)
                 .range()

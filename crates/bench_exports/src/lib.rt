@@ -46,28 +46,28 @@ pub extern "C" fn rattle_u64_to_f32(n: u64) -> f32
 pub extern "C" fn rattle_f64_to_u64(x: f64) -> u64
     ensures { result ≡ to_unsigned 64 x }
 {
-    numbers::convert::f64_to_u64(x)
+    std::num::saturating_f64_to_u64(x)
 }
 
 #[unsafe(no_mangle)]
 pub extern "C" fn rattle_round(x: f64) -> f64
     ensures { result ≡ round_away binary64 x }
 {
-    numbers::rounding::round(x)
+    x.round()
 }
 
 #[unsafe(no_mangle)]
 pub extern "C" fn rattle_roundf(x: f32) -> f32
     ensures { result ≡ round_away binary32 x }
 {
-    numbers::rounding::roundf(x)
+    x.round()
 }
 
 #[unsafe(no_mangle)]
 pub extern "C" fn rattle_sqrtf(x: f32) -> f32
     ensures { result ≡ sqrt binary32 x }
 {
-    numbers::root::sqrtf(x)
+    x.sqrt()
 }
 
 // The curves, from 0.25 to 0.75.

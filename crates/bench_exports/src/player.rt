@@ -1,8 +1,8 @@
 // The Player's calls, each so many times on one envelope.
 use crate::made::{limited, made};
 use lookup::Lookup;
-use numbers::bits::to_bitsf;
 use points::refusal::Answer;
+use std::num::f32_to_bits_with_nan;
 
 fn wide(x: u32) -> u64 {
     x as u64
@@ -12,7 +12,7 @@ fn wide(x: u32) -> u64 {
 pub(crate) fn bits(answer: Lookup) -> u64 {
     match answer {
         Lookup::Silent => 0,
-        Lookup::Value(v) => wide(to_bitsf(v)),
+        Lookup::Value(v) => wide(f32_to_bits_with_nan(v)),
         Lookup::Refused(_) => 1,
     }
 }

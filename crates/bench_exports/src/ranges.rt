@@ -2,7 +2,7 @@
 use crate::made::made;
 use crate::player::bits;
 use analysis::{Found, Range};
-use numbers::bits::to_bitsf;
+use std::num::f32_to_bits_with_nan;
 
 fn joined(high: u32, low: u32) -> u64 {
     high as u64 * 4294967296 + low as u64
@@ -12,7 +12,7 @@ fn joined(high: u32, low: u32) -> u64 {
 fn range_bits(answer: Range) -> u64 {
     match answer {
         Range::None => 0,
-        Range::Pair(low, high) => joined(to_bitsf(low), to_bitsf(high)),
+        Range::Pair(low, high) => joined(f32_to_bits_with_nan(low), f32_to_bits_with_nan(high)),
         Range::Refused(_) => 1,
     }
 }

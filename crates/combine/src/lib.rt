@@ -63,7 +63,7 @@ impl Operation {
         ensures { result ≡ finite_operation self }
     {
         match self {
-            Operation::Blend(factor) => numbers::order::is_finitef(factor),
+            Operation::Blend(factor) => factor.is_finite(),
             Operation::Add => true,
             Operation::Multiply => true,
             Operation::Min => true,
@@ -77,7 +77,7 @@ impl Operation {
     {
         match self {
             Operation::Blend(factor) => {
-                let k = curve::clamp(factor);
+                let k = factor.clamp(0.0, 1.0);
                 a * (1.0 - k) + b * k
             }
             Operation::Add => a + b,

@@ -14,13 +14,13 @@ use points::{AutomationPoint, Points, SamplePosition};
 fn same_bits(x: f64, y: f64) -> bool
     ensures { result ≡ same_bits binary64 x y }
 {
-    numbers::bits::to_bits(x) == numbers::bits::to_bits(y)
+    std::num::f64_to_bits_with_nan(x) == std::num::f64_to_bits_with_nan(y)
 }
 
 fn same_bitsf(x: f32, y: f32) -> bool
     ensures { result ≡ same_bits binary32 x y }
 {
-    numbers::bits::to_bitsf(x) == numbers::bits::to_bitsf(y)
+    std::num::f32_to_bits_with_nan(x) == std::num::f32_to_bits_with_nan(y)
 }
 
 fn same_limit(a: Limit, b: Limit) -> bool

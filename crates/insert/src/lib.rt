@@ -117,7 +117,7 @@ pub fn merge(points: Points, other: Points, offset: f64) -> EditedPoints
         refuse(points, Refusal::NotValid)
     } else if !other.is_valid() {
         refuse(points, Refusal::NotValid)
-    } else if !numbers::order::is_finite(offset) {
+    } else if !offset.is_finite() {
         refuse(points, Refusal::NotFinite)
     } else {
         let shifted = map_points(other, Change::Shift(offset));
@@ -185,10 +185,7 @@ pub fn ramp(
 ) -> EditedPoints
     ensures { result ≡ edit_points points (finite duration && finite start && finite end_value && finite_controls curve) (ramp_list duration start end_value curve) }
 {
-    let ok = numbers::order::is_finite(duration)
-        & numbers::order::is_finitef(start)
-        & numbers::order::is_finitef(end_value)
-        & curve.is_finite();
+    let ok = duration.is_finite() & start.is_finite() & end_value.is_finite() & curve.is_finite();
     let first = AutomationPoint::with_curve(0.0, start, CurveType::Linear);
     let last = AutomationPoint::with_curve(duration, end_value, curve);
     if !points.is_valid() {
@@ -225,10 +222,7 @@ pub fn pulse(
 ) -> EditedPoints
     ensures { result ≡ edit_points points (finite fade_in && finite sustain && finite fade_out && finite_controls curve) (pulse_list fade_in sustain fade_out curve) }
 {
-    let ok = numbers::order::is_finite(fade_in)
-        & numbers::order::is_finite(sustain)
-        & numbers::order::is_finite(fade_out)
-        & curve.is_finite();
+    let ok = fade_in.is_finite() & sustain.is_finite() & fade_out.is_finite() & curve.is_finite();
     let a = AutomationPoint::with_curve(0.0, 0.0, CurveType::Linear);
     let b = AutomationPoint::with_curve(fade_in, 1.0, curve);
     let c = AutomationPoint::with_curve(fade_in + sustain, 1.0, CurveType::Linear);

@@ -26,7 +26,7 @@ impl Limit {
     {
         match self {
             Limit::None => true,
-            Limit::Number(x) => numbers::order::is_finitef(x),
+            Limit::Number(x) => x.is_finite(),
         }
     }
 
@@ -79,7 +79,7 @@ impl Limits {
             Limit::None => bounded,
             Limit::Number(s) => {
                 if s > 0.0 {
-                    let stepped = numbers::rounding::roundf(bounded / s) * s;
+                    let stepped = (bounded / s).round() * s;
                     if hard { self.bound(stepped) } else { stepped }
                 } else {
                     bounded

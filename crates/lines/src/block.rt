@@ -55,10 +55,10 @@ fn block_form(t: &[u8; 256], s: &[u8], at: usize) -> BlockForm
 fn block_of(r: RawBlock) -> BlockSaid
     ensures { told_block result ≡ block_meaning r }
 {
-    if !numbers::bits::finite_bits(r.rate) {
+    if !std::num::f64_from_bits_with_nan(r.rate).is_finite() {
         return BlockSaid::Refused(Refusal::NotFinite);
     }
-    if !numbers::bits::finite_bits(r.duration) {
+    if !std::num::f64_from_bits_with_nan(r.duration).is_finite() {
         return BlockSaid::Refused(Refusal::NotFinite);
     }
     BlockSaid::Is(Block {

@@ -118,10 +118,10 @@ fn point_of(r: RawPoint) -> PointSaid
     ensures { told_point result ≡ point_meaning r }
 {
     let position = r.position;
-    if !numbers::bits::finite_bits(r.time) {
+    if !std::num::f64_from_bits_with_nan(r.time).is_finite() {
         return PointSaid::Refused(Refusal::NotFinite);
     }
-    if !numbers::bits::finite_bitsf(r.value) {
+    if !std::num::f32_from_bits_with_nan(r.value).is_finite() {
         return PointSaid::Refused(Refusal::NotFinite);
     }
     if r.curve == NO_CURVE {
@@ -130,10 +130,10 @@ fn point_of(r: RawPoint) -> PointSaid
     if 22 <= r.curve {
         return PointSaid::Refused(Refusal::SheetCurve);
     }
-    if !numbers::bits::finite_bitsf(r.cp1) {
+    if !std::num::f32_from_bits_with_nan(r.cp1).is_finite() {
         return PointSaid::Refused(Refusal::NotFinite);
     }
-    if !numbers::bits::finite_bitsf(r.cp2) {
+    if !std::num::f32_from_bits_with_nan(r.cp2).is_finite() {
         return PointSaid::Refused(Refusal::NotFinite);
     }
     let cp1 = f32::from_bits(r.cp1);

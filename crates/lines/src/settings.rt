@@ -91,7 +91,7 @@ fn finite_bits(p: Optional) -> bool
 {
     match p {
         Optional::None => true,
-        Optional::Bits(b) => numbers::bits::finite_bitsf(b as u32),
+        Optional::Bits(b) => std::num::f32_from_bits_with_nan(b as u32).is_finite(),
     }
 }
 

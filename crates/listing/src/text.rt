@@ -217,7 +217,7 @@ pub fn word_at(s: &[u8], at: usize) -> Word {
 // A field of an f32.
 pub fn single_at(s: &[u8], at: usize) -> Single {
     match hexadecimal(s, at, 8) {
-        Word::Is(b, next) => Single::Is(numbers::bits::from_bitsf(b as u32), next),
+        Word::Is(b, next) => Single::Is(std::num::f32_from_bits_with_nan(b as u32), next),
         Word::Bad => Single::Bad,
     }
 }
@@ -225,7 +225,7 @@ pub fn single_at(s: &[u8], at: usize) -> Single {
 // A field of an f64.
 pub fn double_at(s: &[u8], at: usize) -> Double {
     match hexadecimal(s, at, 16) {
-        Word::Is(b, next) => Double::Is(numbers::bits::from_bits(b), next),
+        Word::Is(b, next) => Double::Is(std::num::f64_from_bits_with_nan(b), next),
         Word::Bad => Double::Bad,
     }
 }
@@ -254,13 +254,13 @@ pub fn two_singles_at(s: &[u8], at: usize) -> Singles {
 pub fn same_single(x: f32, y: f32) -> bool
     ensures { (result ≡ true → x ≡ y) × (x ≡ y → result ≡ true) }
 {
-    numbers::bits::to_bitsf(x) == numbers::bits::to_bitsf(y)
+    std::num::f32_to_bits_with_nan(x) == std::num::f32_to_bits_with_nan(y)
 }
 
 pub fn same_double(x: f64, y: f64) -> bool
     ensures { (result ≡ true → x ≡ y) × (x ≡ y → result ≡ true) }
 {
-    numbers::bits::to_bits(x) == numbers::bits::to_bits(y)
+    std::num::f64_to_bits_with_nan(x) == std::num::f64_to_bits_with_nan(y)
 }
 
 // The place after a field that says y. A zero marked `~` says either zero.

@@ -4,7 +4,7 @@ use listing::text::{
     Double, Doubles, Outcome, Single, Singles, Word, after, answers_double, answers_single,
     answers_word, call_among, double_at, ended, single_at, two_doubles_at, two_singles_at, word_at,
 };
-use numbers::order::Ordering;
+use std::cmp::Ordering;
 
 pub fn run(s: &[u8], at: usize) -> Outcome {
     match call_among(s, at, b"roundf round sqrtf square narrow ") {
@@ -32,28 +32,28 @@ fn roundf(s: &[u8], at: usize) -> Outcome {
     let Single::Is(x, next) = single_at(s, at) else {
         return Outcome::Differs;
     };
-    answers_single(s, next, numbers::rounding::roundf(x))
+    answers_single(s, next, x.round())
 }
 
 fn round(s: &[u8], at: usize) -> Outcome {
     let Double::Is(x, next) = double_at(s, at) else {
         return Outcome::Differs;
     };
-    answers_double(s, next, numbers::rounding::round(x))
+    answers_double(s, next, x.round())
 }
 
 fn sqrtf(s: &[u8], at: usize) -> Outcome {
     let Single::Is(x, next) = single_at(s, at) else {
         return Outcome::Differs;
     };
-    answers_single(s, next, numbers::root::sqrtf(x))
+    answers_single(s, next, x.sqrt())
 }
 
 fn square(s: &[u8], at: usize) -> Outcome {
     let Single::Is(x, next) = single_at(s, at) else {
         return Outcome::Differs;
     };
-    answers_single(s, next, numbers::root::square(x))
+    answers_single(s, next, x * x)
 }
 
 fn narrow(s: &[u8], at: usize) -> Outcome {
@@ -74,7 +74,7 @@ fn f64_to_u64(s: &[u8], at: usize) -> Outcome {
     let Double::Is(x, next) = double_at(s, at) else {
         return Outcome::Differs;
     };
-    answers_word(s, next, numbers::convert::f64_to_u64(x))
+    answers_word(s, next, std::num::saturating_f64_to_u64(x))
 }
 
 fn total_cmp(s: &[u8], at: usize) -> Outcome {

@@ -65,7 +65,7 @@ pub fn open(s: &[u8], out: &mut [u8; 20480]) -> Opened
     match answer {
         SheetAnswer::Refused(why, line) => refused(why, line, out),
         SheetAnswer::Accepted => {
-            let count = numbers::convert::f64_to_u64(r.duration * r.rate);
+            let count = std::num::saturating_f64_to_u64(r.duration * r.rate);
             if MOST_SAMPLES < count {
                 return refused(Refusal::TooManySamples, 0, out);
             }

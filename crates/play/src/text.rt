@@ -22,7 +22,7 @@ fn put_line(out: &mut [u8], at: usize, number: u32, x: f32) -> usize
     ensures { Put out.old at (sample_line number x) out.new result }
 {
     let a = fields::write::fit_decimal(&mut *out, at, number, b' ');
-    fields::write::fit_bits(&mut *out, a, numbers::bits::to_bitsf(x), b'\n')
+    fields::write::fit_bits(&mut *out, a, std::num::f32_to_bits_with_nan(x), b'\n')
 }
 
 // The lines of the first n samples, numbered from `first` on.

@@ -75,9 +75,7 @@ impl AutomationPoint {
         ensures { result ≡ finite_point self }
     {
         let c = self.curve;
-        numbers::order::is_finite(self.time)
-            & numbers::order::is_finitef(self.value)
-            & c.is_finite()
+        self.time.is_finite() & self.value.is_finite() & c.is_finite()
     }
 
     pub fn is_unused(self) -> bool
@@ -105,7 +103,7 @@ impl AutomationPoint {
     {
         let c = self.curve;
         let d = other.curve;
-        self.same(other) & c.eq(d)
+        self.same(other) & (c == d)
     }
 
     // 000's PartialEq: the curve aside.

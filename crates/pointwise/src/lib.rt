@@ -137,7 +137,7 @@ impl Change {
             Change::Shift(offset) => with_time(p, p.time + offset),
             Change::ScaleTime(factor) => with_time(p, p.time * factor),
             Change::Reflect(max_time) => with_time(p, max_time - p.time),
-            Change::Quantize(grid) => with_time(p, numbers::rounding::round(p.time / grid) * grid),
+            Change::Quantize(grid) => with_time(p, (p.time / grid).round() * grid),
             Change::Invert(min, max) => with_value(p, max - (p.value - min)),
             Change::Normalize(low, range, new_min, new_range) => {
                 with_value(p, new_min + (p.value - low) / range * new_range)
@@ -242,17 +242,13 @@ fn keep(points: Points, ok: bool) -> EditedPoints
 pub fn shift_points(points: Points, offset: f64) -> EditedPoints
     ensures { result ≡ edit_points points (finite offset) (map (changed (Shift offset)) (list_of points)) }
 {
-    edit_each(
-        points,
-        numbers::order::is_finite(offset),
-        Change::Shift(offset),
-    )
+    edit_each(points, offset.is_finite(), Change::Shift(offset))
 }
 
 pub fn scale_time(points: Points, factor: f64) -> EditedPoints
     ensures { result ≡ edit_points points (finite factor) (scaled_time factor (list_of points)) }
 {
-    let ok = numbers::order::is_finite(factor);
+    let ok = factor.is_finite();
     if factor > 0.0 {
         edit_each(points, ok, Change::ScaleTime(factor))
     } else {
@@ -263,7 +259,7 @@ pub fn scale_time(points: Points, factor: f64) -> EditedPoints
 pub fn invert_values(points: Points, min: f32, max: f32) -> EditedPoints
     ensures { result ≡ edit_points points (finite min && finite max) (map (changed (Invert min max)) (list_of points)) }
 {
-    let ok = numbers::order::is_finitef(min) & numbers::order::is_finitef(max);
+    let ok = min.is_finite() & max.is_finite();
     edit_each(points, ok, Change::Invert(min, max))
 }
 
@@ -293,7 +289,7 @@ fn value_range(points: Points) -> ValueRange
 pub fn normalize(points: Points, new_min: f32, new_max: f32) -> EditedPoints
     ensures { result ≡ edit_points points (finite new_min && finite new_max) (normalized new_min new_max (list_of points)) }
 {
-    let ok = numbers::order::is_finitef(new_min) & numbers::order::is_finitef(new_max);
+    let ok = new_min.is_finite() & new_max.is_finite();
     let found = value_range(points);
     let range = found.high - found.low;
     if range > 0.0 {
@@ -310,37 +306,25 @@ pub fn normalize(points: Points, new_min: f32, new_max: f32) -> EditedPoints
 pub fn scale(points: Points, factor: f32) -> EditedPoints
     ensures { result ≡ edit_points points (finite factor) (map (changed (Scale factor)) (list_of points)) }
 {
-    edit_each(
-        points,
-        numbers::order::is_finitef(factor),
-        Change::Scale(factor),
-    )
+    edit_each(points, factor.is_finite(), Change::Scale(factor))
 }
 
 pub fn offset(points: Points, amount: f32) -> EditedPoints
     ensures { result ≡ edit_points points (finite amount) (map (changed (Offset amount)) (list_of points)) }
 {
-    edit_each(
-        points,
-        numbers::order::is_finitef(amount),
-        Change::Offset(amount),
-    )
+    edit_each(points, amount.is_finite(), Change::Offset(amount))
 }
 
 pub fn apply_gate(points: Points, threshold: f32) -> EditedPoints
     ensures { result ≡ edit_points points (finite threshold) (map (changed (Gate threshold)) (list_of points)) }
 {
-    edit_each(
-        points,
-        numbers::order::is_finitef(threshold),
-        Change::Gate(threshold),
-    )
+    edit_each(points, threshold.is_finite(), Change::Gate(threshold))
 }
 
 pub fn apply_compression(points: Points, threshold: f32, ratio: f32) -> EditedPoints
     ensures { result ≡ edit_points points (finite threshold && finite ratio) (map (changed (Compress threshold ratio)) (list_of points)) }
 {
-    let ok = numbers::order::is_finitef(threshold) & numbers::order::is_finitef(ratio);
+    let ok = threshold.is_finite() & ratio.is_finite();
     edit_each(points, ok, Change::Compress(threshold, ratio))
 }
 
@@ -378,7 +362,7 @@ fn faded_in_all(points: Points, duration: f64, curve: CurveType) -> Points
 pub fn apply_fade_in(points: Points, duration: f64, curve: CurveType) -> EditedPoints
     ensures { result ≡ edit_points points (finite duration && finite_controls curve) (faded_in_all duration curve (list_of points)) }
 {
-    let ok = numbers::order::is_finite(duration) & curve.is_finite();
+    let ok = duration.is_finite() & curve.is_finite();
     if duration <= 0.0 {
         keep(points, ok)
     } else {
@@ -393,7 +377,7 @@ pub fn apply_fade_in(points: Points, duration: f64, curve: CurveType) -> EditedP
 pub fn apply_fade_out(points: Points, duration: f64, curve: CurveType) -> EditedPoints
     ensures { result ≡ edit_points points (finite duration && finite_controls curve) (faded_out_all duration curve (list_of points)) }
 {
-    let ok = numbers::order::is_finite(duration) & curve.is_finite();
+    let ok = duration.is_finite() & curve.is_finite();
     if duration <= 0.0 {
         keep(points, ok)
     } else {
@@ -414,9 +398,7 @@ pub fn apply_fades(
 ) -> EditedPoints
     ensures { result ≡ edit_points points (finite fade_in_duration && finite fade_out_duration && finite_controls curve) (faded_out_all fade_out_duration curve (faded_in_all fade_in_duration curve (list_of points))) }
 {
-    let ok = numbers::order::is_finite(fade_in_duration)
-        & numbers::order::is_finite(fade_out_duration)
-        & curve.is_finite();
+    let ok = fade_in_duration.is_finite() & fade_out_duration.is_finite() & curve.is_finite();
     let faded = faded_in_all(points, fade_in_duration, curve);
     if fade_out_duration <= 0.0 {
         finish(points, ok, faded)
@@ -434,7 +416,7 @@ pub fn apply_fades(
 pub fn clamp_values(points: Points, min: f32, max: f32) -> EditedPoints
     ensures { result ≡ clamped_edit points min max }
 {
-    let ok = numbers::order::is_finitef(min) & numbers::order::is_finitef(max);
+    let ok = min.is_finite() & max.is_finite();
     let crossed = min > max;
     if crossed {
         if ok {

@@ -92,7 +92,7 @@ impl Segment {
         // its controls stay in registers; the other curves are passed on to the call by reference
         let bezier = self.curve;
         if let CurveType::Bezier(cp1, cp2) = bezier {
-            let t_eased = curve::cubic_bezier(curve::clamp(t), cp1, cp2);
+            let t_eased = curve::cubic_bezier(t.clamp(0.0, 1.0), cp1, cp2);
             limits.apply_constraints(self.start + (self.end - self.start) * t_eased)
         } else {
             let c = self.curve;
@@ -278,7 +278,7 @@ pub fn render(
     ensures out_after { out.new ≡ (render points enabled limits rate first count place out.old).buffer }
 {
     if lookup::is_valid(points, limits) {
-        if numbers::order::is_finite(rate) {
+        if rate.is_finite() {
             run_into(points, enabled, limits, rate, first, count, out, place)
         } else {
             Answer::Refused(Refusal::NotFinite)
@@ -302,8 +302,8 @@ pub fn to_buffer(
     ensures out_after { out.new ≡ (to_buffer points enabled limits rate duration place out.old).buffer }
 {
     if lookup::is_valid(points, limits) {
-        if numbers::order::is_finite(rate) & numbers::order::is_finite(duration) {
-            let count = numbers::convert::f64_to_u64(duration * rate);
+        if rate.is_finite() & duration.is_finite() {
+            let count = std::num::saturating_f64_to_u64(duration * rate);
             run_into(points, enabled, limits, rate, 0, count, out, place)
         } else {
             Answer::Refused(Refusal::NotFinite)
@@ -318,8 +318,8 @@ pub fn iter_samples(points: Points, limits: Limits, rate: f64, duration: f64) ->
     ensures { walk_told result ≡ iter_samples points limits rate duration }
 {
     if lookup::is_valid(points, limits) {
-        if numbers::order::is_finite(rate) & numbers::order::is_finite(duration) {
-            let n = numbers::convert::f64_to_u64(duration * rate);
+        if rate.is_finite() & duration.is_finite() {
+            let n = std::num::saturating_f64_to_u64(duration * rate);
             if n <= MOST_SAMPLES {
                 Walk::Over(SampleIterator {
                     sample_rate: rate,
@@ -351,7 +351,7 @@ impl SampleIterator {
         if !lookup::is_valid(points, limits) {
             return self.stays(Lookup::Refused(Refusal::NotValid));
         }
-        if !numbers::order::is_finite(self.sample_rate) {
+        if !self.sample_rate.is_finite() {
             return self.stays(Lookup::Refused(Refusal::NotFinite));
         }
         if self.total_samples > MOST_SAMPLES {

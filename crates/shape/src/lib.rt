@@ -39,7 +39,7 @@ fn kept_inside(points: Points, start_time: f64, end_time: f64) -> Points
 pub fn trim(points: Points, start_time: f64, end_time: f64) -> EditedPoints
     ensures { result ≡ edit_points points (finite start_time && finite end_time) (keep_if (inside start_time end_time) (list_of points)) }
 {
-    let ok = numbers::order::is_finite(start_time) & numbers::order::is_finite(end_time);
+    let ok = start_time.is_finite() & end_time.is_finite();
     finish(points, ok, kept_inside(points, start_time, end_time))
 }
 
@@ -74,11 +74,7 @@ fn without_first_near(points: Points, time: f64) -> Points
 pub fn remove_point_at(points: Points, time: f64) -> EditedPoints
     ensures { result ≡ edit_points points (finite time) (remove_first (near time) (list_of points)) }
 {
-    finish(
-        points,
-        numbers::order::is_finite(time),
-        without_first_near(points, time),
-    )
+    finish(points, time.is_finite(), without_first_near(points, time))
 }
 
 fn turned(points: Points) -> Points
@@ -142,7 +138,7 @@ fn without_repeats(points: Points) -> Points
 pub fn quantize_time(points: Points, grid: f64) -> EditedPoints
     ensures { result ≡ edit_points points (finite grid) (quantized grid (list_of points)) }
 {
-    let ok = numbers::order::is_finite(grid);
+    let ok = grid.is_finite();
     if grid <= 0.0 {
         finish(points, ok, points)
     } else {
@@ -201,7 +197,7 @@ pub fn simplify(points: Points, tolerance: f32) -> EditedPoints
 {
     finish(
         points,
-        numbers::order::is_finitef(tolerance),
+        tolerance.is_finite(),
         kept_differing(points, tolerance),
     )
 }

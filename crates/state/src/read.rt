@@ -37,7 +37,7 @@ fn limit_of(has: bool, bits: u32) -> Limit
     ensures { result ≡ limit_of has bits }
 {
     if has {
-        Limit::Number(numbers::bits::from_bitsf(bits))
+        Limit::Number(std::num::f32_from_bits_with_nan(bits))
     } else {
         Limit::None
     }
@@ -61,12 +61,12 @@ fn read_point(words: &[u64], at: usize) -> AutomationPoint
     let controls = words[at + 2];
     let value = words[at + 3];
     let tag = high(value);
-    let cp1 = numbers::bits::from_bitsf(low(controls));
-    let cp2 = numbers::bits::from_bitsf(high(controls));
+    let cp1 = std::num::f32_from_bits_with_nan(low(controls));
+    let cp2 = std::num::f32_from_bits_with_nan(high(controls));
     AutomationPoint {
-        time: numbers::bits::from_bits(words[at]),
+        time: std::num::f64_from_bits_with_nan(words[at]),
         sample_position: position_of(bit(1, tag), words[at + 1]),
-        value: numbers::bits::from_bitsf(low(value)),
+        value: std::num::f32_from_bits_with_nan(low(value)),
         curve: CurveType::from_code(tag / 2, cp1, cp2),
     }
 }
@@ -78,7 +78,7 @@ fn same_point(p: AutomationPoint, words: &[u64], at: usize) -> bool
 {
     let position = p.sample_position;
     let curve = p.curve;
-    (numbers::bits::to_bits(p.time) == words[at])
+    (std::num::f64_to_bits_with_nan(p.time) == words[at])
         & ((crate::write::position_word(position) == words[at + 1])
             & ((crate::write::controls_word(curve) == words[at + 2])
                 & (crate::write::value_word(p) == words[at + 3])))

@@ -33,7 +33,7 @@ pub(crate) fn limit_bits(l: Limit) -> u32
 {
     match l {
         Limit::None => 0,
-        Limit::Number(x) => numbers::bits::to_bitsf(x),
+        Limit::Number(x) => std::num::f32_to_bits_with_nan(x),
     }
 }
 
@@ -96,7 +96,10 @@ pub(crate) fn controls_word(curve: CurveType) -> u64
     ensures { result ≡ controls_word curve }
 {
     if let CurveType::Bezier(cp1, cp2) = curve {
-        halves(numbers::bits::to_bitsf(cp2), numbers::bits::to_bitsf(cp1))
+        halves(
+            std::num::f32_to_bits_with_nan(cp2),
+            std::num::f32_to_bits_with_nan(cp1),
+        )
     } else {
         0
     }
@@ -110,7 +113,7 @@ pub(crate) fn value_word(p: AutomationPoint) -> u64
     let position = p.sample_position;
     halves(
         curve.code() * 2 + position_flag(position),
-        numbers::bits::to_bitsf(p.value),
+        std::num::f32_to_bits_with_nan(p.value),
     )
 }
 
@@ -136,7 +139,7 @@ fn put_point(p: AutomationPoint, words: &mut [u64], at: usize)
 {
     let position = p.sample_position;
     let curve = p.curve;
-    words[at] = numbers::bits::to_bits(p.time);
+    words[at] = std::num::f64_to_bits_with_nan(p.time);
     words[at + 1] = position_word(position);
     words[at + 2] = controls_word(curve);
     words[at + 3] = value_word(p);
