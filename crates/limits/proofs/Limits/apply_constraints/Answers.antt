@@ -20,12 +20,12 @@ returns-then-hard c =
     let args = c.args in
     let bound = c.bound-bounded in
     let if1 = c.if-s in
-    let roundf = c.roundf in
+    let round = c.round in
     let l = args.self in
     let step = c.in-Number in
     let s = step.s in
     rw (c.if-hard.true, step.is, if1.true)
-    (c.bound.ensures ∙ ap (λ (b : Float). bounded l (mul binary32 b s)) roundf.ensures ∙ ap (λ (b : Float). bounded l (nearest_multiple binary32 s b)) bound.ensures)
+    (c.bound.ensures ∙ ap (λ (b : Float). bounded l (mul binary32 b s)) round.ensures ∙ ap (λ (b : Float). bounded l (nearest_multiple binary32 s b)) bound.ensures)
 
 pub returns-else-hard : goal.returns-else-hard
 unfolding constrained of_bits
@@ -35,7 +35,7 @@ returns-else-hard c =
     let step = c.in-Number in
     let s = step.s in
     rw (c.if-hard.false, step.is, if1.true)
-    (ap (λ (b : Float). mul binary32 b s) c.roundf.ensures ∙ ap (λ (b : Float). nearest_multiple binary32 s b) bound.ensures)
+    (ap (λ (b : Float). mul binary32 b s) c.round.ensures ∙ ap (λ (b : Float). nearest_multiple binary32 s b) bound.ensures)
 
 pub returns-else-s : goal.returns-else-s
 unfolding constrained of_bits
