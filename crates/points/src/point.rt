@@ -98,6 +98,7 @@ impl AutomationPoint {
     }
 
     // The same curve too.
+    #[tactic(auto, using(curve::proofs::Equal::equal_is))]
     pub(crate) fn same_exact(self, other: AutomationPoint) -> bool
         ensures { result ≡ same_point_exact self other }
     {
