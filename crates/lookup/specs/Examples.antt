@@ -1,4 +1,5 @@
 -- 01's "Proved examples", the part that is the lookups': P1, P2 and P7 to P10. Every point is Linear and has no position; every envelope is enabled.
+use Rattle.std.specs.Float.{round_with}
 use Rattle.std.specs.Prelude.{ℕ, ◌≡◌, refl, true, false, List, [], ◌∷◌, Float}
 use Rattle.std.proofs.Math.Option.{Option, none, some}
 use Rattle.std.specs.Float.{binary64}
@@ -85,22 +86,22 @@ p1 = refl
 
 -- "P2 (0,0),(4,1) at 1: 0.25."
 pub p2 : by_time (rise Linear) free t1 ≡ gives (some (f32 0x3E80_0000))
-unfolding get_value_at valid_points every rising_by found_at surrounded place_by fraction constrained finite finite_controls controls code order_key narrow interpolated eased clamped of_bits to_bits round add sub mul div lt le
+unfolding get_value_at valid_points every rising_by found_at surrounded place_by fraction constrained finite finite_controls controls code order_key narrow interpolated eased of_bits to_bits round add sub mul div lt le
 p2 = refl
 
 -- "P7 maximum 1, step 0.625, value 1: 1.25."
 pub p7 : by_time (at t0 f1 ∷ []) (limits (limit.Number f1) (limit.Number (f32 0x3F20_0000))) t0 ≡ gives (some (f32 0x3FA0_0000))
-unfolding get_value_at valid_points every rising_by found_at constrained finite finite_controls controls code of_bits min_num round_away round is_nan mul div lt
+unfolding get_value_at valid_points every rising_by found_at constrained finite finite_controls controls code of_bits min_num round_with round is_nan mul div lt
 p7 = refl
 
 -- F-1: "P7's sibling with hard (1.0)"
 pub p7_hard : by_time (at t0 f1 ∷ []) (hardened (limits (limit.Number f1) (limit.Number (f32 0x3F20_0000)))) t0 ≡ gives (some f1)
-unfolding get_value_at valid_points every rising_by found_at constrained finite finite_controls controls code of_bits min_num round_away round is_nan mul div lt
+unfolding get_value_at valid_points every rising_by found_at constrained finite finite_controls controls code of_bits min_num round_with round is_nan mul div lt
 p7_hard = refl
 
 -- "P8 step 1, value −2.5: −3."
 pub p8 : by_time (at t0 (f32 0xC020_0000) ∷ []) (limits limit.None (limit.Number f1)) t0 ≡ gives (some (f32 0xC040_0000))
-unfolding get_value_at valid_points every rising_by found_at constrained finite finite_controls controls code of_bits round_away round mul div lt
+unfolding get_value_at valid_points every rising_by found_at constrained finite finite_controls controls code of_bits round_with round mul div lt
 p8 = refl
 
 -- "P9 alone, −0.0 stays; as the middle of three, at its time, 0.0."
@@ -109,7 +110,7 @@ unfolding get_value_at valid_points every rising_by found_at constrained finite 
 p9_alone = refl
 
 pub p9_middle : by_time (at t0 f1 ∷ at t1 minus_zero ∷ at t2 f1 ∷ []) free t1 ≡ gives (some f0)
-unfolding get_value_at valid_points every rising_by found_at surrounded place_by fraction constrained finite finite_controls controls code order_key narrow interpolated eased clamped of_bits to_bits round add sub mul div lt le
+unfolding get_value_at valid_points every rising_by found_at surrounded place_by fraction constrained finite finite_controls controls code order_key narrow interpolated eased of_bits to_bits round add sub mul div lt le
 p9_middle = refl
 
 -- "P10 times 10 and 20, no positions: sample 5 silent, sample 0 the first value."
