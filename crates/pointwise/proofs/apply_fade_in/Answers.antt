@@ -14,7 +14,7 @@ returns-then-duration c =
     let is_finite = c.is_finite in
     let is-finite2 = c.is_finite-2 in
     let ps = args.points in
-    rw c.if-duration.true (c.keep.ensures ∙ ap (λ (ok : Bool). edit_points ps ok (list_of ps)) (and_both is_finite.ensures is-finite2.ensures))
+    rw c.if-duration.true (c.keep.ensures ∙ ap (λ (ok : Bool). edit_points ps ok (list_of ps)) (and_both is_finite.ensures.value is-finite2.ensures))
 
 pub returns-else-duration : goal.returns-else-duration
 returns-else-duration c =
@@ -26,5 +26,5 @@ returns-else-duration c =
     let d = args.duration in
     let v = args.curve in
     let e = c.first_time.ensures in
-    let ok = and_both is_finite.ensures is-finite2.ensures in
+    let ok = and_both is_finite.ensures.value is-finite2.ensures in
     rw if1.false (c.edit_each.ensures ∙ (λ j. edit_points ps (ok j) (map (changed (FadeIn (e j) d v)) (list_of ps))))

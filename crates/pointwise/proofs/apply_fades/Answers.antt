@@ -19,7 +19,7 @@ returns-then-fade_out_duration c =
     let b = args.fade_out_duration in
     let v = args.curve in
     let len = places ps _ c.well_formed.0 in
-    let ok = and_both (and_both is_finite.ensures is-finite2.ensures) is-finite3.ensures in
+    let ok = and_both (and_both is_finite.ensures.value is-finite2.ensures.value) is-finite3.ensures in
     let risen = c.faded_in_all-faded in
     ends_kept (λ x. faded_out_places b v (faded_in_places a v x)) (λ l. faded_out_all b v (faded_in_all a v l)) (fades_holding a b v) ps risen.result c.finish.ensures.finished ok len
     (fades_kept a b v ps risen.result risen.ensures c.if-fade_out_duration.true)
@@ -36,7 +36,7 @@ returns-else-fade_out_duration c =
     let b = args.fade_out_duration in
     let v = args.curve in
     let len = places ps _ c.well_formed.0 in
-    let ok = and_both (and_both is_finite.ensures is-finite2.ensures) is-finite3.ensures in
+    let ok = and_both (and_both is_finite.ensures.value is-finite2.ensures.value) is-finite3.ensures in
     let risen = c.faded_in_all-faded in
     let last = c.last_time in
     ends_kept (λ x. faded_out_places b v (faded_in_places a v x)) (λ l. faded_out_all b v (faded_in_all a v l)) (fades_holding a b v) ps

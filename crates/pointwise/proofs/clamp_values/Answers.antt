@@ -12,13 +12,13 @@ use Rattle.pointwise.proofs.clamp_values.Goals.{then-crossed+then-ok+else-is_val
 
 pub returns-then-is_valid : goal.returns-then-is_valid
 returns-then-is_valid c =
-    let is-finitef = c.is_finitef in
-    let is-finitef2 = c.is_finitef-2 in
+    let is-finite = c.is_finite in
+    let is-finite2 = c.is_finite-2 in
     let if1 = c.if-crossed in
     let if2 = c.if-ok in
     let is-valid = c.is_valid in
     let args = c.args in
-    let ok = and_both is-finitef.ensures is-finitef2.ensures in
+    let ok = and_both is-finite.ensures.value is-finite2.ensures.value in
     c.refuse.ensures
     ∙ crossed args.points args.min args.max (sym is-valid.ensures ∙ c.if-is_valid.true)
     (sym ok ∙ if2.true) if1.true
@@ -26,12 +26,12 @@ returns-then-is_valid c =
 pub returns : goal.returns
 returns c =
     let args = c.args in
-    let is-finitef = c.is_finitef in
-    let is-finitef2 = c.is_finitef-2 in
+    let is-finite = c.is_finite in
+    let is-finite2 = c.is_finite-2 in
     let ps = args.points in
     let low = args.min in
     let high = args.max in
-    let ok = and_both is-finitef.ensures is-finitef2.ensures in
+    let ok = and_both is-finite.ensures.value is-finite2.ensures.value in
     c.edit_each.ensures ∙ ap (λ (b : Bool). edit_points ps b (map (changed (Clamp low high)) (list_of ps))) ok
     ∙ (elim c.if-crossed.branch [
       | then-crossed+then-ok+else-is_valid w ↦ invalid ps low high (sym w.is_valid.ensures ∙ w.if-is_valid.false)

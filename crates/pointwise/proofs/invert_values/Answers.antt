@@ -1,4 +1,4 @@
 use Rattle.pointwise.proofs.invert_values.Goals as goal
 
 pub returns : goal.returns
-returns c = rw (← c.is_finitef.ensures, ← c.is_finitef-2.ensures) c.edit_each.ensures
+returns c = rw (← c.is_finite.ensures.value, ← c.is_finite-2.ensures.value) c.edit_each.ensures
