@@ -52,19 +52,19 @@ fn block_form(t: &[u8; 256], s: &[u8], at: usize) -> BlockForm
     BlockForm::Is(RawBlock { rate, duration }, next)
 }
 
+#[tactic(auto, unfolding(crate::specs::Lines::block_meaning, crate::specs::Told::told_block))]
 fn block_of(r: RawBlock) -> BlockSaid
     ensures { told_block result ≡ block_meaning r }
 {
-    if !std::num::f64_from_bits_with_nan(r.rate).is_finite() {
+    let rate = std::num::f64_from_bits_with_nan(r.rate);
+    let duration = std::num::f64_from_bits_with_nan(r.duration);
+    if !rate.is_finite() {
         return BlockSaid::Refused(Refusal::NotFinite);
     }
-    if !std::num::f64_from_bits_with_nan(r.duration).is_finite() {
+    if !duration.is_finite() {
         return BlockSaid::Refused(Refusal::NotFinite);
     }
-    BlockSaid::Is(Block {
-        rate: f64::from_bits(r.rate),
-        duration: f64::from_bits(r.duration),
-    })
+    BlockSaid::Is(Block { rate, duration })
 }
 
 // The line at the place: its form, then its meaning.

@@ -114,14 +114,18 @@ fn position_of(p: Optional) -> SamplePosition
 }
 
 // The point that the numbers stand for.
+#[tactic(auto, unfolding(crate::specs::Lines::point_meaning, crate::specs::Told::told_point))]
 fn point_of(r: RawPoint) -> PointSaid
     ensures { told_point result ≡ point_meaning r }
 {
-    let position = r.position;
-    if !std::num::f64_from_bits_with_nan(r.time).is_finite() {
+    let time = std::num::f64_from_bits_with_nan(r.time);
+    let value = std::num::f32_from_bits_with_nan(r.value);
+    let cp1 = std::num::f32_from_bits_with_nan(r.cp1);
+    let cp2 = std::num::f32_from_bits_with_nan(r.cp2);
+    if !time.is_finite() {
         return PointSaid::Refused(Refusal::NotFinite);
     }
-    if !std::num::f32_from_bits_with_nan(r.value).is_finite() {
+    if !value.is_finite() {
         return PointSaid::Refused(Refusal::NotFinite);
     }
     if r.curve == NO_CURVE {
@@ -130,20 +134,18 @@ fn point_of(r: RawPoint) -> PointSaid
     if 22 <= r.curve {
         return PointSaid::Refused(Refusal::SheetCurve);
     }
-    if !std::num::f32_from_bits_with_nan(r.cp1).is_finite() {
+    if !cp1.is_finite() {
         return PointSaid::Refused(Refusal::NotFinite);
     }
-    if !std::num::f32_from_bits_with_nan(r.cp2).is_finite() {
+    if !cp2.is_finite() {
         return PointSaid::Refused(Refusal::NotFinite);
     }
-    let cp1 = f32::from_bits(r.cp1);
-    let cp2 = f32::from_bits(r.cp2);
     let curve = CurveType::from_code(r.curve, cp1, cp2);
-    let sample_position = position_of(position);
+    let sample_position = position_of(r.position);
     PointSaid::Is(AutomationPoint {
-        time: f64::from_bits(r.time),
+        time,
         sample_position,
-        value: f32::from_bits(r.value),
+        value,
         curve,
     })
 }

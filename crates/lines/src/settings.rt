@@ -96,12 +96,12 @@ fn finite_bits(p: Optional) -> bool
 }
 
 fn limit_of(p: Optional) -> Limit
-    requires { (Below (2 ^ 32) p) × (finite_bits p ≡ true) }
+    requires { Below (2 ^ 32) p }
     ensures { result ≡ limit_of p }
 {
     match p {
         Optional::None => Limit::None,
-        Optional::Bits(b) => Limit::Number(f32::from_bits(b as u32)),
+        Optional::Bits(b) => Limit::Number(std::num::f32_from_bits_with_nan(b as u32)),
     }
 }
 

@@ -11,4 +11,4 @@ returns-in-None c = rw c.in-None.is
 
 pub returns-in-Bits : goal.returns-in-Bits
 unfolding finite_bits
-returns-in-Bits c = rw c.in-Bits.is c.finite_bitsf.ensures
+returns-in-Bits c = rw (c.in-Bits.is, c.is_finite.ensures.value, c.f32_from_bits_with_nan.ensures)

@@ -25,25 +25,13 @@ returns-then-not-finite_bits-3 c =
     rw (sym finite-bits.ensures ∙ not-false _ if1.false-raw, sym finite-bits2.ensures ∙ not-false _ if2.false-raw, sym c.finite_bits-3.ensures ∙ not-true _ c.if-not-finite_bits-3.true-raw)
 
 pub limit_of-low-requires : goal.limit_of-low-requires
-limit_of-low-requires c =
-    let pre = c.requires in
-    let finite-bits = c.finite_bits in
-    let if1 = c.if-not-finite_bits in
-    (pre.0, sym finite-bits.ensures ∙ not-false _ if1.false-raw)
+limit_of-low-requires c = c.requires.0
 
 pub limit_of-high-requires : goal.limit_of-high-requires
-limit_of-high-requires c =
-    let pre = c.requires in
-    let finite-bits2 = c.finite_bits-2 in
-    let if2 = c.if-not-finite_bits-2 in
-    (pre.1.0, sym finite-bits2.ensures ∙ not-false _ if2.false-raw)
+limit_of-high-requires c = c.requires.1.0
 
 pub limit_of-grid-requires : goal.limit_of-grid-requires
-limit_of-grid-requires c =
-    let pre = c.requires in
-    let finite-bits3 = c.finite_bits-3 in
-    let if3 = c.if-not-finite_bits-3 in
-    (pre.1.1, sym finite-bits3.ensures ∙ not-false _ if3.false-raw)
+limit_of-grid-requires c = c.requires.1.1
 
 pub returns : goal.returns
 unfolding settings_meaning told_settings
