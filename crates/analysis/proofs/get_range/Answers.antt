@@ -30,7 +30,7 @@ returns-then-is_finite c =
     let a = c.args in
     let values = values_at_times a.points a.enabled a.limits a.start_time a.end_time 101 in
     let raw = raw_inside a.start_time a.end_time (list_of a.points) in
-    rw (sym is-valid.ensures ∙ if1.true, sym (and_both is_finite.ensures is-finite2.ensures) ∙ if2.true)
+    rw (sym is-valid.ensures ∙ if1.true, sym (and_both is_finite.ensures.value is-finite2.ensures.value) ∙ if2.true)
     (c.range.ensures
     ∙ ap (λ (b : Bounds). gives (as_range b)) (c.inside.ensures ∙ ap (λ (b : Bounds). foldl widen b raw) times-range.ensures ∙ sym (foldl-append widen no_values values raw))
     ∙ ap gives (range_is (values ++ raw)))
@@ -41,7 +41,7 @@ returns-else-is_finite c =
     let is-valid = c.is_valid in
     let if1 = c.if-is_valid in
     let is_finite = c.is_finite in
-    rw (sym is-valid.ensures ∙ if1.true, sym (and_both is_finite.ensures c.is_finite-then-is_valid.ensures) ∙ c.if-is_finite.false)
+    rw (sym is-valid.ensures ∙ if1.true, sym (and_both is_finite.ensures.value c.is_finite-then-is_valid.ensures.value) ∙ c.if-is_finite.false)
 
 pub returns-else-is_valid : goal.returns-else-is_valid
 unfolding get_range

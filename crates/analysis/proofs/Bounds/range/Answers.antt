@@ -2,8 +2,8 @@
 use mathlib.Core.Path.{sym, ◌∙◌}
 use Rattle.analysis.proofs.Bounds.range.Goals as goal
 
-pub returns-then-is_finitef : goal.returns-then-is_finitef
-returns-then-is_finitef c = rw (sym c.is_finitef.ensures ∙ c.if-is_finitef.true)
+pub returns-then-is_finite : goal.returns-then-is_finite
+returns-then-is_finite c = rw (sym c.is_finite.ensures.value ∙ c.if-is_finite.true)
 
-pub returns-else-is_finitef : goal.returns-else-is_finitef
-returns-else-is_finitef c = rw (sym c.is_finitef.ensures ∙ c.if-is_finitef.false)
+pub returns-else-is_finite : goal.returns-else-is_finite
+returns-else-is_finite c = rw (sym c.is_finite.ensures.value ∙ c.if-is_finite.false)
