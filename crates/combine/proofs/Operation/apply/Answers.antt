@@ -8,7 +8,7 @@ pub returns-in-Blend : goal.returns-in-Blend
 returns-in-Blend c =
     let args = c.args in
     let self = c.in-Blend in
-    rw self.is (ap (λ (k : Float). args.a *ᶠ (f1 -ᶠ k) +ᶠ args.b *ᶠ k) c.clamp-k.ensures)
+    rw self.is (ap (λ (k : Float). args.a *ᶠ (f1 -ᶠ k) +ᶠ args.b *ᶠ k) c.clamp-k.ensures.value)
 
 pub returns-in-Add : goal.returns-in-Add
 returns-in-Add c = rw c.in-Add.is

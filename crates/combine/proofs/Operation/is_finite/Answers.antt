@@ -2,4 +2,4 @@
 use Rattle.combine.proofs.Operation.is_finite.Goals as goal
 
 pub returns-in-Blend : goal.returns-in-Blend
-returns-in-Blend c = rw c.in-Blend.is c.is_finitef.ensures
+returns-in-Blend c = rw c.in-Blend.is c.is_finite.ensures.value
