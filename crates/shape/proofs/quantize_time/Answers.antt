@@ -20,7 +20,7 @@ pub returns-then-grid : goal.returns-then-grid
 returns-then-grid c =
     let is_finite = c.is_finite-ok in
     let ps = c.args.points in
-    ends_same ps c.finish.ensures.finished is_finite.ensures (places ps _ c.well_formed.0)
+    ends_same ps c.finish.ensures.finished is_finite.ensures.value (places ps _ c.well_formed.0)
     ∙ ap (edit_points ps (finite c.args.grid)) (sym (quantized_stays c.args.grid (list_of ps) c.if-grid.true))
 
 pub returns-else-grid : goal.returns-else-grid
@@ -31,7 +31,7 @@ returns-else-grid c =
     let ps = c.args.points in
     let grid = c.args.grid in
     let len = places ps _ c.well_formed.0 in
-    ends_quantized ps c.without_repeats.result grid c.finish-else-grid.ensures.finished is_finite.ensures
+    ends_quantized ps c.without_repeats.result grid c.finish-else-grid.ensures.finished is_finite.ensures.value
     if1.false (times_fit ps _ c.well_formed.0)
     (λ v. c.without_repeats.ensures ∙ ap (λ (k : List AutomationPoint). holding (without_repeats k)) (ap list_of map-points.ensures ∙ mapped_list (changed (Quantize grid)) ps v len))
     ∙ ap (λ (b : Bool). edit_points ps (finite grid) (cond b (list_of ps) (firsts (map (changed (Quantize grid)) (list_of ps))))) (sym if1.false)

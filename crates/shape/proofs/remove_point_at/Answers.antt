@@ -9,4 +9,4 @@ returns c =
     let is_finite = c.is_finite in
     let ps = args.points in
     let q = near args.time in
-    ends ps c.without_first_near.result (remove_first q (list_of ps)) c.finish.ensures.finished is_finite.ensures c.without_first_near.ensures
+    ends ps c.without_first_near.result (remove_first q (list_of ps)) c.finish.ensures.finished is_finite.ensures.value c.without_first_near.ensures

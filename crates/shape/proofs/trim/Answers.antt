@@ -12,4 +12,4 @@ returns c =
     let ps = args.points in
     let q = inside args.start_time args.end_time in
     ends ps c.kept_inside.result (keep_if q (list_of ps)) c.finish.ensures.finished
-    (and_both is_finite.ensures is-finite2.ensures) c.kept_inside.ensures
+    (and_both is_finite.ensures.value is-finite2.ensures.value) c.kept_inside.ensures
