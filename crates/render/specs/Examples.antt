@@ -29,7 +29,7 @@ sheet = holding (rise Linear)
 
 -- 01's output, written from place 1 of five; the other places stay
 pub sheet_played : to_buffer sheet true free t1 t3 1 (f1 ∷ f1 ∷ f1 ∷ f1 ∷ f1 ∷ []) ≡ record { said = gives tt; buffer = f1 ∷ f0 ∷ f32 0x3E80_0000 ∷ f0·5 ∷ f1 ∷ [] }
-unfolding to_buffer run_into run valid_points every rising_by found_at surrounded place_by fraction constrained finite finite_controls controls code order_key narrow interpolated eased clamped of_bits to_bits to_unsigned of_int round add sub mul div lt le
+unfolding to_buffer run_into run valid_points every rising_by found_at surrounded place_by fraction constrained finite finite_controls controls code order_key narrow interpolated eased of_bits to_bits to_unsigned of_int round add sub mul div lt le
 sheet_played = refl
 
 -- "3 samples at place 2 of 4"

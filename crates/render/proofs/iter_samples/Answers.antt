@@ -1,5 +1,5 @@
 -- `render::iter_samples` meets its contract: each way out is a law: refusal 1 is `open_invalid`, 3 `open_infinite`, 13 `open_too_many`,
--- and the walk is `opened`, with the count that `f64_to_u64` ensures.
+-- and the walk is `opened`, with the count that `saturating_f64_to_u64` ensures.
 use mathlib.Core.Path.{sym, ◌∙◌}
 use Rattle.numbers.proofs.Tests.{and_both}
 use Rattle.render.proofs.RenderLaws.{open_invalid, open_infinite, open_too_many, opened}
@@ -15,7 +15,7 @@ returns-then-n-le-MOST_SAMPLES c =
     let if2 = c.if-is_finite in
     sym
     (opened args.points args.limits args.rate args.duration (sym is-valid.ensures ∙ if1.true)
-    (sym (and_both is_finite.ensures is-finite2.ensures) ∙ if2.true) c.f64_to_u64-n.result c.f64_to_u64-n.ensures c.if-n-le-MOST_SAMPLES.true)
+    (sym (and_both is_finite.ensures.value is-finite2.ensures.value) ∙ if2.true) c.saturating_f64_to_u64-n.result c.saturating_f64_to_u64-n.ensures c.if-n-le-MOST_SAMPLES.true)
 
 pub returns-else-n-le-MOST_SAMPLES : goal.returns-else-n-le-MOST_SAMPLES
 returns-else-n-le-MOST_SAMPLES c =
@@ -27,7 +27,7 @@ returns-else-n-le-MOST_SAMPLES c =
     let if2 = c.if-is_finite in
     sym
     (open_too_many args.points args.limits args.rate args.duration (sym is-valid.ensures ∙ if1.true)
-    (sym (and_both is_finite.ensures is-finite2.ensures) ∙ if2.true) c.f64_to_u64-n.result c.f64_to_u64-n.ensures c.if-n-le-MOST_SAMPLES.false)
+    (sym (and_both is_finite.ensures.value is-finite2.ensures.value) ∙ if2.true) c.saturating_f64_to_u64-n.result c.saturating_f64_to_u64-n.ensures c.if-n-le-MOST_SAMPLES.false)
 
 pub returns-else-is_finite : goal.returns-else-is_finite
 returns-else-is_finite c =
@@ -37,7 +37,7 @@ returns-else-is_finite c =
     let is_finite = c.is_finite in
     sym
     (open_infinite args.points args.limits args.rate args.duration (sym is-valid.ensures ∙ if1.true)
-    (sym (and_both is_finite.ensures c.is_finite-then-is_valid.ensures) ∙ c.if-is_finite.false))
+    (sym (and_both is_finite.ensures.value c.is_finite-then-is_valid.ensures.value) ∙ c.if-is_finite.false))
 
 pub returns-else-is_valid : goal.returns-else-is_valid
 returns-else-is_valid c =

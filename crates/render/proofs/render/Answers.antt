@@ -23,7 +23,7 @@ returns-then-is_finite c =
     let run-into = c.run_into in
     let a = c.args in
     let q = render_runs a.points a.enabled a.limits a.rate a.first a.count a.place a.out.now (sym is-valid.ensures ∙ if1.true)
-    (sym is_finite.ensures ∙ if2.true) in
+    (sym is_finite.ensures.value ∙ if2.true) in
     let w = answers run-into.ensures.answer run-into.ensures.out_after (sym q) in
     record { answer = w.0; out_after = w.1 }
 
@@ -35,7 +35,7 @@ returns-else-is_finite c =
     let w = answers refl refl
     (sym
     (render_infinite a.points a.enabled a.limits a.rate a.first a.count a.place a.out.now (sym is-valid.ensures ∙ if1.true)
-    (sym c.is_finite.ensures ∙ c.if-is_finite.false))) in
+    (sym c.is_finite.ensures.value ∙ c.if-is_finite.false))) in
     record { answer = w.0; out_after = w.1 }
 
 pub returns-else-is_valid : goal.returns-else-is_valid

@@ -26,7 +26,7 @@ returns-then-not-is_finite c =
     c.stays-then-not-is_finite.ensures
     ∙ sym
     (next_infinite args.points args.enabled args.limits args.self (sym is-valid.ensures ∙ if1.false)
-    (sym is_finite.ensures ∙ c.if-not-is_finite.true))
+    (sym is_finite.ensures.value ∙ c.if-not-is_finite.true))
 
 pub returns-then-self-gt-MOST_SAMPLES : goal.returns-then-self-gt-MOST_SAMPLES
 returns-then-self-gt-MOST_SAMPLES c =
@@ -38,7 +38,7 @@ returns-then-self-gt-MOST_SAMPLES c =
     c.stays-then-self-gt-MOST_SAMPLES.ensures
     ∙ sym
     (next_too_many args.points args.enabled args.limits args.self (sym is-valid.ensures ∙ if1.false)
-    (sym is_finite.ensures ∙ if2.false) c.if-self-gt-MOST_SAMPLES.true)
+    (sym is_finite.ensures.value ∙ if2.false) c.if-self-gt-MOST_SAMPLES.true)
 
 pub returns-then-self : goal.returns-then-self
 returns-then-self c =
@@ -51,7 +51,7 @@ returns-then-self c =
     c.stays-then-self.ensures
     ∙ sym
     (next_over args.points args.enabled args.limits args.self (sym is-valid.ensures ∙ if1.false)
-    (sym is_finite.ensures ∙ if2.false) if3.false c.if-self.true)
+    (sym is_finite.ensures.value ∙ if2.false) if3.false c.if-self.true)
 
 pub int_to_float-time : goal.int_to_float-time
 unfolding in_float
@@ -76,4 +76,4 @@ returns c =
       walk = record { sample_rate = w.sample_rate; current_sample = w.current_sample + 1; total_samples = w.total_samples };
     })
     (c.get_value_at.ensures ∙ lookup_given a.points a.enabled a.limits (div binary64 (of_int binary64 (pos w.current_sample)) w.sample_rate) v)
-    ∙ sym (next-is a.points a.enabled a.limits w v (sym is_finite.ensures ∙ if2.false) if3.false if4.false)
+    ∙ sym (next-is a.points a.enabled a.limits w v (sym is_finite.ensures.value ∙ if2.false) if3.false if4.false)

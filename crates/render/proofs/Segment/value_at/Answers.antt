@@ -27,7 +27,7 @@ returns-in-Bezier c =
     c.apply_constraints.ensures
     ∙ ap (constrained a.limits)
     (ap (λ (x : Float). add binary32 s.start (mul binary32 (sub binary32 s.end s.start) x))
-    (cubic-bezier.ensures ∙ ap (λ (x : Float). cubic_bezier x bezier.cp1 bezier.cp2) clamp.ensures)
+    (cubic-bezier.ensures ∙ ap (λ (x : Float). cubic_bezier x bezier.cp1 bezier.cp2) clamp.ensures.value)
     ∙ sym (by_bezier s.curve s.start s.end t.result bezier.cp1 bezier.cp2 bezier.is)
     ∙ ap (interpolated s.curve s.start s.end) t.ensures)
 
