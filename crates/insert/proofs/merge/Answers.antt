@@ -40,7 +40,7 @@ returns-then-not-is_finite c =
     let l = merged (list_of ps) (list_of args.other) args.offset in
     let valid : valid_points ps ≡ true = sym is-valid.ensures ∙ not-false _ if1.false-raw in
     let other : valid_points args.other ≡ true = sym is-valid2.ensures ∙ not-false _ if2.false-raw in
-    c.refuse-then-not-is_finite.ensures ∙ not_finite ps (finite args.offset) l valid (sym is_finite.ensures ∙ not-true _ c.if-not-is_finite.true-raw)
+    c.refuse-then-not-is_finite.ensures ∙ not_finite ps (finite args.offset) l valid (sym is_finite.ensures.value ∙ not-true _ c.if-not-is_finite.true-raw)
     ∙ merge_valid ps args.other (finite args.offset) l other
 
 pub returns-then-not-all_finite : goal.returns-then-not-all_finite
@@ -51,7 +51,7 @@ returns-then-not-all_finite c =
     let valid : valid_points args.points
     ≡ true = sym c.is_valid.ensures ∙ not-false _ c.if-not-is_valid.false-raw in
     let other : valid_points args.other ≡ true = sym c.is_valid-else-not-is_valid.ensures ∙ not-false _ c.if-not-is_valid-2.false-raw in
-    let fine : finite args.offset ≡ true = sym c.is_finite.ensures ∙ not-false _ c.if-not-is_finite.false-raw in
+    let fine : finite args.offset ≡ true = sym c.is_finite.ensures.value ∙ not-false _ c.if-not-is_finite.false-raw in
     c.refuse-then-not-all_finite.ensures
     ∙ merge_lost args.points args.other c.map_points-shifted.result args.offset valid other (places args.other _ c.well_formed.1.0) c.map_points-shifted.ensures fine
     (sym all-finite.ensures ∙ not-true _ c.if-not-all_finite.true-raw)
@@ -63,6 +63,6 @@ returns-else-not-all_finite c =
     let valid : valid_points args.points
     ≡ true = sym c.is_valid.ensures ∙ not-false _ c.if-not-is_valid.false-raw in
     let other : valid_points args.other ≡ true = sym c.is_valid-else-not-is_valid.ensures ∙ not-false _ c.if-not-is_valid-2.false-raw in
-    let fine : finite args.offset ≡ true = sym c.is_finite.ensures ∙ not-false _ c.if-not-is_finite.false-raw in
+    let fine : finite args.offset ≡ true = sym c.is_finite.ensures.value ∙ not-false _ c.if-not-is_finite.false-raw in
     c.insert_points.ensures
     ∙ merge_made args.points args.other c.map_points-shifted.result args.offset valid other (places args.other _ c.well_formed.1.0) c.map_points-shifted.ensures fine

@@ -46,7 +46,7 @@ returns-then-not-all c =
     let is-finite6 = c.is_finite-6 in
     let is-valid = c.is_valid in
     let if1 = c.if-not-is_valid in
-    let given = and_both (and_both (and_both is_finite.ensures is-finite2.ensures) is-finite3.ensures) is-finite4.ensures in
+    let given = and_both (and_both (and_both is_finite.ensures.value is-finite2.ensures.value) is-finite3.ensures.value) is-finite4.ensures in
     let sums = and_both (and_both given (is-finite5.ensures ∙ ap finite_point with-curve3.ensures)) (is-finite6.ensures ∙ ap finite_point with-curve4.ensures) in
     let ok = sums ∙ pulse_fine args.fade_in args.sustain args.fade_out args.curve in
     c.refuse-then-not-all.ensures ∙ any_three args.points (finite args.fade_in && finite args.sustain && finite args.fade_out && finite_controls args.curve)
@@ -73,7 +73,7 @@ returns-else-not-all c =
     let l = point_with zero64 f0 Linear ∷ (point_with args.fade_in f1 args.curve ∷ (point_with t f1 Linear ∷ (point_with (add binary64 t args.fade_out) f0 args.curve ∷ []))) in
     let m : list_of c.four.result ≡ l =
     ap list_of c.four.ensures ∙ list_of_holding _ ∙ (λ i. with-curve.ensures i ∷ (with-curve2.ensures i ∷ (with-curve3.ensures i ∷ (with-curve4.ensures i ∷ [])))) in
-    let given = and_both (and_both (and_both is_finite.ensures is-finite2.ensures) is-finite3.ensures) is-finite4.ensures in
+    let given = and_both (and_both (and_both is_finite.ensures.value is-finite2.ensures.value) is-finite3.ensures.value) is-finite4.ensures in
     let sums = and_both (and_both given (is-finite5.ensures ∙ ap finite_point with-curve3.ensures)) (is-finite6.ensures ∙ ap finite_point with-curve4.ensures) in
     let ok = sums ∙ pulse_fine args.fade_in args.sustain args.fade_out args.curve in
     made_new args.points c.in_order.result (finite args.fade_in && finite args.sustain && finite args.fade_out && finite_controls args.curve)

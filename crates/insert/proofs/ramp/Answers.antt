@@ -25,12 +25,12 @@ pub returns-then-not-ok : goal.returns-then-not-ok
 returns-then-not-ok c =
     let args = c.args in
     let is_finite = c.is_finite in
-    let is-finitef = c.is_finitef in
-    let is-finitef2 = c.is_finitef-2 in
-    let is-finite2 = c.is_finite-2 in
+    let single = c.is_finite-2 in
+    let single2 = c.is_finite-3 in
+    let is-finite2 = c.is_finite-4 in
     let is-valid = c.is_valid in
     let if1 = c.if-not-is_valid in
-    let ok = and_both (and_both (and_both is_finite.ensures is-finitef.ensures) is-finitef2.ensures) is-finite2.ensures
+    let ok = and_both (and_both (and_both is_finite.ensures.value single.ensures.value) single2.ensures.value) is-finite2.ensures
     ∙ ramp_fine args.duration args.start args.end_value args.curve in
     c.refuse-then-not-ok.ensures ∙ any_three args.points (finite args.duration && finite args.start && finite args.end_value && finite_controls args.curve)
     (ramp_list args.duration args.start args.end_value args.curve) (sym is-valid.ensures ∙ not-false _ if1.false-raw) (sym ok ∙ not-true _ c.if-not-ok.true-raw)
@@ -40,15 +40,15 @@ unfolding rising_by
 returns-else-not-ok c =
     let args = c.args in
     let is_finite = c.is_finite in
-    let is-finitef = c.is_finitef in
-    let is-finitef2 = c.is_finitef-2 in
-    let is-finite2 = c.is_finite-2 in
+    let single = c.is_finite-2 in
+    let single2 = c.is_finite-3 in
+    let is-finite2 = c.is_finite-4 in
     let with-curve = c.with_curve-first in
     let with-curve2 = c.with_curve-last in
     let is-valid = c.is_valid in
     let if1 = c.if-not-is_valid in
     let l = point_with zero64 args.start Linear ∷ (point_with args.duration args.end_value args.curve ∷ []) in
-    let ok = and_both (and_both (and_both is_finite.ensures is-finitef.ensures) is-finitef2.ensures) is-finite2.ensures
+    let ok = and_both (and_both (and_both is_finite.ensures.value single.ensures.value) single2.ensures.value) is-finite2.ensures
     ∙ ramp_fine args.duration args.start args.end_value args.curve in
     made_new args.points c.pair.result (finite args.duration && finite args.start && finite args.end_value && finite_controls args.curve)
     (ramp_list args.duration args.start args.end_value args.curve) (sym is-valid.ensures ∙ not-false _ if1.false-raw) (sym ok ∙ not-false _ c.if-not-ok.false-raw)
