@@ -7,5 +7,5 @@ use Rattle.listing.proofs.text.same_double.Goals as goal
 
 pub returns : goal.returns
 returns c =
-    rw (c.to_bits.ensures, c.to_bits-2.ensures)
+    rw (c.f64_to_bits_with_nan.ensures, c.f64_to_bits_with_nan-2.ensures)
     (same_bits_lem binary64 c.args.x c.args.y (yes c.well_formed.0.1) (yes c.well_formed.1.0.1))
