@@ -1,4 +1,5 @@
 -- 01's proved example of the session, two of 02's F-2 and one of F-3.
+use Rattle.std.specs.Float.{round_with}
 use Rattle.std.specs.Prelude.{ℕ, ◌≡◌, refl, List, [], ◌∷◌, replicate}
 use Rattle.std.specs.Float.{binary32, binary64}
 use Rattle.std.specs.Float.Ieee.{of_bits, to_bits, of_int, to_unsigned, round, mul, div, le}
@@ -73,5 +74,5 @@ unfolding answers_of open_session state_at stored slot_after slot_before in_orde
 p13_functions = refl
 
 pub idle_functions : answers_of (open_session 3 (replicate 1028 7)) (replicate 1028 7) idle_calls ≡ gives tt ∷ gives tt ∷ gives tt ∷ gives tt ∷ gives tt ∷ refuses 10 ∷ []
-unfolding answers_of open_session state_at stored slot_after slot_before in_order call_of first_failing bit_equal new edit_of edited points_edited edit_points settle insert_point valid_points every every_pair rising_by finite finite_controls controls code curve_of order_key of_bits to_bits pack_settings pack_point pack_points pack point_of points_of state_of unpacked keep_if firsts round_away round mul div le to_unsigned of_int
+unfolding answers_of open_session state_at stored slot_after slot_before in_order call_of first_failing bit_equal new edit_of edited points_edited edit_points settle insert_point valid_points every every_pair rising_by finite finite_controls controls code curve_of order_key of_bits to_bits pack_settings pack_point pack_points pack point_of points_of state_of unpacked keep_if firsts round_with round mul div le to_unsigned of_int
 idle_functions = refl

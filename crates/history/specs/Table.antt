@@ -1,4 +1,5 @@
 -- 01's "Proved examples": "These are one table in the specs, established together". P1 to P14, F-1's sibling of P7, two of F-2 and two of F-3, on envelopes; those of lookups and ranges are what the crates below establish.
+use Rattle.std.specs.Float.{round_with}
 use Rattle.std.specs.Prelude.{◌≡◌, refl, List, [], ◌∷◌, pos, Float}
 use Rattle.std.proofs.Math.Option.{none, some}
 use Rattle.std.specs.Float.{binary32}
@@ -105,7 +106,7 @@ pub record Table : Type 0 where
   pub p14 : sqrt binary32 f2 ≡ f32 0x3FB5_04F3
 
 pub table : Table
-unfolding answers_after rule_of ask_of join_of first_failing bit_equal every_pair keep_if firsts up_to made edit_of edited points_edited edit_points settle insert_point new get_value_at get_value_at_sample get_range range_of given_values raw_inside run valid_points every rising_by found_at found_at_sample surrounded place_by fraction constrained code controls finite_controls clamped cubic_bezier in_out eased interpolated finite min_num max_num narrow order_key sqrt round_away of_bits to_bits of_int to_unsigned round neg add sub mul div lt le is_nan
+unfolding answers_after rule_of ask_of join_of first_failing bit_equal every_pair keep_if firsts up_to made edit_of edited points_edited edit_points settle insert_point new get_value_at get_value_at_sample get_range range_of given_values raw_inside run valid_points every rising_by found_at found_at_sample surrounded place_by fraction constrained code controls finite_controls cubic_bezier in_out eased interpolated finite min_num max_num narrow order_key sqrt round_with of_bits to_bits of_int to_unsigned round neg add sub mul div lt le is_nan
 table =
     record {
       p1 = lookups.p1;

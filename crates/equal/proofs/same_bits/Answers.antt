@@ -3,4 +3,4 @@ use lib.Dec.{eqb}
 use Rattle.equal.proofs.same_bits.Goals as goal
 
 pub returns : goal.returns
-returns c = λ i. eqb (c.to_bits.ensures i) (c.to_bits-2.ensures i)
+returns c = λ i. eqb (c.f64_to_bits_with_nan.ensures i) (c.f64_to_bits_with_nan-2.ensures i)

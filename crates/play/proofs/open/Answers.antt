@@ -10,7 +10,7 @@ returns-then-count-gt-MOST_SAMPLES c =
     let args = c.args in
     let read-play = c.read_play-r in
     let enum_told-1 = c.in-Accepted in
-    let f64-to-u64 = c.f64_to_u64-count in
+    let f64-to-u64 = c.saturating_f64_to_u64-count in
     let if1 = c.if-count-gt-MOST_SAMPLES in
     many_opens args.s.now read-play.result read-play.ensures.answer enum_told-1.is f64-to-u64.result f64-to-u64.ensures if1.true c.refused-then-count-gt-MOST_SAMPLES.ensures
 
@@ -26,6 +26,6 @@ returns-else-count-gt-MOST_SAMPLES c =
     let args = c.args in
     let read-play = c.read_play-r in
     let enum_told-1 = c.in-Accepted in
-    let f64-to-u64 = c.f64_to_u64-count in
+    let f64-to-u64 = c.saturating_f64_to_u64-count in
     let if1 = c.if-count-gt-MOST_SAMPLES in
     few_opens args.s.now read-play.result read-play.ensures.answer enum_told-1.is f64-to-u64.result f64-to-u64.ensures if1.false c.fit_text-bytes.ensures (search rules)

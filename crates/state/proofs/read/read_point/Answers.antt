@@ -16,9 +16,9 @@ returns c =
     let args = c.args in
     let high = c.high-tag in
     let low = c.low in
-    let from-bitsf = c.from_bitsf-cp1 in
+    let from-bitsf = c.f32_from_bits_with_nan-cp1 in
     let high2 = c.high in
-    let from-bitsf2 = c.from_bitsf-cp2 in
+    let from-bitsf2 = c.f32_from_bits_with_nan-cp2 in
     let from-bits = c.from_bits in
     let bit' = c.bit in
     let position-of = c.position_of in
@@ -29,7 +29,7 @@ returns c =
     (λ i. record {
       time = from-bits.ensures i;
       sample_position = (position-of.ensures ∙ ap (λ (b : Bool). position_of b (get_or w (at + 1) 0)) (bit'.ensures ∙ ap (bit 1) tag)) i;
-      value = (c.from_bitsf.ensures ∙ ap (of_bits binary32) low2.ensures) i;
+      value = (c.f32_from_bits_with_nan.ensures ∙ ap (of_bits binary32) low2.ensures) i;
       curve = (
           c.from_code.ensures
           ∙ (λ j. curve_of (tag j / 2) ((from-bitsf.ensures ∙ ap (of_bits binary32) low.ensures) j) ((from-bitsf2.ensures ∙ ap (of_bits binary32) high2.ensures) j))) i;

@@ -14,7 +14,7 @@ unfolding pack_point
 returns c =
     let w = c.args.words.now in
     let at = c.args.at in
-    (λ i. eqb (c.to_bits.ensures i) (get_or w at 0)
+    (λ i. eqb (c.f64_to_bits_with_nan.ensures i) (get_or w at 0)
     && (eqb (c.position_word.ensures i) (get_or w (at + 1) 0)
     && (eqb (c.controls_word.ensures i) (get_or w (at + 2) 0)
     && eqb (c.value_word.ensures i) (get_or w (at + 3) 0))))

@@ -1,4 +1,4 @@
--- `state::write::controls_word` meets its contract: of a Bezier the word is that of its two numbers, as `to_bitsf` and `halves` ensure;
+-- `state::write::controls_word` meets its contract: of a Bezier the word is that of its two numbers, as `f32_to_bits_with_nan` and `halves` ensure;
 -- any other curve has no controls (`no-controls`), and the word of two 0.0 is 0.
 use mathlib.Core.Path.{sym, ap, ◌∙◌}
 use lib.Ieee.{binary32, of_bits, to_bits}
@@ -12,7 +12,7 @@ pub returns-in-Bezier : goal.returns-in-Bezier
 unfolding controls
 returns-in-Bezier c =
     c.halves.ensures
-    ∙ (λ i. halves (c.to_bitsf.ensures i) (c.to_bitsf-in-Bezier.ensures i))
+    ∙ (λ i. halves (c.f32_to_bits_with_nan.ensures i) (c.f32_to_bits_with_nan-in-Bezier.ensures i))
     ∙ ap controls_word (sym c.in-Bezier.is)
 
 pub returns-in_default : goal.returns-in_default
