@@ -18,7 +18,9 @@ use Rattle.numbers.proofs.Squares.{Cut, root_lt, root_cut, square_next, square_t
 closest_by : (n w r x y : ℕ) → 0 < w → r * w ≤ n → n < r * w + w
     → (x < y → 2 * n < 2 * (r * w) + w) → (x ≡ y → 2 * n ≡ 2 * (r * w) + w) → (y < x → 2 * (r * w) + w < 2 * n) → closest n w ≡ nearest r (compare x y)
 closest_by n w r x y p lo hi a b c =
-    go (n / w) (n % w) (r * w) (n / w * w) (div-eq_of_lt-le {k = r} w {m = n} lo (lt_of_lt_of_le hi (le_of_eq (next r w)))) (ap (λ (q : ℕ). q * w) (div-eq_of_lt-le {k = r} w {m = n} lo (lt_of_lt_of_le hi (le_of_eq (next r w)))))
+    go (n / w) (n % w) (r * w) (n / w * w)
+    (div-eq_of_lt-le {k = r} w {m = n} lo (lt_of_lt_of_le hi (le_of_eq (next r w))))
+    (ap (λ (q : ℕ). q * w) (div-eq_of_lt-le {k = r} w {m = n} lo (lt_of_lt_of_le hi (le_of_eq (next r w)))))
     (div-add-mod' n w) (compare (n % w * 2) w) (cmp (n % w * 2) w) (compare x y) (cmp x y) a b c
   where
     next : (r w : ℕ) → r * w + w ≡ (r + 1) * w
@@ -39,7 +41,8 @@ closest_by n w r x y p lo hi a b c =
 -- ---- how many digits a root has: half as many, rounded up
 size_root : (v w : ℕ) → Cut v w → size w ≡ (size v + 1) / 2
 size_root v w c =
-    le_antisymm (size-le w ((size v + 1) / 2) (root_lt w (2 ^ ((size v + 1) / 2)) (lt_of_le_of_lt c.0 (lt_of_lt_of_le (size-lt v) (le_trans (pow_mono (half (size v))) (le_of_eq (pow-add 2 ((size v + 1) / 2) ((size v + 1) / 2))))))))
+    le_antisymm (size-le w ((size v + 1) / 2) (root_lt w (2 ^ ((size v + 1) / 2))
+    (lt_of_le_of_lt c.0 (lt_of_lt_of_le (size-lt v) (le_trans (pow_mono (half (size v))) (le_of_eq (pow-add 2 ((size v + 1) / 2) ((size v + 1) / 2))))))))
     (back (size v) (size w) (size-le v (size w + size w) (lt_of_lt_of_le c.1 (le_trans (mul-le-mul (next w) (next w)) (le_of_eq (sym (pow-add 2 (size w) (size w))))))))
   where
     half : (s : ℕ) → s ≤ (s + 1) / 2 + (s + 1) / 2
@@ -76,7 +79,10 @@ module _ (v h R : ℕ) (p : 0 < h) (c : Cut (4 * v * (h * h)) R) where
 
   exact : (t : ℕ) → t * t ≡ 4 * v → (R ≡ t * h) × (more ≡ 0)
   exact t e =
-      let at : R ≡ t * h = le_antisymm (le_of_suc-le-suc (subst (λ (x : ℕ). R < x) (add-one (t * h)) (root_lt R (t * h + 1) (lt_of_le_of_lt c.0 (lt_of_le_of_lt (le_of_eq (square e)) (less (t * h))))))) (up_to t (le_of_eq e)) in
+      let at : R ≡ t * h =
+      le_antisymm (le_of_suc-le-suc (subst (λ (x : ℕ). R < x) (add-one (t * h))
+      (root_lt R (t * h + 1) (lt_of_le_of_lt c.0 (lt_of_le_of_lt (le_of_eq (square e)) (less (t * h)))))))
+      (up_to t (le_of_eq e)) in
       (at, ap (λ (b : Bool). cond b 0 1) (eq-eqb (R * R) (4 * v * (h * h)) (ap (λ (x : ℕ). x * x) at ∙ sym (square e))))
     where
       square : t * t ≡ 4 * v → 4 * v * (h * h) ≡ t * h * (t * h)
@@ -105,13 +111,18 @@ module _ (v h R : ℕ) (p : 0 < h) (c : Cut (4 * v * (h * h)) R) where
     at_r = r * (k * h)
 
     lower : 2 * at_r ≤ R
-    lower = le_trans (le_of_eq (simp (mul_assoc, mul_comm, mul_left_comm))) (up_to (2 * (r * k)) (le_trans (le_of_eq (square r k)) (le_trans (le_of_eq (mul_comm 4 (r * r * (k * k)))) (le_trans (mul-le-mul_right 4 ((le-div_iff_mul-le kk).0 d.0)) (le_of_eq (mul_comm v 4))))))
+    lower =
+        le_trans (le_of_eq (simp (mul_assoc, mul_comm, mul_left_comm)))
+        (up_to (2 * (r * k)) (le_trans (le_of_eq (square r k)) (le_trans (le_of_eq (mul_comm 4 (r * r * (k * k))))
+        (le_trans (mul-le-mul_right 4 ((le-div_iff_mul-le kk).0 d.0)) (le_of_eq (mul_comm v 4))))))
       where
         square : (r k : ℕ) → 2 * (r * k) * (2 * (r * k)) ≡ 4 * (r * r * (k * k))
         square r k = square_twice (r * k) ∙ ap (λ (x : ℕ). 4 * x) (square_mul r k)
 
     upper : R < 2 * at_r + 2 * (k * h)
-    upper = lt_of_lt_of_le (past (2 * ((r + 1) * k)) (lt_of_lt_of_le (four v ((r + 1) * (r + 1) * (k * k)) ((div-lt_iff_lt-mul kk).0 d.1)) (le_of_eq (sym (square (r + 1) k))))) (le_of_eq (apart r k h))
+    upper =
+        lt_of_lt_of_le (past (2 * ((r + 1) * k)) (lt_of_lt_of_le (four v ((r + 1) * (r + 1) * (k * k)) ((div-lt_iff_lt-mul kk).0 d.1)) (le_of_eq (sym (square (r + 1) k)))))
+        (le_of_eq (apart r k h))
       where
         four : (a b : ℕ) → a < b → 4 * a < 4 * b
         four a b h = omega arith
@@ -120,7 +131,10 @@ module _ (v h R : ℕ) (p : 0 < h) (c : Cut (4 * v * (h * h)) R) where
         square r k = square_twice (r * k) ∙ ap (λ (x : ℕ). 4 * x) (square_mul r k)
 
         apart : (r k h : ℕ) → 2 * ((r + 1) * k) * h ≡ 2 * (r * (k * h)) + 2 * (k * h)
-        apart r k h = mul_assoc 2 ((r + 1) * k) h ∙ ap (λ (x : ℕ). 2 * x) (mul_assoc (r + 1) k h ∙ add-mul r 1 (k * h) ∙ ap (λ (x : ℕ). r * (k * h) + x) (one-mul (k * h))) ∙ mul-add 2 (r * (k * h)) (k * h)
+        apart r k h =
+            mul_assoc 2 ((r + 1) * k) h
+            ∙ ap (λ (x : ℕ). 2 * x) (mul_assoc (r + 1) k h ∙ add-mul r 1 (k * h) ∙ ap (λ (x : ℕ). r * (k * h) + x) (one-mul (k * h)))
+            ∙ mul-add 2 (r * (k * h)) (k * h)
 
     abbrev odd : ℕ
     odd = (2 * r + 1) * k
@@ -187,7 +201,9 @@ module _ (f : Format) (v : ℕ) where
   whole_is : n * 2 ^ low f / 2 ^ 2272 ≡ w
   whole_is =
       div_same (n * 2 ^ low f) (2 ^ 2272) n (4 * h) (pow_pos 2272) (omega (arith, h-pos)) (mul_assoc n (2 ^ low f) (4 * h) ∙ ap (λ (x : ℕ). n * x) (mul_comm (2 ^ low f) (4 * h) ∙ sym den_is))
-      ∙ div-eq_of_lt-le {k = w} (4 * h) {m = n} (omega (arith, lower v h R h-pos c 1 w (omega arith) at_one, one-mul h, fours)) (omega (arith, upper v h R h-pos c 1 w (omega arith) at_one, one-mul h, fours, more_le v h R h-pos c, add-mul w 1 (4 * h)))
+      ∙ div-eq_of_lt-le {k = w} (4 * h) {m = n}
+      (omega (arith, lower v h R h-pos c 1 w (omega arith) at_one, one-mul h, fours))
+      (omega (arith, upper v h R h-pos c 1 w (omega arith) at_one, one-mul h, fours, more_le v h R h-pos c, add-mul w 1 (4 * h)))
     where
       at_one : Cut (v / (1 * 1)) w
       at_one = subst (λ (x : ℕ). Cut x w) (sym (div-one v)) (root_cut v)
