@@ -22,7 +22,7 @@ pub returns : goal.returns
 unfolding pack_point
 returns c =
     let args = c.args in
-    let to-bits = c.to_bits in
+    let to-bits = c.f64_to_bits_with_nan in
     let position-word = c.position_word in
     four_stores args.words.now args.at _ _ _ _
     ∙ (λ i. sets args.words.now args.at (to-bits.ensures i ∷ position-word.ensures i ∷ c.controls_word.ensures i ∷ c.value_word.ensures i ∷ []))
