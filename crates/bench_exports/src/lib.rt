@@ -64,6 +64,7 @@ pub extern "C" fn rattle_roundf(x: f32) -> f32
 }
 
 #[unsafe(no_mangle)]
+#[tactic(auto, using(numbers::proofs::StdRoot::std_sqrt))]
 pub extern "C" fn rattle_sqrtf(x: f32) -> f32
     ensures { result ≡ sqrt binary32 x }
 {
