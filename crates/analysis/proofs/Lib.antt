@@ -1,3 +1,2 @@
--- Ranges, and peaks and valleys.
 pub mod Ranges
 pub mod Middles

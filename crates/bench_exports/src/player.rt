@@ -1,18 +1,27 @@
 // The Player's calls, each so many times on one envelope.
 use crate::made::{limited, made};
-use points::refusal::Refusal;
+use lookup::Lookup;
+use points::refusal::Answer;
+use std::num::f32_to_bits_with_nan;
+
+fn wide(x: u32) -> u64 {
+    x as u64
+}
 
 // The value's pattern; 0 for silent and 1 for refused, which no value that is measured has.
-pub(crate) fn bits(answer: Result<Option<f32>, Refusal>) -> u64 {
+pub(crate) fn bits(answer: Lookup) -> u64 {
     match answer {
-        Ok(None) => 0,
-        Ok(Some(v)) => pattern(v),
-        Err(_) => 1,
+        Lookup::Silent => 0,
+        Lookup::Value(v) => wide(f32_to_bits_with_nan(v)),
+        Lookup::Refused(_) => 1,
     }
 }
 
-pub(crate) fn pattern(v: f32) -> u64 {
-    u64::from(std::num::f32_to_bits_with_nan(v))
+fn accepted(answer: Answer) -> u64 {
+    match answer {
+        Answer::Accepted => 1,
+        Answer::Refused(_) => 0,
+    }
 }
 
 #[unsafe(no_mangle)]
@@ -23,8 +32,13 @@ pub extern "C" fn rattle_get_value_at(
     at: &[f64],
 ) -> u64 {
     let e = made(times, values, curve);
-    at.iter()
-        .fold(0u64, |sum, t| sum.wrapping_add(bits(e.get_value_at(*t))))
+    let mut sum: u64 = 0;
+    let mut i: usize = 0;
+    while i < at.len() {
+        sum = std::num::wrapping_add_u64(sum, bits(e.get_value_at(at[i])));
+        i += 1;
+    }
+    sum
 }
 
 #[unsafe(no_mangle)]
@@ -35,10 +49,13 @@ pub extern "C" fn rattle_get_value_at_sample(
     at: &[u64],
 ) -> u64 {
     let e = made(times, values, curve);
-    at.iter().fold(
-        0u64,
-        |sum, n| sum.wrapping_add(bits(e.get_value_at_sample(*n))),
-    )
+    let mut sum: u64 = 0;
+    let mut i: usize = 0;
+    while i < at.len() {
+        sum = std::num::wrapping_add_u64(sum, bits(e.get_value_at_sample(at[i])));
+        i += 1;
+    }
+    sum
 }
 
 #[unsafe(no_mangle)]
@@ -53,8 +70,10 @@ pub extern "C" fn rattle_to_buffer(
 ) -> u64 {
     let e = made(times, values, curve);
     let mut good: u64 = 0;
-    for _ in 0..turns {
-        good = good.wrapping_add(u64::from(e.to_buffer(rate, duration, out, 0).is_ok()));
+    let mut i: u32 = 0;
+    while i < turns {
+        good = std::num::wrapping_add_u64(good, accepted(e.to_buffer(rate, duration, out, 0)));
+        i += 1;
     }
     good
 }
@@ -74,10 +93,12 @@ pub extern "C" fn rattle_to_buffer_limits(
     turns: u32,
     out: &mut [f32],
 ) -> u64 {
-    let e = limited(&made(times, values, curve), min, max, step, hard);
+    let e = limited(made(times, values, curve), min, max, step, hard);
     let mut good: u64 = 0;
-    for _ in 0..turns {
-        good = good.wrapping_add(u64::from(e.to_buffer(rate, duration, out, 0).is_ok()));
+    let mut i: u32 = 0;
+    while i < turns {
+        good = std::num::wrapping_add_u64(good, accepted(e.to_buffer(rate, duration, out, 0)));
+        i += 1;
     }
     good
 }
@@ -96,8 +117,10 @@ pub extern "C" fn rattle_render(
     let e = made(times, values, curve);
     let n = out.len() as u64;
     let mut good: u64 = 0;
-    for _ in 0..turns {
-        good = good.wrapping_add(u64::from(e.render(rate, first, n, out, 0).is_ok()));
+    let mut i: u32 = 0;
+    while i < turns {
+        good = std::num::wrapping_add_u64(good, accepted(e.render(rate, first, n, out, 0)));
+        i += 1;
     }
     good
 }

@@ -1,10 +1,9 @@
 // A merge that was asked first: the ask, and a session's merge beside the commit of a ticket, each so many times.
 use crate::made::made;
 use crate::rehearsal::started;
-use ask::{Ticket, ask_merge};
+use ask::{MergeCount, Ticket, ask_merge};
 use envelope::edit::Join;
-use points::refusal::Refusal;
-use session::Session;
+use session::{Session, SessionAnswer};
 
 // The offset, or its negative in every other turn.
 fn turned(offset: f64, i: u32) -> f64 {
@@ -12,10 +11,10 @@ fn turned(offset: f64, i: u32) -> f64 {
 }
 
 // A count, or 1,000 for a refusal.
-fn counted(answer: Result<usize, Refusal>) -> u64 {
+fn counted(answer: MergeCount) -> u64 {
     match answer {
-        Ok(n) => n as u64,
-        Err(_) => 1000,
+        MergeCount::Is(n) => n as u64,
+        MergeCount::Refused(_) => 1000,
     }
 }
 
@@ -35,18 +34,24 @@ pub extern "C" fn rattle_ask(
         offset,
     };
     let mut sum: u64 = 0;
-    for i in 0..turns {
-        let asked = ask_merge(&e, &e, turned(offset, i));
+    let mut i: u32 = 0;
+    while i < turns {
+        let asked = ask_merge(e, e, turned(offset, i));
         ticket = asked.ticket;
-        sum = sum.wrapping_add(counted(asked.answer));
+        let answer = asked.answer;
+        sum = std::num::wrapping_add_u64(sum, counted(answer));
+        i += 1;
     }
-    sum.wrapping_add(ticket.second.points.used() as u64)
+    let second = ticket.second;
+    let points = second.points;
+    std::num::wrapping_add_u64(sum, points.used() as u64)
 }
 
 // The ticket's merge as an edit (0), or the commit of the ticket.
-fn merged(which: u32, s: &mut Session, ticket: &Ticket, memory: &mut [u64]) -> Result<(), Refusal> {
+fn merged(which: u32, s: Session, ticket: Ticket, memory: &mut [u64]) -> SessionAnswer {
+    let second = ticket.second;
     match which {
-        0 => s.join(Join::Merge(ticket.offset), &ticket.second, memory),
+        0 => s.join(Join::Merge(ticket.offset), second, memory),
         _ => commit::commit(s, ticket, memory),
     }
 }
@@ -70,10 +75,14 @@ pub extern "C" fn rattle_session_merge(
         offset,
     };
     let mut last = s;
-    for i in 0..turns {
+    let mut i: u32 = 0;
+    while i < turns {
         ticket.offset = turned(offset, i);
-        last = s;
-        let _ = merged(which, &mut last, &ticket, memory);
+        let r = merged(which, s, ticket, memory);
+        last = r.session;
+        i += 1;
     }
-    (last.kept as u64).wrapping_add(last.envelope.points.used() as u64)
+    let left = last.envelope;
+    let points = left.points;
+    std::num::wrapping_add_u64(last.kept as u64, points.used() as u64)
 }

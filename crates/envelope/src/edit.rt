@@ -2,14 +2,16 @@
 ghost use Rattle.std.specs.Prelude.{◌≡◌};
 ghost use Rattle.envelope.specs.Envelope.{new};
 ghost use Rattle.envelope.specs.declared.edit.Edit.TheVariants.{OfPoints, Replace, SetEnabled, SetMin, SetMax, SetStep, SetHard};
-ghost use Rattle.envelope.specs.Edit.{told_edit, points_edited, replaced_points, limit_checked, edit_of, join_of, with_points};
+ghost use Rattle.envelope.specs.Edit.{told_edit, points_edited, replaced_points, edited, renewed, setting, edit_of, side_of, join_of, with_points, with_settings, refused_edit};
 ghost use Rattle.envelope.specs.declared.edit.Join.TheVariants.{Merge, Combine};
 
-use crate::AutomationEnvelope;
-use combine::Operation;
+use crate::{AutomationEnvelope, Edited};
+use combine::{Operation, Side};
 use curve::CurveType;
-use points::refusal::Refusal;
+use limits::{Limit, Limits};
+use points::refusal::{Answer, Refusal};
 use points::{AutomationPoint, Points};
+use settle::EditedPoints;
 
 // The edits of the points.
 #[derive(Clone, Copy)]
@@ -48,9 +50,9 @@ pub enum Edit {
     OfPoints(PointsEdit),
     Replace(Replacement),
     SetEnabled(bool),
-    SetMin(Option<f32>),
-    SetMax(Option<f32>),
-    SetStep(Option<f32>),
+    SetMin(Limit),
+    SetMax(Limit),
+    SetStep(Limit),
     SetHard(bool),
 }
 
@@ -62,9 +64,8 @@ pub enum Join {
 }
 
 impl PointsEdit {
-    #[tactic(auto, unfolding(crate::specs::Edit::points_edited, crate::specs::Edit::proposed, settle::specs::Settle::edit_points, settle::specs::Settle::judged, pointwise::specs::Each::clamped_edit))]
-    fn apply(self, points: &Points) -> Result<Points, Refusal>
-        ensures { result ≡ points_edited self points.now }
+    fn apply(self, points: Points) -> EditedPoints
+        ensures { result ≡ points_edited self points }
     {
         match self {
             PointsEdit::AddPoint(p) => insert::add_point(points, p),
@@ -94,9 +95,8 @@ impl PointsEdit {
 }
 
 impl Replacement {
-    #[tactic(auto, unfolding(crate::specs::Edit::replaced_points, crate::specs::Edit::constructed, settle::specs::Settle::edit_points, settle::specs::Settle::judged))]
-    fn apply(self, points: &Points) -> Result<Points, Refusal>
-        ensures { result ≡ replaced_points self points.now }
+    fn apply(self, points: Points) -> EditedPoints
+        ensures { result ≡ replaced_points self points }
     {
         match self {
             Replacement::FadeIn(duration, c) => insert::fade_in(points, duration, c),
@@ -112,108 +112,210 @@ impl Replacement {
 }
 
 impl AutomationEnvelope {
-    fn with_points(&self, points: Points) -> AutomationEnvelope
-        ensures { result ≡ with_points self.now points }
+    fn with_points(self, points: Points) -> AutomationEnvelope
+        ensures { result ≡ with_points self points }
     {
-        AutomationEnvelope { points, ..*self }
+        let min_value = self.min_value;
+        let max_value = self.max_value;
+        let step_size = self.step_size;
+        let hard = self.hard;
+        AutomationEnvelope {
+            target: self.target,
+            points,
+            enabled: self.enabled,
+            min_value,
+            max_value,
+            step_size,
+            hard,
+        }
     }
 
-    // A new envelope's settings, with the target and these points.
-    fn anew(&self, points: Points) -> AutomationEnvelope
-        ensures { result ≡ with_points (new self.now.target) points }
+    fn refuse(self, refusal: Refusal) -> Edited
+        ensures { result ≡ refused_edit self refusal }
+    {
+        Edited {
+            answer: Answer::Refused(refusal),
+            envelope: self,
+        }
+    }
+
+    // What an edit of the points makes of the envelope.
+    fn settle(self, r: EditedPoints) -> Edited
+        ensures { told_edit result ≡ edited self r }
+    {
+        let limits = self.limits();
+        if limits.is_finite() {
+            let answer = r.answer;
+            let points = r.points;
+            Edited {
+                answer,
+                envelope: self.with_points(points),
+            }
+        } else {
+            self.refuse(Refusal::NotValid)
+        }
+    }
+
+    // A new envelope's settings, and these points.
+    fn fresh(target: u32, points: Points) -> AutomationEnvelope
+        ensures { result ≡ with_points (new target) points }
     {
         AutomationEnvelope {
+            target,
             points,
-            ..AutomationEnvelope::new(self.target)
+            enabled: true,
+            min_value: Limit::None,
+            max_value: Limit::None,
+            step_size: Limit::None,
+            hard: false,
         }
     }
 
-    // The refusals of a limit that is set.
-    fn check_limit(&self, limit: Option<f32>) -> Result<(), Refusal>
-        ensures { result ≡ limit_checked self.now limit }
+    // The target, and the points with new settings.
+    fn renew(self, r: EditedPoints) -> Edited
+        ensures { told_edit result ≡ renewed self r }
     {
-        self.check()?;
-        if !limits::finite_limit(limit) {
-            return Err(Refusal::NotFinite);
+        let answer = r.answer;
+        let points = r.points;
+        match answer {
+            Answer::Accepted => Edited {
+                answer: Answer::Accepted,
+                envelope: AutomationEnvelope::fresh(self.target, points),
+            },
+            Answer::Refused(refusal) => self.refuse(refusal),
         }
-        Ok(())
     }
 
-    // Any edit of the points.
-    #[tactic(auto, using(crate::proofs::Outcomes::refused_is), unfolding(crate::specs::Edit::edit_of, crate::specs::Edit::points_edited))]
-    pub fn edit_points(&self, edit: PointsEdit) -> Result<AutomationEnvelope, Refusal>
-        ensures { told_edit self.now result ≡ edit_of (OfPoints edit) self.now }
+    // The same target and points with other settings.
+    fn with_settings(self, enabled: bool, limits: Limits) -> AutomationEnvelope
+        ensures { result ≡ with_settings self enabled limits }
     {
-        if !self.limits().is_finite() {
-            return Err(Refusal::NotValid);
+        let points = self.points;
+        let min_value = limits.min_value;
+        let max_value = limits.max_value;
+        let step_size = limits.step_size;
+        AutomationEnvelope {
+            target: self.target,
+            points,
+            enabled,
+            min_value,
+            max_value,
+            step_size,
+            hard: limits.hard,
         }
-        Ok(self.with_points(edit.apply(&self.points)?))
+    }
+
+    // What a setting makes of it; `ok` says that its argument is finite.
+    fn set(self, ok: bool, enabled: bool, limits: Limits) -> Edited
+        ensures { told_edit result ≡ setting self ok (with_settings self enabled limits) }
+    {
+        if self.is_valid() {
+            if ok {
+                Edited {
+                    answer: Answer::Accepted,
+                    envelope: self.with_settings(enabled, limits),
+                }
+            } else {
+                self.refuse(Refusal::NotFinite)
+            }
+        } else {
+            self.refuse(Refusal::NotValid)
+        }
+    }
+
+    // Any edit of the points. `settle` tests the limits too; without the test here the compiled code copies the envelope twice more.
+    pub fn edit_points(mut self, edit: PointsEdit) -> Edited
+        ensures { told_edit result ≡ edit_of (OfPoints edit) self }
+    {
+        let limits = self.limits();
+        if limits.is_finite() {
+            let points = self.points;
+            self.settle(edit.apply(points))
+        } else {
+            self.refuse(Refusal::NotValid)
+        }
     }
 
     // Any of 000's constructors.
-    #[tactic(auto, using(crate::proofs::Outcomes::refused_is), unfolding(crate::specs::Edit::edit_of, crate::specs::Edit::replaced_points))]
-    pub fn replace_points(&self, replacement: Replacement) -> Result<AutomationEnvelope, Refusal>
-        ensures { told_edit self.now result ≡ edit_of (Replace replacement) self.now }
+    pub fn replace_points(mut self, replacement: Replacement) -> Edited
+        ensures { told_edit result ≡ edit_of (Replace replacement) self }
     {
-        if !self.limits().is_finite() {
-            return Err(Refusal::NotValid);
+        let limits = self.limits();
+        if limits.is_finite() {
+            let points = self.points;
+            self.renew(replacement.apply(points))
+        } else {
+            self.refuse(Refusal::NotValid)
         }
-        Ok(self.anew(replacement.apply(&self.points)?))
     }
 
-    #[tactic(auto, using(crate::proofs::Outcomes::switch_is), unfolding(crate::specs::Edit::edit_of))]
-    pub fn set_enabled(&self, enabled: bool) -> Result<AutomationEnvelope, Refusal>
-        ensures { told_edit self.now result ≡ edit_of (SetEnabled enabled) self.now }
+    pub fn set_enabled(mut self, enabled: bool) -> Edited
+        ensures { told_edit result ≡ edit_of (SetEnabled enabled) self }
     {
-        self.check()?;
-        Ok(AutomationEnvelope { enabled, ..*self })
+        self.set(true, enabled, self.limits())
     }
 
-    #[tactic(auto, using(crate::proofs::Outcomes::setting_is), unfolding(crate::specs::Edit::edit_of))]
-    pub fn set_min(&self, min: Option<f32>) -> Result<AutomationEnvelope, Refusal>
-        ensures { told_edit self.now result ≡ edit_of (SetMin min) self.now }
+    pub fn set_min(mut self, min: Limit) -> Edited
+        ensures { told_edit result ≡ edit_of (SetMin min) self }
     {
-        self.check_limit(min)?;
-        Ok(AutomationEnvelope {
+        let max_value = self.max_value;
+        let step_size = self.step_size;
+        let limits = Limits {
             min_value: min,
-            ..*self
-        })
+            max_value,
+            step_size,
+            hard: self.hard,
+        };
+        self.set(min.is_finite(), self.enabled, limits)
     }
 
-    #[tactic(auto, using(crate::proofs::Outcomes::setting_is), unfolding(crate::specs::Edit::edit_of))]
-    pub fn set_max(&self, max: Option<f32>) -> Result<AutomationEnvelope, Refusal>
-        ensures { told_edit self.now result ≡ edit_of (SetMax max) self.now }
+    pub fn set_max(mut self, max: Limit) -> Edited
+        ensures { told_edit result ≡ edit_of (SetMax max) self }
     {
-        self.check_limit(max)?;
-        Ok(AutomationEnvelope {
+        let min_value = self.min_value;
+        let step_size = self.step_size;
+        let limits = Limits {
+            min_value,
             max_value: max,
-            ..*self
-        })
+            step_size,
+            hard: self.hard,
+        };
+        self.set(max.is_finite(), self.enabled, limits)
     }
 
-    #[tactic(auto, using(crate::proofs::Outcomes::setting_is), unfolding(crate::specs::Edit::edit_of))]
-    pub fn set_step(&self, step: Option<f32>) -> Result<AutomationEnvelope, Refusal>
-        ensures { told_edit self.now result ≡ edit_of (SetStep step) self.now }
+    pub fn set_step(mut self, step: Limit) -> Edited
+        ensures { told_edit result ≡ edit_of (SetStep step) self }
     {
-        self.check_limit(step)?;
-        Ok(AutomationEnvelope {
+        let min_value = self.min_value;
+        let max_value = self.max_value;
+        let limits = Limits {
+            min_value,
+            max_value,
             step_size: step,
-            ..*self
-        })
+            hard: self.hard,
+        };
+        self.set(step.is_finite(), self.enabled, limits)
     }
 
     // 02's F-1.
-    #[tactic(auto, using(crate::proofs::Outcomes::switch_is), unfolding(crate::specs::Edit::edit_of))]
-    pub fn set_hard(&self, on: bool) -> Result<AutomationEnvelope, Refusal>
-        ensures { told_edit self.now result ≡ edit_of (SetHard on) self.now }
+    pub fn set_hard(mut self, on: bool) -> Edited
+        ensures { told_edit result ≡ edit_of (SetHard on) self }
     {
-        self.check()?;
-        Ok(AutomationEnvelope { hard: on, ..*self })
+        let min_value = self.min_value;
+        let max_value = self.max_value;
+        let step_size = self.step_size;
+        let limits = Limits {
+            min_value,
+            max_value,
+            step_size,
+            hard: on,
+        };
+        self.set(true, self.enabled, limits)
     }
 
     // Any of 01's edits.
-    pub fn edit(&self, e: Edit) -> Result<AutomationEnvelope, Refusal>
-        ensures { told_edit self.now result ≡ edit_of e self.now }
+    pub fn edit(mut self, e: Edit) -> Edited
+        ensures { told_edit result ≡ edit_of e self }
     {
         match e {
             Edit::OfPoints(edit) => self.edit_points(edit),
@@ -225,41 +327,46 @@ impl AutomationEnvelope {
             Edit::SetHard(on) => self.set_hard(on),
         }
     }
+}
+
+impl AutomationEnvelope {
+    // What a combination takes of it.
+    fn side(self) -> Side
+        ensures { result ≡ side_of self }
+    {
+        let points = self.points;
+        let limits = self.limits();
+        Side {
+            points,
+            enabled: self.enabled,
+            limits,
+        }
+    }
 
     // The other's points, each at its time plus the offset.
-    #[tactic(auto, using(crate::proofs::Outcomes::refused_is), unfolding(crate::specs::Edit::join_of, insert::specs::Insert::merged_points))]
-    fn merge_with(
-        &self,
-        other: &AutomationEnvelope,
-        offset: f64,
-    ) -> Result<AutomationEnvelope, Refusal>
-        ensures { told_edit self.now result ≡ join_of (Merge offset) self.now other.now }
+    fn merge_with(self, other: AutomationEnvelope, offset: f64) -> Edited
+        ensures { told_edit result ≡ join_of (Merge offset) self other }
     {
-        if !self.limits().is_finite() | !other.limits().is_finite() {
-            return Err(Refusal::NotValid);
+        let limits = other.limits();
+        if limits.is_finite() {
+            let points = self.points;
+            let others = other.points;
+            self.settle(insert::merge(points, others, offset))
+        } else {
+            self.refuse(Refusal::NotValid)
         }
-        Ok(self.with_points(insert::merge(&self.points, &other.points, offset)?))
     }
 
     // The operation on both values, at every time of either.
-    #[tactic(auto, using(crate::proofs::Outcomes::combination_refused), unfolding(crate::specs::Edit::join_of, combine::specs::Combine::combined_points))]
-    fn combine_with(
-        &self,
-        other: &AutomationEnvelope,
-        operation: Operation,
-    ) -> Result<AutomationEnvelope, Refusal>
-        ensures { told_edit self.now result ≡ join_of (Combine operation) self.now other.now }
+    fn combine_with(self, other: AutomationEnvelope, operation: Operation) -> Edited
+        ensures { told_edit result ≡ join_of (Combine operation) self other }
     {
-        Ok(self.anew(combine::combine(operation, &self.heard(), &other.heard())?))
+        self.renew(combine::combine(operation, self.side(), other.side()))
     }
 
     // Any of 01's edits that take a second envelope.
-    pub fn join(
-        &self,
-        join: Join,
-        other: &AutomationEnvelope,
-    ) -> Result<AutomationEnvelope, Refusal>
-        ensures { told_edit self.now result ≡ join_of join self.now other.now }
+    pub fn join(mut self, join: Join, other: AutomationEnvelope) -> Edited
+        ensures { told_edit result ≡ join_of join self other }
     {
         match join {
             Join::Merge(offset) => self.merge_with(other, offset),

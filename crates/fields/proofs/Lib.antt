@@ -1,4 +1,6 @@
+pub mod Entries
 pub mod ReadDigits
+pub mod Fields
 pub mod Starts
 pub mod Forms
 pub mod Decimal

@@ -1,3 +1,2 @@
 pub mod Inserting
-pub mod Times
-pub mod Ends
+pub mod Merging

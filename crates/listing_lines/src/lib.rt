@@ -12,4 +12,5 @@
 mod reader;
 mod report;
 
-pub use reader::Lines;
+pub use reader::{NextLine, Reader, next, start};
+pub use report::{counted, print_tally};

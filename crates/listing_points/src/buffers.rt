@@ -1,53 +1,76 @@
 // The lent buffer of a line: before the call its place i holds the number of the pattern
 // 4B000000 + i. The answer is `ok buffer LENGTH NUMBER*LENGTH`.
-use crate::answers::Refused;
-use listing::text::{Line, Said};
-use points::refusal::Refusal;
-use std::array;
-use std::num::f32_from_bits_with_nan;
+ghost use Rattle.std.specs.Prelude.{◌≡◌, length};
 
-// The most places that a line's buffer has.
-pub const ROOM: usize = 1024;
+use crate::answers::answers_refusal;
+use listing::text::{Outcome, Place, Word, decimal_after, ended, same_single, says_single};
+use points::refusal::Answer;
 
-pub fn marked() -> [f32; ROOM] {
-    array::from_fn(|i| f32_from_bits_with_nan(0x4B00_0000 + i as u32))
+// What place i holds before the call.
+fn mark(i: usize) -> f32 {
+    if i < 1024 {
+        return std::num::f32_from_bits_with_nan(0x4B00_0000 + i as u32);
+    }
+    0.0
+}
+
+pub fn marked() -> [f32; 1024]
+    ensures { 1024 ≡ length result }
+{
+    let mut buffer = [0.0; 1024];
+    let mut i: usize = 0;
+    while i < 1024 {
+        buffer[i] = mark(i);
+        i += 1;
+    }
+    buffer
 }
 
 // Whether the places from one on hold what they held before.
-pub fn is_unchanged(buffer: &[f32], from: usize) -> bool {
-    buffer
-        .iter()
-        .zip(&marked())
-        .skip(from)
-        .all(|(after, before)| *after == *before)
+pub fn unchanged(buffer: &[f32], from: usize) -> bool {
+    let mut i = from;
+    while i < buffer.len() {
+        if same_single(buffer[i], mark(i)) {
+            i += 1;
+        } else {
+            return false;
+        }
+    }
+    true
+}
+
+fn says_buffer(s: &[u8], at: usize, buffer: &[f32]) -> Place {
+    let mut place = at;
+    let mut i: usize = 0;
+    while i < buffer.len() {
+        let Place::At(next) = says_single(s, place, buffer[i]) else {
+            return Place::Nowhere;
+        };
+        place = next;
+        i += 1;
+    }
+    Place::At(place)
+}
+
+fn answers_filled(s: &[u8], at: usize, buffer: &[f32]) -> Outcome {
+    let Word::Is(n, next) = decimal_after(s, at, b" => ok buffer ") else {
+        return Outcome::Differs;
+    };
+    if n == buffer.len() as u64 {
+        return ended(s, says_buffer(s, next, buffer));
+    }
+    Outcome::Differs
 }
 
 // The answer of a call that fills a buffer, and the buffer after it. A refused one leaves it.
-fn says_buffer(line: &mut Line<'_>, answer: Result<(), Refusal>, buffer: &[f32]) -> Option<()> {
+pub fn answers_buffer(s: &[u8], at: usize, answer: Answer, buffer: &[f32]) -> Outcome {
     match answer {
-        Ok(()) => {
-            line.past(b" => ok buffer")?;
-            buffer.len().is_said(line)?;
-            line.says(&buffer)
+        Answer::Accepted => answers_filled(s, at, buffer),
+        Answer::Refused(why) => {
+            if unchanged(buffer, 0) {
+                return answers_refusal(s, at, why);
+            }
+            Outcome::Differs
         }
-        Err(why) if is_unchanged(buffer, 0) => line.says(&Refused(why)),
-        Err(_) => None,
     }
-}
-
-// Whether the line's answer is that of the call on a buffer of `length` places.
-pub fn says_filled<F: FnOnce(&mut [f32]) -> Result<(), Refusal> + Drop>(
-    line: &mut Line<'_>,
-    length: usize,
-    fill: F,
-) -> Option<()>
-    requires { F.IsAlwaysCallable fill }
-{
-    if ROOM < length {
-        return None;
-    }
-    let mut places = marked();
-    let buffer = &mut places[..length];
-    let answer = fill(buffer);
-    says_buffer(line, answer, buffer)
 }

@@ -24,6 +24,7 @@ abbrev pub time_fits : AutomationPoint → Bool
 time_fits p = fits binary64 p.time
 
 each_fits : (xs : List AutomationPoint) (us : List Val) → shadow (each the_row.Denot the_row.own_val xs us) → every time_fits xs ≡ true
+unfolding every
 each_fits [] us s = refl
 each_fits (x ∷ xs) [] s = absurd s
 each_fits (x ∷ xs) (u ∷ us) s = and_both s.0.1.1.0.1 (each_fits xs us s.1)

@@ -17,10 +17,12 @@ module _ {A : Type 0} where
   -- ---- a test of each element
 
   pub every_append : (q : A → Bool) (xs ys : List A) → every q (xs ++ ys) ≡ (every q xs && every q ys)
+  unfolding every
   every_append q [] ys = refl
   every_append q (x ∷ xs) ys = rw (every_append q xs ys) (sym (and_assoc (q x) (every q xs) (every q ys)))
 
   pub every_one : (q : A → Bool) (x : A) → every q (x ∷ []) ≡ q x
+  unfolding every
   every_one q x = and-true (q x)
 
   -- one more element
@@ -36,6 +38,7 @@ module _ {A : Type 0} where
 
   -- what each passes, one passes
   pub every_at : (q : A → Bool) (l : List A) (j : ℕ) (d : A) → every q l ≡ true → j < length l → q (get_or l j d) ≡ true
+  unfolding every
   every_at q [] j d e h = absurd (not-suc-le-zero h)
   every_at q (x ∷ l) zero d e h = and_left (q x) _ e
   every_at q (x ∷ l) (suc j) d e h = every_at q l j d (and_right (q x) _ e) (le_of_suc-le-suc h)
@@ -46,34 +49,41 @@ module _ {A : Type 0} where
 
   -- one, or what stands for a place past the end
   pub every_get_d : (q : A → Bool) (l : List A) (i : ℕ) (d : A) → q d ≡ true → every q l ≡ true → q (get_or l i d) ≡ true
+  unfolding every
   every_get_d q [] i d h t = h
   every_get_d q (x ∷ l) zero d h t = and_left (q x) (every q l) t
   every_get_d q (x ∷ l) (suc i) d h t = every_get_d q l i d h (and_right (q x) (every q l) t)
 
   pub every_take : (q : A → Bool) (n : ℕ) (l : List A) → every q l ≡ true → every q (take n l) ≡ true
+  unfolding every
   every_take q zero l t = refl
   every_take q (suc n) [] t = t
   every_take q (suc n) (x ∷ l) t = and_both (and_left (q x) (every q l) t) (every_take q n l (and_right (q x) (every q l) t))
 
   pub every_drop : (q : A → Bool) (n : ℕ) (l : List A) → every q l ≡ true → every q (drop n l) ≡ true
+  unfolding every
   every_drop q zero l t = t
   every_drop q (suc n) [] t = t
   every_drop q (suc n) (x ∷ l) t = every_drop q n l (and_right (q x) (every q l) t)
 
   every_onto : (q : A → Bool) (l r : List A) → every q l ≡ true → every q r ≡ true → every q (reverse_aux l r) ≡ true
+  unfolding every
   every_onto q [] r h k = k
   every_onto q (x ∷ l) r h k = every_onto q l (x ∷ r) (and_right (q x) (every q l) h) (and_both (and_left (q x) (every q l) h) k)
 
   pub every_reverse : (q : A → Bool) (l : List A) → every q l ≡ true → every q (reverse l) ≡ true
+  unfolding every
   every_reverse q l h = every_onto q l [] h refl
 
   pub every_replicate : (q : A → Bool) (n : ℕ) (x : A) → q x ≡ true → every q (replicate n x) ≡ true
+  unfolding every
   every_replicate q zero x h = refl
   every_replicate q (suc n) x h = and_both h (every_replicate q n x h)
 
   -- a list that grows by the elements of another
   pub every_fold : (q : A → Bool) (f : List A → A → List A) → ((l : List A) (x : A) → every q l ≡ true → q x ≡ true → every q (f l x) ≡ true)
       → (l new : List A) → every q l ≡ true → every q new ≡ true → every q (foldl f l new) ≡ true
+  unfolding every
   every_fold q f k l [] h g = h
   every_fold q f k l (x ∷ new) h g = every_fold q f k (f l x) new (k l x h (and_left (q x) (every q new) g)) (and_right (q x) (every q new) g)
 
@@ -175,6 +185,7 @@ module _ {A : Type 0} where
 
 pub every_map : {A B : Type 0} (q : A → Bool) (r : B → Bool) (f : A → B) → ((x : A) → q x ≡ true → r (f x) ≡ true) → (l : List A) → every q l ≡ true
     → every r (map f l) ≡ true
+unfolding every
 every_map q r f k [] h = refl
 every_map q r f k (x ∷ l) h = and_both (k x (and_left (q x) (every q l) h)) (every_map q r f k l (and_right (q x) (every q l) h))
 

@@ -8,10 +8,6 @@ pub mod Laws
 pub mod ValidLaws
 pub mod FloatLaws
 pub mod SearchLaws
-pub mod SliceLaws
 pub mod MiddleLaws
-pub mod WindowLaws
-pub mod CollectLaws
-pub mod BuildLaws
 -- What the proofs of several functions cite.
 pub mod Floats

@@ -1,2 +1,4 @@
-pub mod Values
 pub mod Mapped
+pub mod Times
+pub mod Fades
+pub mod Clamped

@@ -1,2 +1,3 @@
 pub mod Judging
-pub mod Fitting
+pub mod Ends
+pub mod Tested

@@ -4,5 +4,3 @@
 pub mod play;
 pub mod read;
 pub mod write;
-
-pub use lines::SheetRefusal;

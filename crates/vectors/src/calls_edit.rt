@@ -1,29 +1,33 @@
 // The calls of the edits: `NAME E ARGUMENTS => ok E`, and with a second envelope
-// `NAME E E ARGUMENTS => ok E`. `line` is what comes after the name.
-use listing::text::{Line, Outcome};
-use listing_edits::{edit, join};
-use listing_envelopes::records::Envelope;
-use listing_points::answers::Answer;
+// `NAME E E ARGUMENTS => ok E`. `at` is the place after the name.
+use envelope::AutomationEnvelope;
+use listing::text::{Name, Outcome, Place};
+use listing_edits::{EditField, JoinField, edit_at, join_at};
+use listing_envelopes::answers::answers_edited;
+use listing_envelopes::records::envelope_at;
 
-// What an edit gives.
-fn edited(name: &[u8], line: &mut Line<'_>) -> Option<Answer<Envelope>> {
-    let Envelope(e) = line.field()?;
-    Some(Answer(e.edit(edit(name, line)?).map(Envelope)))
+pub(crate) fn run(s: &[u8], at: usize) -> Outcome {
+    let given = envelope_at(s, at);
+    let envelope = given.envelope;
+    let end = given.end;
+    let Place::At(second) = end else {
+        return Outcome::Unknown;
+    };
+    let EditField::Is(edit, next) = edit_at(s, Name { from: 0, to: at }, second) else {
+        return join(s, at, envelope, second);
+    };
+    answers_edited(s, at, next, envelope.edit(edit))
 }
 
-// The same of one with a second envelope.
-fn joined(name: &[u8], line: &mut Line<'_>) -> Option<Answer<Envelope>> {
-    let (Envelope(e), Envelope(other)) = line.field()?;
-    Some(Answer(e.join(join(name, line)?, &other).map(Envelope)))
-}
-
-pub(crate) fn run(name: &[u8], line: Line<'_>) -> Outcome {
-    let (mut alone, mut with_other) = (line, line);
-    if let Some(answer) = edited(name, &mut alone) {
-        Outcome::of(alone.says(&answer))
-    } else if let Some(answer) = joined(name, &mut with_other) {
-        Outcome::of(with_other.says(&answer))
-    } else {
-        Outcome::Unknown
-    }
+fn join(s: &[u8], at: usize, envelope: AutomationEnvelope, second: usize) -> Outcome {
+    let given = envelope_at(s, second);
+    let other = given.envelope;
+    let end = given.end;
+    let Place::At(third) = end else {
+        return Outcome::Unknown;
+    };
+    let JoinField::Is(join, next) = join_at(s, Name { from: 0, to: at }, third) else {
+        return Outcome::Unknown;
+    };
+    answers_edited(s, at, next, envelope.join(join, other))
 }

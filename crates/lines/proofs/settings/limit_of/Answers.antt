@@ -1,0 +1,14 @@
+use native.Mathlib.Omega.{arith}
+use Rattle.lines.specs.Lines.{limit_of}
+use Rattle.lines.proofs.settings.limit_of.Goals as goal
+
+pub overflow_cast-b : goal.overflow_cast-b
+overflow_cast-b c = omega (arith, rw c.in-Bits.is at c.requires)
+
+pub returns-in-None : goal.returns-in-None
+unfolding limit_of
+returns-in-None c = rw c.in-None.is
+
+pub returns-in-Bits : goal.returns-in-Bits
+unfolding limit_of
+returns-in-Bits c = rw (c.in-Bits.is, c.f32_from_bits_with_nan.ensures)
