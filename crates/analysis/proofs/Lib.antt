@@ -1,2 +1,3 @@
+-- Ranges, and peaks and valleys.
 pub mod Ranges
 pub mod Middles

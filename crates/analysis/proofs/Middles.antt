@@ -1,79 +1,86 @@
--- Peaks and valleys: the middle ones of three in a row, and two lists written from their start. Assumes nothing.
-use Prim.Native.Nat.{ℕ, zero, suc, ◌+◌, ◌-◌, ◌≤◌, ◌<◌, min, max, zero-le, suc-le-suc}
-use mathlib.Core.Path.{◌≡◌, refl, sym, ap, ◌∙◌}
-use mathlib.Core.Bool.{Bool, true, false, cond, ◌&&◌}
+-- Peaks and valleys: the middle ones of three in a row as the library's windows give them, and a list written from its start. Assumes nothing.
+use Rattle.std.specs.Prelude.{None, Option, Some}
+use Prim.Native.Nat.{ℕ, zero, suc, ◌+◌, ◌≤◌, ◌<◌}
+use mathlib.Core.Path.{◌≡◌, refl, sym, ap, ap₂, ◌∙◌}
+use mathlib.Core.Bool.{Bool, true, false, cond}
 use mathlib.Core.List.{List, [], ◌∷◌, ◌++◌, map, map-append}
 use native.Mathlib.Numerals.{add-one}
 use native.Mathlib.Omega.{arith}
-use lib.ListN.{length, take, drop, get_or, set, length-append, length-map}
-use lib.Seq.{take-take, drop-cons, set_at, append_snoc}
-use lib.Dec.{leb}
-use lib.Ieee.{Float}
-use Rattle.points.specs.Point.{time_of}
-use Rattle.points.proofs.Laws.{take_min}
+use lib.ListN.{length, take, drop, get_or, set, length-map, length-append}
+use lib.Seq.{drop-cons, set_at, append_snoc}
+use denote.Ref.{Bor}
+use Rattle.std.specs.List.{filter, enumerate_from}
+use Rattle.std.specs.Slice.Iter.{windows_rest, windows_size}
+use Rattle.std.specs.Slice.ArrayWindows.{array_windows_parts, array_windows_steps}
+use Rattle.std.specs.declared.slice.ArrayWindows.{ArrayWindows}
+use Rattle.std.proofs.lemmas.Iterator.{YieldsList}
+use Rattle.std.specs.Iterator.{Yields}
+use Rattle.std.proofs.lemmas.Iterator.Consumers.{YieldsList-turn, YieldsList-end}
+use Rattle.std.proofs.lemmas.Iterator.Splits.{YieldsList-from_shown_while}
 use Rattle.points.specs.Middles.{middles}
-use Rattle.points.proofs.MiddleLaws.{middles_yes, middles_two}
-use Rattle.points.specs.Points.{list_of}
-use Rattle.points.specs.Refusal.{gives, refuses}
+use Rattle.points.specs.Point.{any_point}
 use Rattle.points.specs.declared.AutomationPoint.{AutomationPoint}
-use Rattle.points.specs.declared.Points.{Points}
-use Rattle.lookup.specs.Valid.{valid}
-use Rattle.analysis.specs.Analysis.{find_middles}
-use Rattle.analysis.specs.Ranges.{value_of}
-use Rattle.limits.specs.declared.Limits.{Limits}
 
-module _ {A : Type 0} (q : A → A → A → Bool) where
-  -- where the loop ends: at n, or at 2 where n is less
-  middles_one : (l : List A) → middles q (take 1 l) ≡ []
-  unfolding middles
-  middles_one [] = refl
-  middles_one (a ∷ l) = refl
+-- ---- the windows of three
 
-  middles_none : (l : List A) → middles q (take 0 l) ≡ []
-  unfolding middles
-  middles_none l = refl
+pub triples : {A : Type 0} → List A → List (List A)
+triples [] = []
+triples (a ∷ []) = []
+triples (a ∷ (b ∷ [])) = []
+triples (a ∷ (b ∷ (c ∷ l))) = (a ∷ b ∷ c ∷ []) ∷ triples (b ∷ (c ∷ l))
 
-  pub middles_end : (l : List A) (i n : ℕ) → 2 ≤ i → i ≤ max 2 n → n ≤ i → middles q (take i l) ≡ middles q (take n l)
-  middles_end l i zero p w r = let e : i ≡ 2 = omega arith in rw e (middles_two q l ∙ sym (middles_none l))
-  middles_end l i (suc zero) p w r = let e : i ≡ 2 = omega arith in rw e (middles_two q l ∙ sym (middles_one l))
-  middles_end l i (suc (suc n)) p w r = let e : i ≡ suc (suc n) = omega arith in rw e
+module _ {A : Type 0} where
+  triples_short : (l : List A) → length l < 3 → length (triples l) ≡ 0
+  unfolding triples
+  triples_short [] h = refl
+  triples_short (a ∷ []) h = refl
+  triples_short (a ∷ (b ∷ [])) h = refl
+  triples_short (a ∷ (b ∷ (c ∷ l))) h = absurd (omega arith)
 
-  -- of fewer points there are no more
-  middles_part : (l : List A) (i : ℕ) → length (middles q (take i l)) ≤ length (middles q l)
-  unfolding middles
-  middles_part [] zero = zero-le
-  middles_part [] (suc i) = zero-le
-  middles_part (a ∷ l) zero = zero-le
-  middles_part (a ∷ l) (suc zero) = zero-le
-  middles_part (a ∷ []) (suc (suc i)) = zero-le
-  middles_part (a ∷ (b ∷ l)) (suc (suc zero)) = zero-le
-  middles_part (a ∷ (b ∷ [])) (suc (suc (suc i))) = zero-le
-  middles_part (a ∷ (b ∷ (c ∷ l))) (suc (suc (suc i))) = go (q a b c) _ _ (middles_part (b ∷ (c ∷ l)) (suc (suc i)))
+  triples_more : (l : List A) → 3 ≤ length l → triples l ≡ take 3 l ∷ triples (drop 1 l)
+  unfolding triples
+  triples_more [] h = absurd (omega arith)
+  triples_more (a ∷ []) h = absurd (omega arith)
+  triples_more (a ∷ (b ∷ [])) h = absurd (omega arith)
+  triples_more (a ∷ (b ∷ (c ∷ l))) h = refl
+
+  pub windows_give : {s : ArrayWindows A 3} (xs : List A) → windows_size (array_windows_parts s) ≡ 3 → windows_rest (array_windows_parts s) ≡ xs
+      → YieldsList (array_windows_steps {A = A} {n = 3}) (λ x. x.now) s (triples xs)
+  windows_give {s} xs three rest =
+      rw (← rest)
+      (YieldsList-from_shown_while array_windows_steps (λ x. x.now) (λ t. triples (windows_rest (array_windows_parts t))) (λ t. windows_size (array_windows_parts t) ≡ 3)
+      (λ t u h k. triples_short (windows_rest (array_windows_parts t)) (omega (arith, h, k.1.0)))
+      (λ t x u h k.
+      let size : windows_size (array_windows_parts t) ≡ 3 = h in
+      let w : x.now ≡ take 3 (windows_rest (array_windows_parts t)) = rw h at k.1.1 in (
+        k.0 ∙ h,
+        triples_more (windows_rest (array_windows_parts t)) (omega (arith, h, k.1.0)) ∙ ap (λ (y : List A). y ∷ triples (drop 1 (windows_rest (array_windows_parts t)))) (sym w)
+            ∙ ap (λ (y : List A). x.now ∷ triples y) (sym k.1.2),
+      ))
+      s three)
+
+-- ---- the test of a window, and its middle one
+
+abbrev pub in_row : (AutomationPoint → AutomationPoint → AutomationPoint → Bool) → List AutomationPoint → Bool
+in_row q w = q (get_or w 0 any_point) (get_or w 1 any_point) (get_or w 2 any_point)
+
+abbrev pub middle : List AutomationPoint → AutomationPoint
+middle w = get_or w 1 any_point
+
+module _ (q : AutomationPoint → AutomationPoint → AutomationPoint → Bool) where
+  pub middles_are : (l : List AutomationPoint) → map middle (filter (in_row q) (triples l)) ≡ middles q l
+  unfolding middles triples
+  middles_are [] = refl
+  middles_are (a ∷ []) = refl
+  middles_are (a ∷ (b ∷ [])) = refl
+  middles_are (a ∷ (b ∷ (c ∷ l))) = go (q a b c) _ _ (middles_are (b ∷ (c ∷ l)))
     where
-      go : (t : Bool) (new old : List A) → length new ≤ length old → length (cond t (b ∷ new) new) ≤ length (cond t (b ∷ old) old)
-      go true new old h = suc-le-suc h
-      go false new old h = h
+      go : (t : Bool) (ws : List (List AutomationPoint)) (ms : List AutomationPoint) → map middle ws ≡ ms → map middle (cond t ((a ∷ b ∷ c ∷ []) ∷ ws) ws) ≡ cond t (b ∷ ms) ms
+      go true ws ms e = ap (λ (m : List AutomationPoint). b ∷ m) e
+      go false ws ms e = e
 
-  pub middles_room : (l : List A) (i n : ℕ) → i ≤ n → length (middles q (take i l)) ≤ length (middles q (take n l))
-  middles_room l i n h = rw (take-take i n l h) at (middles_part (take n l) i)
-
-  -- one more of them is one more place
-  pub middles_next : (l : List A) (i : ℕ) (d : A) → 2 ≤ i → i < length l → q (get_or l (i - 2) d) (get_or l (i - 1) d) (get_or l i d) ≡ true
-      → length (middles q (take (i + 1) l)) ≡ length (middles q (take i l)) + 1
-  middles_next l i d p h y = ap length (middles_yes q l i d p h y) ∙ length-append (middles q (take i l)) (get_or l (i - 1) d ∷ [])
-
-  -- an array of 256 places with a count: what the loop over the places in use ends with, and the room it has before
-  module _ (l : List A) (count n : ℕ) (len : length l ≡ 256) (u : n ≡ min count 256) where
-    used_all : take n l ≡ take count l
-    used_all = ap (λ (m : ℕ). take m l) u ∙ take_min count l 256 len
-
-    pub middles_all : (i : ℕ) → 2 ≤ i → i ≤ max 2 n → n ≤ i → middles q (take i l) ≡ middles q (take count l)
-    middles_all i p w r = middles_end l i n p w r ∙ ap (middles q) used_all
-
-    pub room_left : (i k : ℕ) (d : A) → 2 ≤ i → i < n → q (get_or l (i - 2) d) (get_or l (i - 1) d) (get_or l i d) ≡ true → k ≡ length (middles q (take i l))
-        → k < length (middles q (take count l))
-    room_left i k d p h y e =
-        omega (arith, middles_next l i d p (omega arith) y, middles_room l (i + 1) n (omega arith), ap (λ (m : List A). length (middles q m)) used_all)
+  pub middles_count : (l : List AutomationPoint) → length (filter (in_row q) (triples l)) ≡ length (middles q l)
+  middles_count l = sym (length-map (filter (in_row q) (triples l)) middle) ∙ ap length (middles_are l)
 
 -- a turn of a loop that writes a number of each from a list's start
 pub write_turn : {A B : Type 0} (f : A → B) (m : List A) (x : A) (o out : List B) (k : ℕ) → k ≡ length m → k < length o → out ≡ map f m ++ drop k o
@@ -85,24 +92,55 @@ write_turn f m x o out k w h e =
     ∙ ap (λ l. l ++ drop (suc k) o) (sym (map-append f m (x ∷ [])))
     ∙ ap (λ (j : ℕ). map f (m ++ (x ∷ [])) ++ drop j o) (sym (add-one k))
 
--- ---- the ways out
+-- ---- what comes in turn
 
-module _ (q : AutomationPoint → AutomationPoint → AutomationPoint → Bool) (ps : Points) (limits : Limits) (times values : List Float) where
-  pub find_invalid : valid ps limits ≡ false → find_middles q ps limits times values ≡ record { said = refuses 1; times = times; values = values }
-  unfolding find_middles
-  find_invalid v = rw v
+enumerate_at : {A : Type 0} (l : List A) (n j : ℕ) (d : ℕ × A) → j < length (enumerate_from n l) → ((get_or (enumerate_from n l) j d).0 ≡ n + j) × (j < length l)
+enumerate_at [] n j d h = absurd (omega arith)
+enumerate_at (x ∷ l) n zero d h = (omega arith, omega arith)
+enumerate_at (x ∷ l) n (suc j) d h = let e = enumerate_at l (n + 1) j d (omega arith) in (omega (arith, e.0), omega (arith, e.1))
 
-  module _ (v : valid ps limits ≡ true) (n : ℕ) (e : n ≡ length (middles q (list_of ps))) where
-    pub find_short : (leb n (length times) && leb n (length values)) ≡ false → find_middles q ps limits times values ≡ record { said = refuses 8; times = times; values = values }
-    unfolding find_middles
-    find_short h = rw (v, ← e, h)
+-- the middle ones of windows that have come, with their numbers
+abbrev pub seen : List (ℕ × Bor (List AutomationPoint)) → List AutomationPoint
+seen ws = map (λ p. middle p.1.now) ws
 
-    pub find_filled : (leb n (length times) && leb n (length values)) ≡ true
-        → find_middles q ps limits times values
-        ≡ record {
-          said = gives n;
-          times = map time_of (middles q (list_of ps)) ++ drop (length (middles q (list_of ps))) times;
-          values = map value_of (middles q (list_of ps)) ++ drop (length (middles q (list_of ps))) values;
-        }
-    unfolding find_middles
-    find_filled h = rw (v, ← e, h)
+pub write_more : {B : Type 0} (f : AutomationPoint → B) (ws : List (ℕ × Bor (List AutomationPoint))) (w : ℕ × Bor (List AutomationPoint)) (o out : List B)
+    → w.0 ≡ length ws → length ws < length o → out ≡ map f (seen ws) ++ drop (length ws) o
+    → set out w.0 (f (middle w.1.now)) ≡ map f (seen (ws ++ (w ∷ []))) ++ drop (length (ws ++ (w ∷ []))) o
+write_more f ws w o out e h i =
+    let long : length (seen ws) ≡ length ws = length-map ws (λ p. middle p.1.now) in
+    let more : length ws + 1 ≡ length (ws ++ (w ∷ [])) = sym (length-append ws (w ∷ [])) in
+    ap (λ (k : ℕ). set out k (f (middle w.1.now))) e
+    ∙ (write_turn f (seen ws) (middle w.1.now) o out (length ws) (sym long) h i
+    ∙ ap₂ (λ (m : List AutomationPoint) (n : ℕ). map f m ++ drop n o) (sym (map-append (λ p. middle p.1.now) ws (w ∷ []))) more)
+
+seen_are : (ws : List (ℕ × Bor (List AutomationPoint))) (vs : List (List AutomationPoint)) (n : ℕ) → map (λ p. (p.0, p.1.now)) ws ≡ enumerate_from n vs → seen ws ≡ map middle vs
+seen_are [] [] n e = refl
+seen_are [] (v ∷ vs) n e = cc
+seen_are (w ∷ ws) [] n e = cc
+seen_are (w ∷ ws) (v ∷ vs) n e =
+    let p : ◌≡◌ {A = ℕ × List AutomationPoint} (w.0, w.1.now) (n, v) = cc in
+    let r : map (λ p. (p.0, p.1.now)) ws ≡ enumerate_from (n + 1) vs = cc in
+    ap₂ (λ (x : ℕ × List AutomationPoint) (m : List AutomationPoint). middle x.1 ∷ m) p (seen_are ws vs (n + 1) r)
+
+-- the windows that pass the test, each with its number
+abbrev pub passing : (AutomationPoint → AutomationPoint → AutomationPoint → Bool) → List AutomationPoint → List (ℕ × List AutomationPoint)
+passing q l = enumerate_from 0 (filter (in_row q) (triples l))
+
+module _ (q : AutomationPoint → AutomationPoint → AutomationPoint → Bool) (l : List AutomationPoint) {S : Type 0} {steps : S → Option (ℕ × Bor (List AutomationPoint)) → S → Type 0} {s t : S}
+    (e : YieldsList steps (λ p. (p.0, p.1.now)) s (passing q l)) (ws : List (ℕ × Bor (List AutomationPoint))) (y : Yields steps s ws t) (r : Option (ℕ × Bor (List AutomationPoint))) (u : S) where
+  -- the next one's number is how many came before it, of no more than there are middle ones
+  pub numbered : (w : ℕ × Bor (List AutomationPoint)) → r ≡ Some w → steps t r u → (w.0 ≡ length ws) × (length ws < length (middles q l))
+  numbered w is p =
+      let k = YieldsList-turn e ws t y r u w is p in
+      let n = enumerate_at (filter (in_row q) (triples l)) 0 (length ws) (w.0, w.1.now) k.0 in
+      let m = middles_count q l in
+      let f : w.0 ≡ (get_or (passing q l) (length ws) (w.0, w.1.now)).0 = ap (λ (x : ℕ × List AutomationPoint). x.0) k.1 in
+      (omega (arith, f, n.0), omega (arith, m, n.1))
+
+  -- at the end they are the middle ones of the points
+  pub all_written : {B : Type 0} (f : AutomationPoint → B) (o : List B) → r ≡ None → steps t r u → map f (seen ws) ++ drop (length ws) o ≡ map f (middles q l) ++ drop (length (middles q l)) o
+  all_written f o is p =
+      let k = YieldsList-end e ws t y r u is p in
+      let m : seen ws ≡ middles q l = seen_are ws (filter (in_row q) (triples l)) 0 k.0 ∙ middles_are q l in
+      let n : length ws ≡ length (middles q l) = sym (length-map ws (λ p. middle p.1.now)) ∙ ap length m in
+      ap₂ (λ (x : List AutomationPoint) (k : ℕ). map f x ++ drop k o) m n

@@ -1,7 +1,6 @@
 -- 01, "Analysis": ranges, slope, peaks and valleys.
-use Rattle.std.specs.Prelude.{ℕ, ◌+◌, ◌-◌, ◌*◌, ◌/◌, max, Bool, true, false, cond, ◌&&◌, length, drop, ltb, leb, pos, Float}
-use mathlib.Core.List.{List, [], ◌∷◌, ◌++◌, map, foldl}
-use Rattle.std.proofs.Math.Option.{Option, none, some}
+use Rattle.std.specs.Prelude.{ℕ, ◌+◌, ◌-◌, ◌*◌, ◌/◌, max, Bool, true, false, cond, ◌&&◌, ltb, leb, pos, Float, None, Option, Some}
+use Rattle.std.specs.Prelude.{List, [], ◌∷◌, ◌++◌, map, filter, fold, length, drop}
 use Rattle.std.specs.Float.{inf, binary32, binary64}
 use Rattle.std.specs.Float.Ieee.{add, sub, mul, div, lt, le, of_int, of_bits}
 use Rattle.numbers.specs.Bounds.{finite, max_num, min_num}
@@ -9,37 +8,27 @@ use Rattle.numbers.specs.Narrow.{narrow}
 use Rattle.curve.specs.F32.{f0}
 use Rattle.points.specs.Middles.{middles}
 use Rattle.points.specs.Points.{list_of}
-use Rattle.points.specs.Refusal.{Said, refuses, gives, number}
+use Rattle.points.specs.Refusal.{Said, refuses, gives}
 use Rattle.points.specs.declared.AutomationPoint.{AutomationPoint}
 use Rattle.points.specs.declared.Points.{Points}
 use Rattle.lookup.specs.Valid.{valid}
 use Rattle.lookup.specs.Lookup.{value_at, value_at_sample, keys_rise}
 use Rattle.lookup.specs.Runs.{run}
 use Rattle.limits.specs.declared.Limits.{Limits}
-use Rattle.analysis.specs.declared.Range.{Range}
-use Rattle.analysis.specs.declared.Range.TheVariants as range
-use Rattle.analysis.specs.declared.Found.{Found}
-use Rattle.analysis.specs.declared.Found.TheVariants as found
 
 -- ---- ranges
 
 -- the values among lookups that are not silent
 unfoldable pub given_values : List (Option Float) → List Float
 given_values [] = []
-given_values (none ∷ l) = given_values l
-given_values (some v ∷ l) = v ∷ given_values l
+given_values (None ∷ l) = given_values l
+given_values (Some v ∷ l) = v ∷ given_values l
 
 -- the least and the greatest, from the infinities: "none if the minimum isn't finite"
 unfoldable pub range_of : List Float → Option (Float × Float)
 range_of l =
-    let low = foldl min_num (inf false) l in
-    cond (finite low) (some (low, foldl max_num (inf true) l)) none
-
--- a range's answer in 01's terms
-abbrev pub range_told : Range → Said (Option (Float × Float))
-range_told range.None = gives none
-range_told (range.Pair low high) = gives (some (low, high))
-range_told (range.Refused r) = refuses (number r)
+    let low = fold min_num (inf false) l in
+    cond (finite low) (Some (low, fold max_num (inf true) l)) None
 
 -- 000's `start_time + step * i`, the step being the span / 100
 abbrev pub range_time : Float → Float → ℕ → Float
@@ -47,8 +36,7 @@ range_time start end i = add binary64 start (mul binary64 (div binary64 (sub bin
 
 -- "raw, unconstrained values of points inside"
 unfoldable pub raw_inside : Float → Float → List AutomationPoint → List Float
-raw_inside start end [] = []
-raw_inside start end (p ∷ l) = cond (le start p.time && le p.time end) (p.value ∷ raw_inside start end l) (raw_inside start end l)
+raw_inside start end l = map (λ p. p.value) (filter (λ p. le start p.time && le p.time end) l)
 
 -- "`get_range` takes 101 lookups and adds raw, unconstrained values of points inside", with refusals 1 and 3
 unfoldable pub get_range : Points → Bool → Limits → Float → Float → Said (Option (Float × Float))
@@ -88,15 +76,15 @@ delta = of_bits binary64 0x3F50_624D_D2F1_A9FC
 
 -- the quotient of two lookups' difference and 0.002 in f32; none where either is silent
 unfoldable pub slope_of : Option Float → Option Float → Option Float
-slope_of none after = none
-slope_of (some v) none = none
-slope_of (some v) (some w) = some (div binary32 (sub binary32 w v) (narrow (mul binary64 (of_bits binary64 0x4000_0000_0000_0000) delta)))
+slope_of None after = None
+slope_of (Some v) None = None
+slope_of (Some v) (Some w) = Some (div binary32 (sub binary32 w v) (narrow (mul binary64 (of_bits binary64 0x4000_0000_0000_0000) delta)))
 
 -- "`get_slope_at` gives 0 under two points, even disabled"; the lookups are 0.001 before and after
 unfoldable pub get_slope_at : Points → Bool → Limits → Float → Said (Option Float)
 get_slope_at points enabled limits time =
     cond (valid points limits)
-    (gives (cond (ltb (length (list_of points)) 2) (some f0)
+    (gives (cond (ltb (length (list_of points)) 2) (Some f0)
     (slope_of (value_at points enabled limits (sub binary64 time delta)) (value_at points enabled limits (add binary64 time delta)))))
     (refuses 1)
 
@@ -115,11 +103,6 @@ pub record Filled : Type 0 where
   pub said : Said ℕ
   pub times : List Float
   pub values : List Float
-
--- a search's answer in 01's terms
-abbrev pub found_told : Found → Said ℕ
-found_told (found.Count n) = gives n
-found_told (found.Refused r) = refuses (number r)
 
 -- "they fill a lent list of times and one of values from the start and leave the places after them"; 1, and 8 where either is too short
 unfoldable pub find_middles : (AutomationPoint → AutomationPoint → AutomationPoint → Bool) → Points → Limits → List Float → List Float → Filled

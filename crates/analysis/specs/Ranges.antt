@@ -1,18 +1,12 @@
--- The analyses' own terms, which their private functions cite: the least and the greatest value of lookups so far, and the test of three points in a row.
-use Rattle.std.specs.Prelude.{ℕ, ◌+◌, ◌*◌, Bool, true, false, cond, List, Float}
-use Rattle.std.proofs.Math.Option.{Option, none, some}
+-- The analyses' own terms, which their private functions cite: the least and the greatest value so far, and the test of three points in a row.
+use Rattle.std.specs.Prelude.{Bool, true, false, cond, Float, None, Option, Some}
 use Rattle.std.specs.Float.{inf}
 use Rattle.numbers.specs.Bounds.{finite, max_num, min_num}
-use Rattle.points.specs.Middles.{middles}
-use Rattle.points.specs.Points.{list_of}
-use Rattle.points.specs.Refusal.{Said, refuses, gives}
 use Rattle.points.specs.declared.AutomationPoint.{AutomationPoint}
-use Rattle.points.specs.declared.Points.{Points}
-use Rattle.lookup.specs.Lookup.{value_at, value_at_sample}
-use Rattle.lookup.specs.Runs.{run}
-use Rattle.analysis.specs.Analysis.{given_values, range_time, slope_of, is_peak, is_valley}
-use Rattle.limits.specs.declared.Limits.{Limits}
+use Rattle.analysis.specs.Analysis.{is_peak, is_valley}
 use Rattle.analysis.specs.declared.Bounds.{Bounds}
+use Rattle.analysis.specs.declared.Extreme.{Extreme}
+use Rattle.analysis.specs.declared.Extreme.TheVariants.{Peak, Valley}
 
 -- ---- the least and the greatest
 
@@ -24,45 +18,21 @@ no_values = record { low = inf false; high = inf true }
 abbrev pub widen : Bounds → Float → Bounds
 widen b v = record { low = min_num b.low v; high = max_num b.high v }
 
--- with one more lookup
-abbrev pub add_lookup : Bounds → Said (Option Float) → Bounds
-add_lookup b (gives (some v)) = widen b v
-add_lookup b (gives none) = b
-add_lookup b (refuses n) = b
+-- with one more lookup's, if it isn't silent
+abbrev pub add_value : Bounds → Option Float → Bounds
+add_value b None = b
+add_value b (Some v) = widen b v
 
 -- "none if the minimum isn't finite"
 abbrev pub as_range : Bounds → Option (Float × Float)
-as_range b = cond (finite b.low) (some (b.low, b.high)) none
-
--- ---- the lookups
-
--- the values of n lookups by time
-abbrev pub values_at_times : Points → Bool → Limits → Float → Float → ℕ → List Float
-values_at_times points enabled limits start end n = given_values (run (λ i. value_at points enabled limits (range_time start end i)) 0 n)
-
--- and by sample
-abbrev pub values_at_samples : Points → Bool → Limits → ℕ → ℕ → ℕ → List Float
-values_at_samples points enabled limits start step n = given_values (run (λ k. value_at_sample points enabled limits (start + k * step)) 0 n)
-
--- ---- slope
-
--- of two lookups' answers
-abbrev pub slope_said : Said (Option Float) → Said (Option Float) → Said (Option Float)
-slope_said (refuses n) after = refuses n
-slope_said (gives none) after = gives none
-slope_said (gives (some v)) (refuses n) = refuses n
-slope_said (gives (some v)) (gives after) = gives (slope_of (some v) after)
+as_range b = cond (finite b.low) (Some (b.low, b.high)) None
 
 -- ---- peaks and valleys
 
 -- one test or the other
-abbrev pub middle_test : Bool → AutomationPoint → AutomationPoint → AutomationPoint → Bool
-middle_test true = is_valley
-middle_test false = is_peak
-
--- the peaks of points, or the valleys
-abbrev pub middles_of : Bool → Points → List AutomationPoint
-middles_of valley points = middles (middle_test valley) (list_of points)
+abbrev pub middle_test : Extreme → AutomationPoint → AutomationPoint → AutomationPoint → Bool
+middle_test Peak = is_peak
+middle_test Valley = is_valley
 
 -- a point's value
 abbrev pub value_of : AutomationPoint → Float

@@ -1,20 +1,14 @@
 -- 02, F-3, "Merge, asked first": what ask says, and its ticket.
-use Rattle.std.specs.Prelude.{ℕ, Float}
-use Rattle.points.specs.Refusal.{Said, refuses, gives, number}
+use Rattle.std.specs.Prelude.{ℕ, Float, Err, Ok, Result}
+use Rattle.points.specs.Refusal.{Said, refuses, gives, number, said}
 use Rattle.envelope.specs.Edit.{EditTold, join_of}
 use Rattle.envelope.specs.declared.AutomationEnvelope.{AutomationEnvelope}
 use Rattle.envelope.specs.declared.edit.Join.TheVariants.{Merge}
 use Rattle.ask.specs.declared.Ticket.{Ticket}
-use Rattle.ask.specs.declared.MergeCount.{MergeCount}
-use Rattle.ask.specs.declared.MergeCount.TheVariants as count
 use Rattle.ask.specs.declared.Asked.{Asked}
+use Rattle.points.specs.declared.refusal.Refusal.{Refusal}
 
 -- ---- an answer in 01's terms
-
--- a count, or a refusal by its number
-abbrev pub told_count : MergeCount → Said ℕ
-told_count (count.Is n) = gives n
-told_count (count.Refused r) = refuses (number r)
 
 -- what ask says, and the ticket
 pub record AskTold : Type 0 where
@@ -23,7 +17,7 @@ pub record AskTold : Type 0 where
 
 -- an `Asked` in these terms
 abbrev pub told_ask : Asked → AskTold
-told_ask a = record { said = told_count a.answer; ticket = a.ticket }
+told_ask a = record { said = said a.answer; ticket = a.ticket }
 
 -- ---- ask
 

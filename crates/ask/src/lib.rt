@@ -2,11 +2,10 @@
 #![tactic(auto)]
 
 ghost use Rattle.std.specs.Prelude.{◌≡◌};
-ghost use Rattle.points.specs.Refusal.{said};
-ghost use Rattle.ask.specs.Ask.{told_count, count_if, told_ask, ask_of};
+ghost use Rattle.ask.specs.Ask.{told_ask, ask_of};
 
 use envelope::AutomationEnvelope;
-use points::refusal::{Answer, Refusal};
+use points::refusal::Refusal;
 
 // What was asked, bit for bit. It is plain data: one that no ask gave is as good.
 #[derive(Clone, Copy)]
@@ -16,42 +15,23 @@ pub struct Ticket {
     pub offset: f64,
 }
 
-// How many points a merge will give, or its refusal.
-#[derive(Clone, Copy)]
-pub enum MergeCount {
-    Is(usize),
-    Refused(Refusal),
-}
-
+// How many points the merge will give, or its refusal; the ticket in either case.
 #[derive(Clone, Copy)]
 pub struct Asked {
-    pub answer: MergeCount,
+    pub answer: Result<usize, Refusal>,
     pub ticket: Ticket,
 }
 
-fn counted(told: Answer, count: usize) -> MergeCount
-    ensures { told_count result ≡ count_if (said told) count }
-{
-    match told {
-        Answer::Accepted => MergeCount::Is(count),
-        Answer::Refused(refusal) => MergeCount::Refused(refusal),
-    }
-}
-
 // What `merge` of the second into the first will give.
-pub fn ask_merge(first: AutomationEnvelope, second: AutomationEnvelope, offset: f64) -> Asked
-    ensures { told_ask result ≡ ask_of first second offset }
+#[tactic(auto, unfolding(crate::specs::Ask::ask_of))]
+pub fn ask_merge(first: &AutomationEnvelope, second: &AutomationEnvelope, offset: f64) -> Asked
+    ensures { told_ask result ≡ ask_of first.now second.now offset }
 {
-    let merged = first.merge(second, offset);
-    let told = merged.answer;
-    let envelope = merged.envelope;
-    let points = envelope.points;
-    let answer = counted(told, points.count);
     Asked {
-        answer,
+        answer: first.merge(second, offset).map(|made| made.points.count),
         ticket: Ticket {
-            first,
-            second,
+            first: *first,
+            second: *second,
             offset,
         },
     }

@@ -1,7 +1,5 @@
-// The Bench's edits, by their numbers here, each so many times on one envelope. The other one of a combination has the same points, later by x.
+// The Bench's edits, each so many times on one envelope; bench/ calls from C and names an edit by its number here. The other one of a combination has the same points, later by x.
 use crate::made::{curve_of, made, point, shown};
-use limits::Limit;
-use points::refusal::Answer;
 
 #[unsafe(no_mangle)]
 pub extern "C" fn rattle_edit(
@@ -20,14 +18,11 @@ pub extern "C" fn rattle_edit(
     let xf = numbers::convert::f64_to_f32(x);
     let yf = numbers::convert::f64_to_f32(y);
     let p = point(x, yf, curve_of(0));
-    let limit = Limit::Number(xf);
-    let moved = e.shift_points(x);
-    let other = moved.envelope;
-    let mut answer = Answer::Accepted;
-    let mut last = e;
-    let mut i: u32 = 0;
-    while i < turns {
-        let r = match which {
+    let limit = Some(xf);
+    let other = e.shift_points(x).unwrap_or(e);
+    let mut last = Ok(e);
+    for _ in 0..turns {
+        last = match which {
             0 => e.add_point(p),
             1 => e.remove_point_at(x),
             2 => e.shift_points(x),
@@ -55,17 +50,17 @@ pub extern "C" fn rattle_edit(
             24 => e.set_max(limit),
             25 => e.set_step(limit),
             26 => e.set_hard(true),
-            27 => e.merge(e, x),
-            28 => e.blend(other, yf),
-            29 => e.add(other),
-            30 => e.multiply(other),
-            31 => e.min(other),
-            32 => e.max(other),
-            _ => e.subtract(other),
+            27 => e.merge(&e, x),
+            28 => e.blend(&other, yf),
+            29 => e.add(&other),
+            30 => e.multiply(&other),
+            31 => e.min(&other),
+            32 => e.max(&other),
+            _ => e.subtract(&other),
         };
-        answer = r.answer;
-        last = r.envelope;
-        i += 1;
     }
-    shown(answer, last, out_times, out_values)
+    match last {
+        Ok(made) => shown(&made, out_times, out_values),
+        Err(why) => shown(&e, out_times, out_values).wrapping_add(u64::from(why.number())),
+    }
 }

@@ -1,26 +1,13 @@
 // The Player's calls, each so many times on one envelope.
 use crate::made::{limited, made};
-use lookup::Lookup;
-use points::refusal::Answer;
-use std::num::f32_to_bits_with_nan;
-
-fn wide(x: u32) -> u64 {
-    x as u64
-}
+use points::refusal::Refusal;
 
 // The value's pattern; 0 for silent and 1 for refused, which no value that is measured has.
-pub(crate) fn bits(answer: Lookup) -> u64 {
+pub(crate) fn bits(answer: Result<Option<f32>, Refusal>) -> u64 {
     match answer {
-        Lookup::Silent => 0,
-        Lookup::Value(v) => wide(f32_to_bits_with_nan(v)),
-        Lookup::Refused(_) => 1,
-    }
-}
-
-fn accepted(answer: Answer) -> u64 {
-    match answer {
-        Answer::Accepted => 1,
-        Answer::Refused(_) => 0,
+        Ok(None) => 0,
+        Ok(Some(v)) => u64::from(std::num::f32_to_bits_with_nan(v)),
+        Err(_) => 1,
     }
 }
 
@@ -32,13 +19,8 @@ pub extern "C" fn rattle_get_value_at(
     at: &[f64],
 ) -> u64 {
     let e = made(times, values, curve);
-    let mut sum: u64 = 0;
-    let mut i: usize = 0;
-    while i < at.len() {
-        sum = std::num::wrapping_add_u64(sum, bits(e.get_value_at(at[i])));
-        i += 1;
-    }
-    sum
+    at.iter()
+        .fold(0u64, |sum, t| sum.wrapping_add(bits(e.get_value_at(*t))))
 }
 
 #[unsafe(no_mangle)]
@@ -49,13 +31,10 @@ pub extern "C" fn rattle_get_value_at_sample(
     at: &[u64],
 ) -> u64 {
     let e = made(times, values, curve);
-    let mut sum: u64 = 0;
-    let mut i: usize = 0;
-    while i < at.len() {
-        sum = std::num::wrapping_add_u64(sum, bits(e.get_value_at_sample(at[i])));
-        i += 1;
-    }
-    sum
+    at.iter().fold(
+        0u64,
+        |sum, n| sum.wrapping_add(bits(e.get_value_at_sample(*n))),
+    )
 }
 
 #[unsafe(no_mangle)]
@@ -70,10 +49,8 @@ pub extern "C" fn rattle_to_buffer(
 ) -> u64 {
     let e = made(times, values, curve);
     let mut good: u64 = 0;
-    let mut i: u32 = 0;
-    while i < turns {
-        good = std::num::wrapping_add_u64(good, accepted(e.to_buffer(rate, duration, out, 0)));
-        i += 1;
+    for _ in 0..turns {
+        good = good.wrapping_add(u64::from(e.to_buffer(rate, duration, out, 0).is_ok()));
     }
     good
 }
@@ -93,12 +70,10 @@ pub extern "C" fn rattle_to_buffer_limits(
     turns: u32,
     out: &mut [f32],
 ) -> u64 {
-    let e = limited(made(times, values, curve), min, max, step, hard);
+    let e = limited(&made(times, values, curve), min, max, step, hard);
     let mut good: u64 = 0;
-    let mut i: u32 = 0;
-    while i < turns {
-        good = std::num::wrapping_add_u64(good, accepted(e.to_buffer(rate, duration, out, 0)));
-        i += 1;
+    for _ in 0..turns {
+        good = good.wrapping_add(u64::from(e.to_buffer(rate, duration, out, 0).is_ok()));
     }
     good
 }
@@ -117,10 +92,8 @@ pub extern "C" fn rattle_render(
     let e = made(times, values, curve);
     let n = out.len() as u64;
     let mut good: u64 = 0;
-    let mut i: u32 = 0;
-    while i < turns {
-        good = std::num::wrapping_add_u64(good, accepted(e.render(rate, first, n, out, 0)));
-        i += 1;
+    for _ in 0..turns {
+        good = good.wrapping_add(u64::from(e.render(rate, first, n, out, 0).is_ok()));
     }
     good
 }

@@ -48,11 +48,8 @@ pub extern "C" fn rattle_session_edit(
     memory: &mut [u64],
 ) -> u64 {
     let mut s = started(made(times, values, curve), memory);
-    let mut i: u32 = 0;
-    while i < turns {
-        let r = s.edit(edit_of(which, time, i), memory);
-        s = r.session;
-        i += 1;
+    for i in 0..turns {
+        let _ = s.edit(edit_of(which, time, i), memory);
     }
     s.kept as u64
 }
@@ -66,16 +63,11 @@ pub extern "C" fn rattle_session_step(
     turns: u32,
     memory: &mut [u64],
 ) -> u64 {
-    let begun = started(made(times, values, curve), memory);
-    let first = begun.edit(shift(0.25), memory);
-    let mut s = first.session;
-    let mut i: u32 = 0;
-    while i < turns {
-        let back = s.back(memory);
-        let before = back.session;
-        let forward = before.forward(memory);
-        s = forward.session;
-        i += 1;
+    let mut s = started(made(times, values, curve), memory);
+    let _ = s.edit(shift(0.25), memory);
+    for _ in 0..turns {
+        let _ = s.back(memory);
+        let _ = s.forward(memory);
     }
     s.kept as u64
 }

@@ -1,15 +1,5 @@
 // The sheet, read and written so many times.
-use crate::made::{number, shown};
-use points::refusal::Answer;
-use sheet::read::SheetAnswer;
-use sheet::write::Written;
-
-fn bytes(written: Written) -> u64 {
-    match written {
-        Written::Bytes(n) => n as u64,
-        Written::Refused(_) => 0,
-    }
-}
+use crate::made::shown;
 
 // A refusal's number and 16 times its line; else 16 times the count, and the lists are filled.
 #[unsafe(no_mangle)]
@@ -20,32 +10,22 @@ pub extern "C" fn rattle_read_sheet(
     out_values: &mut [f32],
 ) -> u64 {
     let mut last = sheet::read::read_sheet(text);
-    let mut i: u32 = 1;
-    while i < turns {
+    for _ in 1..turns {
         last = sheet::read::read_sheet(text);
-        i += 1;
     }
-    let answer = last.answer;
-    let envelope = last.envelope;
-    match answer {
-        SheetAnswer::Accepted => shown(Answer::Accepted, envelope, out_times, out_values),
-        SheetAnswer::Refused(why, line) => std::num::wrapping_add_u64(
-            line as u64 % 1024 * 16,
-            number(Answer::Refused(why)),
-        ),
+    match last {
+        Ok(envelope) => shown(&envelope, out_times, out_values),
+        Err(why) => u64::from(why.line % 1024) * 16 + u64::from(why.refusal.number()),
     }
 }
 
-// Writes the envelope of a sheet; how many bytes it has.
+// Writes the envelope of a sheet, or an empty one where it is refused; how many bytes it has.
 #[unsafe(no_mangle)]
 pub extern "C" fn rattle_write_sheet(text: &[u8], turns: u32, out: &mut [u8]) -> u64 {
-    let read = sheet::read::read_sheet(text);
-    let envelope = read.envelope;
+    let envelope = sheet::read::read_sheet(text).unwrap_or(envelope::AutomationEnvelope::new(0));
     let mut n: u64 = 0;
-    let mut i: u32 = 0;
-    while i < turns {
-        n = bytes(sheet::write::write_sheet(envelope, out));
-        i += 1;
+    for _ in 0..turns {
+        n = sheet::write::write_sheet(&envelope, out).unwrap_or(0) as u64;
     }
     n
 }

@@ -1,21 +1,14 @@
 // A merge that was asked first: the ask, and a session's merge beside the commit of a ticket, each so many times.
-use crate::made::made;
+use crate::made::{counted, made};
 use crate::rehearsal::started;
-use ask::{MergeCount, Ticket, ask_merge};
+use ask::{Ticket, ask_merge};
 use envelope::edit::Join;
-use session::{Session, SessionAnswer};
+use points::refusal::Refusal;
+use session::Session;
 
 // The offset, or its negative in every other turn.
 fn turned(offset: f64, i: u32) -> f64 {
     if i % 2 == 0 { offset } else { -offset }
-}
-
-// A count, or 1,000 for a refusal.
-fn counted(answer: MergeCount) -> u64 {
-    match answer {
-        MergeCount::Is(n) => n as u64,
-        MergeCount::Refused(_) => 1000,
-    }
 }
 
 // Asks for a merge of the envelope into itself; the sum of the counts, and the last ticket's.
@@ -34,24 +27,18 @@ pub extern "C" fn rattle_ask(
         offset,
     };
     let mut sum: u64 = 0;
-    let mut i: u32 = 0;
-    while i < turns {
-        let asked = ask_merge(e, e, turned(offset, i));
+    for i in 0..turns {
+        let asked = ask_merge(&e, &e, turned(offset, i));
         ticket = asked.ticket;
-        let answer = asked.answer;
-        sum = std::num::wrapping_add_u64(sum, counted(answer));
-        i += 1;
+        sum = sum.wrapping_add(counted(asked.answer));
     }
-    let second = ticket.second;
-    let points = second.points;
-    std::num::wrapping_add_u64(sum, points.used() as u64)
+    sum.wrapping_add(ticket.second.points.used() as u64)
 }
 
 // The ticket's merge as an edit (0), or the commit of the ticket.
-fn merged(which: u32, s: Session, ticket: Ticket, memory: &mut [u64]) -> SessionAnswer {
-    let second = ticket.second;
+fn merged(which: u32, s: &mut Session, ticket: &Ticket, memory: &mut [u64]) -> Result<(), Refusal> {
     match which {
-        0 => s.join(Join::Merge(ticket.offset), second, memory),
+        0 => s.join(Join::Merge(ticket.offset), &ticket.second, memory),
         _ => commit::commit(s, ticket, memory),
     }
 }
@@ -75,14 +62,10 @@ pub extern "C" fn rattle_session_merge(
         offset,
     };
     let mut last = s;
-    let mut i: u32 = 0;
-    while i < turns {
+    for i in 0..turns {
         ticket.offset = turned(offset, i);
-        let r = merged(which, s, ticket, memory);
-        last = r.session;
-        i += 1;
+        last = s;
+        let _ = merged(which, &mut last, &ticket, memory);
     }
-    let left = last.envelope;
-    let points = left.points;
-    std::num::wrapping_add_u64(last.kept as u64, points.used() as u64)
+    (last.kept as u64).wrapping_add(last.envelope.points.used() as u64)
 }

@@ -1,5 +1,5 @@
-pub mod Near
-pub mod Walking
 -- What the times of a combination are, and that 6 can't meet it.
 pub mod Times
 pub mod Combined
+pub mod Walking
+pub mod Combining

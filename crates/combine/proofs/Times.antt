@@ -7,7 +7,7 @@ use native.Mathlib.Omega.{arith}
 use lib.Dec.{ltb, eqb}
 use lib.Ieee.{Float}
 use borrow.Author.Tests.{ltb-false, eqb-true, eqb-false, lt-ltb}
-use Rattle.numbers.proofs.Tests.{and_left, and_right, and_both, either}
+use Rattle.numbers.proofs.Tests.{and_left, and_right, and_both}
 use Rattle.numbers.specs.Order.{order_key}
 use Rattle.points.specs.Points.{every, rising_by}
 use Rattle.combine.specs.Combine.{merge_from, merge_times}
@@ -19,43 +19,15 @@ unfoldable pub has : ℕ → List Float → Bool
 has k [] = false
 has k (t ∷ ts) = eqb (order_key t) k || has k ts
 
-or_none : (a x : Bool) → (a || (x || false)) ≡ ((a || x) || false)
-or_none true x = refl
-or_none false x = refl
-
-or_first : (a x b y : Bool) → (a || (x || (b || y))) ≡ ((a || x) || (b || y))
-or_first true x b y = refl
-or_first false x b y = refl
-
-or_same : (a x y : Bool) → (a || (x || y)) ≡ ((a || x) || (a || y))
-or_same true x y = refl
-or_same false x y = refl
-
-or_second : (a x b y : Bool) → (b || ((a || x) || y)) ≡ ((a || x) || (b || y))
-or_second true x true y = refl
-or_second true x false y = refl
-or_second false true true y = refl
-or_second false true false y = refl
-or_second false false b y = refl
-
--- one step of the walk, by its two tests
-has_step : (k : ℕ) (a b : Float) (x y : Bool) (less same rest : List Float) (t u : Bool) → eqb (order_key a) (order_key b) ≡ u
-    → has k less ≡ (x || (eqb (order_key b) k || y)) → has k same ≡ (x || y) → has k rest ≡ ((eqb (order_key a) k || x) || y)
-    → has k (cond t (a ∷ less) (cond u (a ∷ same) (b ∷ rest))) ≡ ((eqb (order_key a) k || x) || (eqb (order_key b) k || y))
-unfolding has
-has_step k a b x y less same rest true u e l s r = ap (λ (h : Bool). eqb (order_key a) k || h) l ∙ or_first (eqb (order_key a) k) x (eqb (order_key b) k) y
-has_step k a b x y less same rest false true e l s r =
-    ap (λ (h : Bool). eqb (order_key a) k || h) s ∙ or_same (eqb (order_key a) k) x y
-    ∙ ap (λ (n : ℕ). (eqb (order_key a) k || x) || (eqb n k || y)) (eqb-true (order_key a) (order_key b) e)
-has_step k a b x y less same rest false false e l s r = ap (λ (h : Bool). eqb (order_key b) k || h) r ∙ or_second (eqb (order_key a) k) x (eqb (order_key b) k) y
-
 has_from : (k : ℕ) (a : Float) (xs : List Float) → ((zs : List Float) → has k (merge_times xs zs) ≡ (has k xs || has k zs))
     → (ys : List Float) → has k (merge_from a (merge_times xs) ys) ≡ (has k (a ∷ xs) || has k ys)
 unfolding has merge_from
-has_from k a xs rest [] = ap (λ (h : Bool). eqb (order_key a) k || h) (rest []) ∙ or_none (eqb (order_key a) k) (has k xs)
+has_from k a xs rest [] = let none = rest [] in grind arith
 has_from k a xs rest (b ∷ ys) =
-    has_step k a b (has k xs) (has k ys) (merge_times xs (b ∷ ys)) (merge_times xs ys) (merge_from a (merge_times xs) ys) (ltb (order_key a) (order_key b)) (eqb (order_key a) (order_key b)) refl
-    (rest (b ∷ ys)) (rest ys) (has_from k a xs rest ys)
+    let less = rest (b ∷ ys) in
+    let same = rest ys in
+    let more = has_from k a xs rest ys in
+    grind arith
 
 -- a time is among them exactly where it is in either list
 pub merged_has : (k : ℕ) (xs ys : List Float) → has k (merge_times xs ys) ≡ (has k xs || has k ys)
@@ -65,25 +37,18 @@ merged_has k (a ∷ xs) ys = has_from k a xs (merged_has k xs) ys
 
 -- ---- what holds of both lists holds of them
 
-every_step : (q : Float → Bool) (a b : Float) (less same rest : List Float) (t u : Bool) → q a ≡ true → q b ≡ true
-    → every q less ≡ true → every q same ≡ true → every q rest ≡ true → every q (cond t (a ∷ less) (cond u (a ∷ same) (b ∷ rest))) ≡ true
-unfolding every
-every_step q a b less same rest true u x y l s r = and_both x l
-every_step q a b less same rest false true x y l s r = and_both x s
-every_step q a b less same rest false false x y l s r = and_both y r
-
 every_from : (q : Float → Bool) (a : Float) (xs : List Float) → q a ≡ true → ((zs : List Float) → every q zs ≡ true → every q (merge_times xs zs) ≡ true)
     → (ys : List Float) → every q ys ≡ true → every q (merge_from a (merge_times xs) ys) ≡ true
-unfolding every merge_from
+unfolding merge_from
 every_from q a xs x rest [] h = and_both x (rest [] refl)
 every_from q a xs x rest (b ∷ ys) h =
-    let y = and_left (q b) (every q ys) h in
-    let z = and_right (q b) (every q ys) h in
-    every_step q a b (merge_times xs (b ∷ ys)) (merge_times xs ys) (merge_from a (merge_times xs) ys) (ltb (order_key a) (order_key b)) (eqb (order_key a) (order_key b)) x y
-    (rest (b ∷ ys) h) (rest ys z) (every_from q a xs x rest ys z)
+    let less = rest (b ∷ ys) h in
+    let same = rest ys in
+    let more = every_from q a xs x rest ys in
+    grind arith
 
 pub merged_every : (q : Float → Bool) (xs ys : List Float) → every q xs ≡ true → every q ys ≡ true → every q (merge_times xs ys) ≡ true
-unfolding every merge_times
+unfolding merge_times
 merged_every q [] ys g h = h
 merged_every q (a ∷ xs) ys g h = every_from q a xs (and_left (q a) (every q xs) g) (λ zs. merged_every q xs zs (and_right (q a) (every q xs) g)) ys h
 
@@ -101,9 +66,7 @@ rising_cons t (u ∷ ts) = refl
 above_from : (k : ℕ) (a : Float) (rest : List Float → List Float) (ys : List Float) → ltb k (order_key a) ≡ true → above k ys ≡ true → above k (merge_from a rest ys) ≡ true
 unfolding merge_from
 above_from k a rest [] p q = p
-above_from k a rest (b ∷ ys) p q =
-    either (λ (x : List Float). above k x ≡ true) (ltb (order_key a) (order_key b)) (λ h. p)
-    (either (λ (x : List Float). above k x ≡ true) (eqb (order_key a) (order_key b)) (λ h. p) q)
+above_from k a rest (b ∷ ys) p q = grind arith
 
 above_merge : (k : ℕ) (xs ys : List Float) → above k xs ≡ true → above k ys ≡ true → above k (merge_times xs ys) ≡ true
 unfolding merge_times

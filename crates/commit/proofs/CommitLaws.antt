@@ -1,28 +1,31 @@
 -- A commit's ways out, for its functions' proofs, and what specs/Promised says of it. Assumes nothing.
+use Rattle.std.specs.Prelude.{None, Option, Some}
 use Prim.Native.Nat.{ℕ}
 use mathlib.Core.Path.{◌≡◌, refl, ap, sym, ◌∙◌}
 use mathlib.Core.Bool.{Bool, true, false, cond, ◌&&◌}
-use mathlib.Core.List.{List}
-use mathlib.Core.Option.{Option, none, some}
+use mathlib.Core.List.{List, []}
+use lib.Dec.{eqb}
+use lib.ListN.{length}
+use borrow.Author.Tests.{eq-eqb}
 use Rattle.numbers.proofs.Tests.{and_left, and_right}
 use Rattle.points.specs.Checks.{first_failing, unless_refused, gate}
 use Rattle.points.specs.Points.{every}
-use Rattle.points.proofs.CheckLaws.{never, all_hold, first_fails, passed_over, stopped_at}
+use Rattle.points.proofs.CheckLaws.{never, all_hold, first_holds, first_fails, passed_over, stopped_at}
 use Rattle.points.specs.Refusal.{Said, refuses, gives, number}
 use Rattle.points.specs.declared.refusal.Refusal.{Refusal}
-use Rattle.points.specs.declared.refusal.Refusal.TheVariants.{NotValid, OtherEnvelope}
+use Rattle.points.specs.declared.refusal.Refusal.TheVariants.{NotValid, MemoryLength, OtherEnvelope}
 use Rattle.envelope.specs.Envelope.{valid_envelope}
 use Rattle.envelope.specs.Edit.{EditTold, join_of}
-use Rattle.envelope.proofs.JoinLaws.{join_one, join_valid, join_typed}
+use Rattle.envelope.proofs.JoinLaws.{join_valid, join_typed}
 use Rattle.envelope.specs.declared.AutomationEnvelope.{AutomationEnvelope}
 use Rattle.envelope.specs.declared.edit.Join.TheVariants.{Merge}
 use Rattle.equal.specs.Equal.{bit_equal}
 use Rattle.equal.proofs.EqualLaws.{bit_equal_same, bit_equal_self}
 use Rattle.ask.specs.Ask.{count_if, count_said, ask_of}
 use Rattle.ask.specs.declared.Ticket.{Ticket}
-use Rattle.session.specs.Session.{in_order, valid_session, Called, called, declined, settled, counted, accepted, refused_by}
-use Rattle.session.specs.Calls.{joined, committed, edit, call_of, own_of, Tests, in_turn, tests_of, admission, admission_of, afterwards}
-use Rattle.session.proofs.Ways.{call_after, edit_own, admits}
+use Rattle.session.specs.Session.{in_order, valid_session, Called, declined, settled, counted, accepted}
+use Rattle.session.specs.Calls.{committed, edit, call_of, own_of, Tests, in_turn, tests_of, admission, admission_of, afterwards}
+use Rattle.session.proofs.Ways.{call_refused, edit_joined}
 use Rattle.session.specs.declared.Session.{Session}
 use Rattle.commit.specs.Promised.{TypedParts, CommitIsTheEdit, CommitMerges, ShownIsCommitted, RefusedAskIsRefused}
 
@@ -35,26 +38,33 @@ commit_fits t s m valid same =
 
 -- ---- the refusals, as the code has them
 
-module _ (t : Ticket) (s : Session) (m : List ℕ) (valid : Bool) (is : valid ≡ (valid_session s && (valid_envelope t.first && valid_envelope t.second))) where
+module _ (t : Ticket) (s : Session) (m : List ℕ) where
+  -- 1 is for the session, and for both of the ticket
+  abbrev valid : Bool
+  valid = valid_session s && (valid_envelope t.first && valid_envelope t.second)
+
+  pub commit_one : valid ≡ false → call_of (edit (committed t)) s m ≡ declined 1 s m
+  commit_one h = call_refused (edit (committed t)) s m (first_fails valid NotValid _ h)
+
   -- what is asked of the memory comes before 14
-  pub commit_refused : (r : Refusal) → first_failing (admission (admission_of s m)) ≡ some r → called (refused_by s (cond valid r NotValid)) m ≡ call_of (edit (committed t)) s m
-  commit_refused r e =
-      call_after (edit (committed t)) s m valid r is (λ h. stopped_at (admission (admission_of s m)) (afterwards (tests_of (edit (committed t)) s m)) r e)
+  pub commit_refused : {r : Refusal} → valid ≡ true → first_failing (admission (admission_of s m)) ≡ Some r → call_of (edit (committed t)) s m ≡ declined (number r) s m
+  commit_refused {r} h e =
+      call_refused (edit (committed t)) s m (first_holds valid NotValid _ h ∙ stopped_at (admission (admission_of s m)) (afterwards (tests_of (edit (committed t)) s m)) r e)
 
   -- 14, where the ticket's first is valid and not the session's envelope
-  pub commit_other : (valid_envelope t.first && bit_equal s.envelope t.first) ≡ false → first_failing (admission (admission_of s m)) ≡ none
-      → called (refused_by s (cond valid OtherEnvelope NotValid)) m ≡ call_of (edit (committed t)) s m
-  commit_other unfit e =
-      call_after (edit (committed t)) s m valid OtherEnvelope is
-      (λ h.
-      passed_over (admission (admission_of s m)) (afterwards (tests_of (edit (committed t)) s m)) e
-      ∙ first_fails (bit_equal s.envelope t.first) OtherEnvelope _ (differs h))
+  pub commit_other : valid ≡ true → first_failing (admission (admission_of s m)) ≡ None → (valid_envelope t.first && bit_equal s.envelope t.first) ≡ false
+      → call_of (edit (committed t)) s m ≡ declined 14 s m
+  commit_other h e unfit =
+      call_refused (edit (committed t)) s m
+      (first_holds valid NotValid _ h
+      ∙ passed_over (admission (admission_of s m)) (afterwards (tests_of (edit (committed t)) s m)) e
+      ∙ first_fails (bit_equal s.envelope t.first) OtherEnvelope _ differs)
     where
-      first_valid : valid ≡ true → valid_envelope t.first ≡ true
-      first_valid h = and_left (valid_envelope t.first) (valid_envelope t.second) (and_right (valid_session s) _ (sym is ∙ h))
+      first_valid : valid_envelope t.first ≡ true
+      first_valid = and_left (valid_envelope t.first) (valid_envelope t.second) (and_right (valid_session s) _ h)
 
-      differs : valid ≡ true → bit_equal s.envelope t.first ≡ false
-      differs h = ap (λ (b : Bool). b && bit_equal s.envelope t.first) (sym (first_valid h)) ∙ unfit
+      differs : bit_equal s.envelope t.first ≡ false
+      differs = ap (λ (b : Bool). b && bit_equal s.envelope t.first) (sym first_valid) ∙ unfit
 
 -- ---- an accepted commit
 
@@ -96,8 +106,7 @@ module _ (t : Ticket) (s : Session) (m : List ℕ) (p : TypedParts t s) where
         first = first;
       }
 
-  tests_merged : first_failing (in_turn tests) ≡ none → (own_of (edit (committed t)) s m).said ≡ gives tt → Merged t s (own_of (edit (committed t)) s m)
-  unfolding every
+  tests_merged : first_failing (in_turn tests) ≡ None → (own_of (edit (committed t)) s m).said ≡ gives tt → Merged t s (own_of (edit (committed t)) s m)
   tests_merged passed h = own_merged (first_is v w same) v made.said refl h
     where
       all : every (λ c. c.holds) (in_turn tests) ≡ true
@@ -118,22 +127,22 @@ module _ (t : Ticket) (s : Session) (m : List ℕ) (p : TypedParts t s) where
   gate_merged : (o : Option Refusal) → first_failing (in_turn tests) ≡ o
       → (unless_refused o (λ r. declined (number r) s m) (own_of (edit (committed t)) s m)).said ≡ gives tt
       → Merged t s (unless_refused o (λ r. declined (number r) s m) (own_of (edit (committed t)) s m))
-  gate_merged none e h = tests_merged e h
-  gate_merged (some r) e h = never h
+  gate_merged None e h = tests_merged e h
+  gate_merged (Some r) e h = never h
 
   call_merged : (call_of (edit (committed t)) s m).said ≡ gives tt → Merged t s (call_of (edit (committed t)) s m)
   unfolding call_of
   call_merged h = gate_merged (first_failing (in_turn tests)) refl h
 
 pub commit_merges : CommitMerges
-commit_merges t s m a m' p ob h =
+commit_merges t s m a s' m' p ob h =
     let x = call_merged t s m p (ap (λ (c : Called). c.said) (sym ob) ∙ h) in
     ap (λ (e : AutomationEnvelope). join_of (Merge t.offset) e t.second) (sym x.first)
     ∙ (λ i. record { said = x.said i; envelope = (sym x.envelope ∙ ap (λ (c : Called). c.session.envelope) (sym ob)) i })
 
 pub shown_committed : ShownIsCommitted
 unfolding ask_of
-shown_committed t s m a m' p ob h = ap count_said (commit_merges t s m a m' p ob h)
+shown_committed t s m a s' m' p ob h = ap count_said (commit_merges t s m a s' m' p ob h)
 
 -- ---- the ticket of a refused ask
 
@@ -148,11 +157,13 @@ says_refused : (t : Ticket) (s : Session) (n : ℕ) → (ask_of t.first t.second
 unfolding ask_of
 says_refused t s n asked first = ap (λ (e : AutomationEnvelope). (join_of (Merge t.offset) e t.second).said) first ∙ count_refused _ _ n asked
 
+admits : (s : Session) (m : List ℕ) → length m ≡ s.length → first_failing (admission (admission_of s m)) ≡ None
+unfolding first_failing
+admits s m h = first_holds (eqb (length m) s.length) MemoryLength [] (eq-eqb (length m) s.length h)
+
 pub refused_ask : RefusedAskIsRefused
 refused_ask t s m n asked valid words first =
     commit_fits t s m (ap valid_envelope (sym first) ∙ and_left (valid_envelope s.envelope) (in_order s) valid)
     (ap (bit_equal s.envelope) (sym first) ∙ bit_equal_self s.envelope)
-    ∙ sym
-    (edit_own (joined (Merge t.offset) t.second) s m refl (λ h. join_one (Merge t.offset) s.envelope t.second h)
-    (and_right (valid_envelope s.envelope) (in_order s) valid) (sym (admits s m words)))
+    ∙ edit_joined s m (and_right (valid_envelope s.envelope) (in_order s) valid) (admits s m words) (Merge t.offset) t.second
     ∙ ap (λ (y : Said (Unit {0})). settled s m y (join_of (Merge t.offset) s.envelope t.second).envelope) (says_refused t s n asked first)

@@ -8,33 +8,30 @@ ghost use Rattle.session.specs.Calls.{Obeys, committed, edit};
 
 use ask::Ticket;
 use envelope::edit::Join;
-use points::refusal::{Answer, Refusal};
-use session::{Session, SessionAnswer};
+use points::refusal::Refusal;
+use session::Session;
 
 // A ticket whose first isn't the session's envelope: 14, behind 1 and what the memory gives.
-fn refuse(session: Session, ticket: Ticket, memory: &[u64]) -> SessionAnswer
-    requires { (valid_envelope ticket.first && bit_equal session.envelope ticket.first) ≡ false }
-    ensures { Obeys session memory.now (edit (committed ticket)) result memory.now }
+#[tactic(auto, using(crate::proofs::CommitLaws::commit_one, crate::proofs::CommitLaws::commit_refused, crate::proofs::CommitLaws::commit_other))]
+fn refuse(session: &Session, ticket: &Ticket, memory: &[u64]) -> Result<(), Refusal>
+    requires { (valid_envelope ticket.now.first && bit_equal session.now.envelope ticket.now.first) ≡ false }
+    ensures { Obeys session.now memory.now (edit (committed ticket.now)) result session.now memory.now }
 {
-    let first = ticket.first;
-    let second = ticket.second;
-    let valid = session.is_valid() & (first.is_valid() & second.is_valid());
-    let admitted = session.admit(memory);
-    match admitted {
-        Answer::Accepted => session.refuse_after(valid, Refusal::OtherEnvelope),
-        Answer::Refused(refusal) => session.refuse_after(valid, refusal),
+    let valid = session.is_valid() & (ticket.first.is_valid() & ticket.second.is_valid());
+    if !valid {
+        return Err(Refusal::NotValid);
     }
+    session.admit(memory)?;
+    Err(Refusal::OtherEnvelope)
 }
 
 // The ticket's merge, as an edit of the session.
-pub fn commit(session: Session, ticket: Ticket, memory: &mut [u64]) -> SessionAnswer
-    ensures { Obeys session memory.old (edit (committed ticket)) result memory.new }
+#[tactic(auto, using(crate::proofs::CommitLaws::commit_fits))]
+pub fn commit(session: &mut Session, ticket: &Ticket, memory: &mut [u64]) -> Result<(), Refusal>
+    ensures { Obeys session.old memory.old (edit (committed ticket.now)) result session.new memory.new }
 {
-    let envelope = session.envelope;
-    let first = ticket.first;
-    if first.is_valid() & equal::bit_equal(envelope, first) {
-        let second = ticket.second;
-        session.join(Join::Merge(ticket.offset), second, memory)
+    if ticket.first.is_valid() & equal::bit_equal(&session.envelope, &ticket.first) {
+        session.join(Join::Merge(ticket.offset), &ticket.second, memory)
     } else {
         refuse(session, ticket, memory)
     }

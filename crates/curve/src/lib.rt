@@ -167,7 +167,7 @@ impl CurveType {
         start + (end - start) * t_eased
     }
 
-    // The number of the case on the sheet: 001's order from 0. 6 is Elastic's, which is left out.
+    // The number of the case on the sheet: 001's order from 0. 6 is Elastic's, which is left out. A match, since a case that carries numbers has no discriminant to cast.
     #[tactic(auto, unfolding(crate::specs::Curve::code))]
     pub fn code(self) -> u32
         ensures { result ≡ code self }
@@ -197,7 +197,7 @@ impl CurveType {
         }
     }
 
-    // The curve of a number, back from `code` and `controls`; Linear where it is no curve's.
+    // The curve of a number, back from `code` and `controls`; Linear where it is no curve's. No TryFrom: a number alone makes no Bezier curve, and this can't fail.
     #[tactic(auto, unfolding(crate::specs::Curve::curve_of))]
     pub fn from_code(code: u32, cp1: f32, cp2: f32) -> CurveType
         ensures { result ≡ curve_of code cp1 cp2 }

@@ -1,9 +1,9 @@
 -- What every edit does to an envelope: accepted it leaves a valid one, refused it changes nothing, and the target stays (`EditsFair` of specs/Promised). Assumes nothing.
+use Rattle.std.specs.Prelude.{None, Option, Some}
 use Prim.Native.Nat.{ℕ}
 use mathlib.Core.Path.{◌≡◌, refl, sym, ap, ◌∙◌}
-use mathlib.Core.Bool.{Bool, true, false, ◌&&◌}
-use mathlib.Core.Option.{Option, none, some}
-use Rattle.numbers.proofs.Tests.{and_both}
+use mathlib.Core.Bool.{Bool, true, false}
+use native.Mathlib.Omega.{arith}
 use Rattle.points.specs.Checks.{first_failing, unless_refused}
 use Rattle.points.proofs.CheckLaws.{never, refused_among}
 use Rattle.points.specs.Refusal.{gives, refuses, number}
@@ -11,14 +11,11 @@ use Rattle.points.specs.Points.{every, list_of}
 use Rattle.points.specs.declared.refusal.Refusal.{Refusal}
 use Rattle.settle.specs.Settle.{Proposal, causes}
 use Rattle.settle.proofs.Judging.{Passes, one, causes_either}
-use Rattle.limits.specs.Limits.{finite_limits}
-use Rattle.envelope.specs.Envelope.{limits_of, valid_envelope}
+use Rattle.envelope.specs.Envelope.{valid_envelope}
 use Rattle.envelope.specs.Promised.{Fair, EditsFair}
 use Rattle.envelope.specs.Edit.{EditTold, declined, outcome, proposal, successor, edit_of}
-use Rattle.envelope.proofs.ValidParts.{valid_parts, limits_finite}
 use Rattle.envelope.specs.declared.AutomationEnvelope.{AutomationEnvelope}
 use Rattle.envelope.specs.declared.edit.Edit.{Edit}
-use Rattle.envelope.specs.declared.edit.Edit.TheVariants.{OfPoints, Replace, SetEnabled, SetMin, SetMax, SetStep, SetHard}
 
 -- ---- what comes of an edit
 
@@ -43,8 +40,8 @@ module _ (e : AutomationEnvelope) (valid : Bool) (p : Proposal) (f : AutomationE
   outcome_among is all n h = go (first_failing (causes valid p)) refl h
     where
       go : (o : Option Refusal) → first_failing (causes valid p) ≡ o → (unless_refused o (λ r. declined e (number r)) (accepted f)).said ≡ refuses n → is n ≡ true
-      go none k h = never (sym h)
-      go (some r) k h = let same : number r ≡ n = cc in ap is (sym same) ∙ refused_among (λ r. is (number r)) (causes valid p) r all k
+      go None k h = never (sym h)
+      go (Some r) k h = let same : number r ≡ n = cc in ap is (sym same) ∙ refused_among (λ r. is (number r)) (causes valid p) r all k
 
 declines : (e : AutomationEnvelope) (n : ℕ) → Fair e (declined e n)
 declines e n = record { valid = λ h. never h; kept = λ k h. refl; target = refl }
@@ -58,29 +55,13 @@ outcome_fair e valid p f v t = outcome_either e valid p f (Fair e) (λ r. declin
 
 -- ---- what an edit that passes makes
 
--- the settings of a valid envelope, and any valid points
-pub kept_settings : (e : AutomationEnvelope) {points : Bool} → valid_envelope e ≡ true → points ≡ true → (finite_limits (limits_of e) && points) ≡ true
-kept_settings e v p = and_both (limits_finite e v) p
-
 successor_valid : (d : Edit) (e : AutomationEnvelope) → Passes (valid_envelope e) (proposal d (list_of e.points)) → valid_envelope (successor d e (proposal d (list_of e.points)).list) ≡ true
 unfolding proposal successor
-successor_valid (OfPoints d) e q = kept_settings e q.given q.makes
-successor_valid (Replace d) e q = q.makes
-successor_valid (SetEnabled on) e q = q.given
-successor_valid (SetMin l) e q = let h = valid_parts e q.given in and_both (and_both (and_both q.arguments h.1) h.2) h.3
-successor_valid (SetMax l) e q = let h = valid_parts e q.given in and_both (and_both (and_both h.0 q.arguments) h.2) h.3
-successor_valid (SetStep l) e q = let h = valid_parts e q.given in and_both (and_both (and_both h.0 h.1) q.arguments) h.3
-successor_valid (SetHard on) e q = q.given
+successor_valid d e q = grind arith
 
 successor_target : (d : Edit) (e : AutomationEnvelope) → (successor d e (proposal d (list_of e.points)).list).target ≡ e.target
 unfolding successor
-successor_target (OfPoints d) e = refl
-successor_target (Replace d) e = refl
-successor_target (SetEnabled on) e = refl
-successor_target (SetMin l) e = refl
-successor_target (SetMax l) e = refl
-successor_target (SetStep l) e = refl
-successor_target (SetHard on) e = refl
+successor_target d e = grind arith
 
 pub edit_fair : EditsFair
 unfolding edit_of

@@ -1,4 +1,4 @@
--- Laws that the proofs of the envelope's methods share.
+-- How what became of the points comes to an outcome.
 pub mod Outcomes
 -- Laws of the calls on an envelope, for the crates above.
 pub mod CallLaws

@@ -1,97 +1,58 @@
--- How the code's ends come to an edit's outcome: the test of the settings and what became of the points, or a setting's tests. Assumes nothing.
+-- How what became of the points comes to an edit's outcome. Assumes nothing.
+use Rattle.std.specs.Prelude.{Err, None, Ok, Option, Result, Some}
 use Prim.Native.Nat.{◌≤◌}
 use mathlib.Core.Path.{◌≡◌, refl, sym, ap, ◌∙◌}
-use mathlib.Core.Bool.{Bool, true, false, cond, ◌&&◌, and-false}
-use mathlib.Core.Option.{Option, none, some}
+use mathlib.Core.Bool.{Bool, true, false, cond, ◌&&◌}
 use native.Mathlib.Omega.{arith}
 use borrow.Author.Tests.{le-leb}
 use lib.ListN.{length, length-take}
-use Rattle.numbers.proofs.Tests.{and_right}
 use Rattle.points.specs.Checks.{first_failing, unless_refused}
-use Rattle.points.specs.Refusal.{number, said}
-use Rattle.points.specs.Points.{list_of, holding, valid_points}
-use Rattle.points.proofs.ValidLaws.{valid_count, valid_finite, valid_rising}
+use Rattle.points.specs.Refusal.{number}
+use Rattle.points.specs.Points.{list_of, holding}
+use Rattle.points.specs.declared.Points.{Points}
 use Rattle.points.specs.declared.refusal.Refusal.{Refusal}
-use Rattle.settle.specs.Settle.{Proposal, plain, causes, refused, judged}
-use Rattle.settle.specs.Settle as points
-use Rattle.settle.specs.declared.EditedPoints.{EditedPoints}
-use Rattle.settle.proofs.Judging.{argument_three, accepts}
-use Rattle.limits.specs.Limits.{finite_limits}
-use Rattle.envelope.specs.Envelope.{limits_of, valid_envelope}
-use Rattle.envelope.specs.Edit.{EditTold, declined, outcome, with_points, anew, edited, renewed, setting}
-use Rattle.envelope.proofs.EditLaws.{accepted, outcome_one}
+use Rattle.points.proofs.ValidLaws.{valid_count, valid_finite, valid_rising}
+use Rattle.settle.specs.Settle.{Proposal, plain, causes, judged}
+use Rattle.settle.proofs.Judging.{accepts}
+use Rattle.lookup.specs.Heard.{Heard}
+use Rattle.combine.specs.Combine.{combined_points}
+use Rattle.combine.specs.declared.Operation.{Operation}
+use Rattle.envelope.specs.Envelope.{heard_of, valid_envelope}
+use Rattle.envelope.proofs.ValidParts.{points_valid}
+use Rattle.envelope.specs.Edit.{declined, outcome, join_proposal, join_of}
+use Rattle.envelope.proofs.EditLaws.{accepted}
 use Rattle.envelope.specs.declared.AutomationEnvelope.{AutomationEnvelope}
+use Rattle.envelope.specs.declared.edit.Join.TheVariants.{Combine}
 
--- ---- what became of the points
+-- their refusal is the edit's
+pub refused_is : (e made : AutomationEnvelope) (valid : Bool) (p : Proposal) (r : Refusal) → judged valid p ≡ Err r → declined e (number r) ≡ outcome e valid p made
+unfolding judged outcome
+refused_is e made valid p r j = go (first_failing (causes valid p)) j
+  where
+    go : (o : Option Refusal) → unless_refused o Err (Ok (holding p.list)) ≡ Err r → declined e (number r) ≡ unless_refused o (λ r. declined e (number r)) (accepted made)
+    go None k = cc
+    go (Some y) k = cc
 
-module _ (e : AutomationEnvelope) (p : Proposal) where
-  abbrev holds : EditedPoints
-  holds = points.accepted (holding p.list)
+-- a setting keeps the points, so that only the envelope and the argument can refuse it
+pub setting_is : (e made : AutomationEnvelope) (finite : Bool)
+    → outcome e (valid_envelope e) (plain finite (list_of e.points)) made ≡ cond (valid_envelope e) (cond finite (accepted made) (declined e 3)) (declined e 1)
+unfolding outcome
+setting_is e made finite = go (valid_envelope e) finite refl refl
+  where
+    go : (v f : Bool) → valid_envelope e ≡ v → finite ≡ f → outcome e v (plain f (list_of e.points)) made ≡ cond v (cond f (accepted made) (declined e 3)) (declined e 1)
+    go false f h k = refl
+    go true false h k = refl
+    go true true h k =
+        let q = points_valid e h in
+        let few : length (list_of e.points) ≤ 256 = omega (arith, valid_count e.points q, length-take e.points.count e.points.places) in
+        sym (accepts (λ r. declined e (number r)) (accepted made) (plain true (list_of e.points)) refl refl refl (valid_finite e.points q) (valid_rising e.points q) (le-leb _ _ few))
 
-  abbrev told : EditedPoints → EditTold
-  told r = record { said = said r.answer; envelope = with_points e r.points }
+pub switch_is : (e made : AutomationEnvelope)
+    → outcome e (valid_envelope e) (plain true (list_of e.points)) made ≡ cond (valid_envelope e) (accepted made) (declined e 1)
+switch_is e made = setting_is e made true
 
-  edited_by : (o : Option Refusal) → told (unless_refused o (refused e.points) holds) ≡ unless_refused o (λ r. declined e (number r)) (accepted (with_points e (holding p.list)))
-  edited_by none = refl
-  edited_by (some r) = refl
-
-  -- with the envelope's own settings
-  pub edited_is : (valid : Bool) → edited e (judged e.points valid p) ≡ outcome e (finite_limits (limits_of e) && valid) p (with_points e (holding p.list))
-  unfolding edited judged outcome
-  edited_is valid = go (finite_limits (limits_of e))
-    where
-      go : (b : Bool) → cond b (told (judged e.points valid p)) (declined e 1) ≡ outcome e (b && valid) p (with_points e (holding p.list))
-      go true = edited_by (first_failing (causes valid p))
-      go false = refl
-
-  renewed_by : (o : Option Refusal) → renewed e (unless_refused o (refused e.points) holds) ≡ unless_refused o (λ r. declined e (number r)) (accepted (anew e p.list))
-  renewed_by none = refl
-  renewed_by (some r) = refl
-
-  -- with those of `new`
-  pub renewed_is : (valid : Bool) → renewed e (judged e.points valid p) ≡ outcome e valid p (anew e p.list)
-  unfolding judged outcome
-  renewed_is valid = renewed_by (first_failing (causes valid p))
-
-  -- ---- the test of the settings
-
-  module _ (f : AutomationEnvelope) where
-    pub limits_lost : finite_limits (limits_of e) ≡ false → declined e 1 ≡ outcome e (valid_envelope e) p f
-    limits_lost l = sym (outcome_one e (valid_envelope e) p f (ap (λ (b : Bool). b && valid_points e.points) l))
-
-    pub limits_pass : finite_limits (limits_of e) ≡ true → outcome e (valid_points e.points) p f ≡ outcome e (valid_envelope e) p f
-    limits_pass l = ap (λ (b : Bool). outcome e (b && valid_points e.points) p f) (sym l)
-
-    -- of another envelope too
-    pub other_lost : (other : AutomationEnvelope) → finite_limits (limits_of other) ≡ false → declined e 1 ≡ outcome e (valid_envelope e && valid_envelope other) p f
-    other_lost other l =
-        sym (outcome_one e (valid_envelope e && valid_envelope other) p f (ap (λ (b : Bool). valid_envelope e && (b && valid_points other.points)) l ∙ and-false (valid_envelope e)))
-
-    pub other_pass : (other : AutomationEnvelope) → finite_limits (limits_of other) ≡ true
-        → outcome e (finite_limits (limits_of e) && (valid_points e.points && valid_points other.points)) p f ≡ outcome e (valid_envelope e && valid_envelope other) p f
-    other_pass other l = ap (λ (b : Bool). outcome e b p f) (go (finite_limits (limits_of e)))
-      where
-        go : (b : Bool) → (b && (valid_points e.points && valid_points other.points)) ≡ ((b && valid_points e.points) && valid_envelope other)
-        go true = ap (λ (b : Bool). valid_points e.points && (b && valid_points other.points)) (sym l)
-        go false = refl
-
--- ---- a setting
-
-pub tested : (e set : AutomationEnvelope) {a b : Bool} → a ≡ b → setting e a set ≡ setting e b set
-tested e set h = ap (λ (ok : Bool). setting e ok set) h
-
-module _ (e set : AutomationEnvelope) (ok : Bool) where
-  pub set-invalid : valid_envelope e ≡ false → declined e 1 ≡ setting e ok set
-  set-invalid v = sym (outcome_one e (valid_envelope e) (plain ok (list_of e.points)) set v)
-
-  pub set-lost : valid_envelope e ≡ true → ok ≡ false → declined e 3 ≡ setting e ok set
-  unfolding outcome
-  set-lost v o = argument_three (λ r. declined e (number r)) (accepted set) (plain ok (list_of e.points)) v o
-
-  -- the points are valid as they are
-  pub set-made : valid_envelope e ≡ true → ok ≡ true → accepted set ≡ setting e ok set
-  unfolding outcome
-  set-made v o =
-      let q : valid_points e.points ≡ true = and_right (finite_limits (limits_of e)) (valid_points e.points) v in
-      let few : length (list_of e.points) ≤ 256 = omega (arith, valid_count e.points q, length-take e.points.count e.points.places) in
-      accepts (λ r. declined e (number r)) (accepted set) (plain ok (list_of e.points)) v o refl (valid_finite e.points q) (valid_rising e.points q) (le-leb _ _ few)
+-- a combination's refusal is the join's
+pub combination_refused : (op : Operation) (e other : AutomationEnvelope) (a b : Heard) (r : Refusal) → a ≡ heard_of e → b ≡ heard_of other → combined_points op a b ≡ Err r
+    → declined e (number r) ≡ join_of (Combine op) e other
+unfolding combined_points join_of
+combination_refused op e other a b r p q h = refused_is e _ (valid_envelope e && valid_envelope other) (join_proposal (Combine op) e other) r (rw (p, q) at h)

@@ -1,7 +1,6 @@
 -- Each call on an envelope under one name: what the crates below say of its points, switch and limits.
 -- The contracts of its methods cite these names, and so does all above that speaks of such a call.
-use Rattle.std.specs.Prelude.{ℕ, Bool, List, Float}
-use Rattle.std.proofs.Math.Option.{Option}
+use Rattle.std.specs.Prelude.{ℕ, Bool, List, Float, Option}
 use Rattle.points.specs.Refusal.{Said}
 use Rattle.points.specs.declared.AutomationPoint.{AutomationPoint}
 use Rattle.lookup.specs.Lookup.{get_value_at, get_value_at_sample}

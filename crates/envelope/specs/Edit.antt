@@ -1,5 +1,5 @@
 -- The Bench's edits, in 01's terms: what an edit says, and the envelope that comes back. `edit_of` is 01's list of edits.
-use Rattle.std.specs.Prelude.{ℕ, Bool, true, cond, ◌&&◌, List, map}
+use Rattle.std.specs.Prelude.{ℕ, Bool, true, cond, ◌&&◌, List, map, Err, Float, Ok, Option, Result}
 use Rattle.numbers.specs.Bounds.{finite}
 use Rattle.curve.specs.Curve.{finite_controls}
 use Rattle.curve.specs.F32.{f0, f1}
@@ -10,10 +10,8 @@ use Rattle.points.specs.Points.{list_of, holding, valid_points}
 use Rattle.points.specs.declared.AutomationPoint.{AutomationPoint}
 use Rattle.points.specs.declared.Points.{Points}
 use Rattle.points.specs.declared.refusal.Refusal.{Refusal}
-use Rattle.points.specs.declared.refusal.Answer.{Answer}
-use Rattle.points.specs.declared.refusal.Answer.TheVariants.{Accepted, Refused}
+use Rattle.points.specs.declared.refusal.Refusal.TheVariants.{NotValid, NotFinite}
 use Rattle.settle.specs.Settle.{Proposal, plain, causes, judged}
-use Rattle.settle.specs.declared.EditedPoints.{EditedPoints}
 use Rattle.pointwise.specs.Each.{changed, scaled_time, normalized, clamping, faded_in_all, faded_out_all}
 use Rattle.pointwise.specs.declared.Change.TheVariants as change
 use Rattle.insert.specs.Insert.{insert_point, merged, ramp_list, pulse_list}
@@ -21,10 +19,8 @@ use Rattle.shape.specs.Shape.{keep_if, inside, remove_first, near, reversed, qua
 use Rattle.limits.specs.Limits.{finite_limit, finite_limits}
 use Rattle.limits.specs.declared.Limits.{Limits}
 use Rattle.combine.specs.Combine.{finite_operation, combined_list}
-use Rattle.combine.specs.declared.Side.{Side}
-use Rattle.envelope.specs.Envelope.{new, limits_of, valid_envelope}
+use Rattle.envelope.specs.Envelope.{new, limits_of, heard_of, valid_envelope}
 use Rattle.envelope.specs.declared.AutomationEnvelope.{AutomationEnvelope}
-use Rattle.envelope.specs.declared.Edited.{Edited}
 use Rattle.envelope.specs.declared.edit.PointsEdit.{PointsEdit}
 use Rattle.envelope.specs.declared.edit.PointsEdit.TheVariants.{AddPoint, RemovePointAt, ShiftPoints, ScaleTime, Trim, Reverse, InvertValues, QuantizeTime, Simplify, Normalize, Scale}
 use Rattle.envelope.specs.declared.edit.PointsEdit.TheVariants.{Offset, ClampValues, ApplyFadeIn, ApplyFadeOut, ApplyFades, ApplyGate, ApplyCompression}
@@ -40,9 +36,10 @@ pub record EditTold : Type 0 where
   pub said : Said (Unit {0})
   pub envelope : AutomationEnvelope
 
--- an `Edited` in 01's terms
-abbrev pub told_edit : Edited → EditTold
-told_edit r = record { said = said r.answer; envelope = r.envelope }
+-- an edit's answer in these terms: behind a refusal none comes back, and the caller's own is what it was
+abbrev pub told_edit : AutomationEnvelope → Result AutomationEnvelope Refusal → EditTold
+told_edit e (Ok made) = record { said = gives tt; envelope = made }
+told_edit e (Err r) = record { said = refuses (number r); envelope = e }
 
 -- "A refusal returns its number .. and changes nothing."
 abbrev pub declined : AutomationEnvelope → ℕ → EditTold
@@ -126,14 +123,10 @@ edit_of d e = let p = proposal d (list_of e.points) in outcome e (valid_envelope
 
 -- ---- 01's edits that take a second envelope, the envelope first, then the other
 
--- what a combination takes of an envelope
-abbrev pub side_of : AutomationEnvelope → Side
-side_of e = record { points = e.points; enabled = e.enabled; limits = limits_of e }
-
 -- what each asks of its arguments, and the list that it makes of both envelopes' points
 unfoldable pub join_proposal : Join → AutomationEnvelope → AutomationEnvelope → Proposal
 join_proposal (Merge offset) e other = plain (finite offset) (merged (list_of e.points) (list_of other.points) offset)
-join_proposal (Combine op) e other = plain (finite_operation op) (combined_list op (side_of e) (side_of other))
+join_proposal (Combine op) e other = plain (finite_operation op) (combined_list op (heard_of e) (heard_of other))
 
 -- "A combination has no constraints, is enabled, .. and keeps the first target"
 unfoldable pub join_successor : Join → AutomationEnvelope → List AutomationPoint → AutomationEnvelope
@@ -149,32 +142,15 @@ join_of j e other = let p = join_proposal j e other in outcome e (valid_envelope
 -- ---- for the code's own use: the points by themselves, then the envelope
 
 -- what an edit of the points makes of them
-unfoldable pub points_edited : PointsEdit → Points → EditedPoints
+unfoldable pub points_edited : PointsEdit → Points → Result Points Refusal
 unfolding judged proposed
-points_edited d ps = judged ps (valid_points ps) (proposed d (list_of ps))
+points_edited d ps = judged (valid_points ps) (proposed d (list_of ps))
 
 -- what one of 000's constructors makes of them
-unfoldable pub replaced_points : Replacement → Points → EditedPoints
+unfoldable pub replaced_points : Replacement → Points → Result Points Refusal
 unfolding judged constructed
-replaced_points d ps = judged ps (valid_points ps) (constructed d)
+replaced_points d ps = judged (valid_points ps) (constructed d)
 
--- the envelope with what became of its points, or 1 for its settings
-unfoldable pub edited : AutomationEnvelope → EditedPoints → EditTold
-edited e r = cond (finite_limits (limits_of e)) (record { said = said r.answer; envelope = with_points e r.points }) (declined e 1)
-
--- one or the other, by the answer
-abbrev pub if_accepted : {A : Type 0} → Answer → A → A → A
-if_accepted Accepted x y = x
-if_accepted (Refused r) x y = y
-
--- an envelope of `new` with what became of the points, or the same one where that is a refusal
-abbrev pub renewed : AutomationEnvelope → EditedPoints → EditTold
-renewed e r = record { said = said r.answer; envelope = if_accepted r.answer (with_points (new e.target) r.points) e }
-
--- what a setting gives
-abbrev pub setting : AutomationEnvelope → Bool → AutomationEnvelope → EditTold
-setting e finite_argument set = outcome e (valid_envelope e) (plain finite_argument (list_of e.points)) set
-
--- a refusal by its name
-abbrev pub refused_edit : AutomationEnvelope → Refusal → Edited
-refused_edit e r = record { answer = Refused r; envelope = e }
+-- a limit's setting keeps the points, so that only the envelope and the limit can refuse it
+abbrev pub limit_checked : AutomationEnvelope → Option Float → Result (Unit {0}) Refusal
+limit_checked e limit = cond (valid_envelope e) (cond (finite_limit limit) (Ok tt) (Err NotFinite)) (Err NotValid)

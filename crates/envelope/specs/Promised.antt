@@ -1,6 +1,5 @@
 -- What is promised beyond the functions' contracts: statements alone, each proved by the law that its comment names.
-use Rattle.std.specs.Prelude.{ℕ, ◌+◌, ◌<◌, ◌≡◌, Bool, true, List, get_or, Float}
-use Rattle.std.proofs.Math.Option.{none, some}
+use Rattle.std.specs.Prelude.{ℕ, ◌+◌, ◌<◌, ◌≡◌, Bool, true, List, get_or, Float, None, Some}
 use Rattle.std.specs.Float.{nan, binary32}
 use Rattle.std.specs.Float.Ieee.{of_bits}
 use Rattle.points.specs.Refusal.{gives, refuses}
@@ -34,15 +33,15 @@ JoinsFair = (j : Join) (e other : AutomationEnvelope) → Fair e (join_of j e ot
 -- what is found by lookup in e lies between two numbers. A place that a buffer lacks counts as a NaN, which lies nowhere.
 pub record Between (e : AutomationEnvelope) (low high : Float) : Type 0 where
   -- by time, by sample, by every call of a walk
-  pub by_time : (time v : Float) → value_at_of e time ≡ gives (some v) → lies_between low high v ≡ true
-  pub by_sample : (sample : ℕ) (v : Float) → value_at_sample_of e sample ≡ gives (some v) → lies_between low high v ≡ true
-  pub walked : (walk : SampleIterator) (v : Float) → (next_sample_of e walk).said ≡ gives (some v) → lies_between low high v ≡ true
+  pub by_time : (time v : Float) → value_at_of e time ≡ gives (Some v) → lies_between low high v ≡ true
+  pub by_sample : (sample : ℕ) (v : Float) → value_at_sample_of e sample ≡ gives (Some v) → lies_between low high v ≡ true
+  pub walked : (walk : SampleIterator) (v : Float) → (next_sample_of e walk).said ≡ gives (Some v) → lies_between low high v ≡ true
   -- every sample of a run, and of `to_buffer`, that isn't silent
   pub rendered : (rate : Float) (first count place : ℕ) (buffer : List Float) → (render_of e rate first count place buffer).said ≡ gives tt
-      → (i : ℕ) → i < count → (v : Float) → value_at_of e (sample_time rate (first + i)) ≡ gives (some v)
+      → (i : ℕ) → i < count → (v : Float) → value_at_of e (sample_time rate (first + i)) ≡ gives (Some v)
       → lies_between low high (get_or (render_of e rate first count place buffer).buffer (place + i) nan) ≡ true
   pub buffered : (rate duration : Float) (place : ℕ) (buffer : List Float) → (to_buffer_of e rate duration place buffer).said ≡ gives tt
-      → (i : ℕ) → i < sample_count rate duration → (v : Float) → value_at_of e (sample_time rate i) ≡ gives (some v)
+      → (i : ℕ) → i < sample_count rate duration → (v : Float) → value_at_of e (sample_time rate i) ≡ gives (Some v)
       → lies_between low high (get_or (to_buffer_of e rate duration place buffer).buffer (place + i) nan) ≡ true
 
 -- 02, F-1: "With both set, minimum at most maximum, every value found by lookup then lies between them" (`hard_between`, proofs/HardLaws)
@@ -62,9 +61,9 @@ pub record Aside (e : AutomationEnvelope) (on : Bool) : Type 0 where
   -- validity
   pub valid : valid_envelope (hard_as on e) ≡ valid_envelope e
   -- silence, and the 0.0 of a silent sample, wherever the limits lie
-  pub silent : (time : Float) → value_at_of e time ≡ gives none → value_at_of (hard_as on e) time ≡ gives none
-  pub silent_sample : (sample : ℕ) → value_at_sample_of e sample ≡ gives none → value_at_sample_of (hard_as on e) sample ≡ gives none
-  pub silent_zero : (rate : Float) (i : ℕ) → value_at_of e (sample_time rate i) ≡ gives none → samples_of (hard_as on e) rate i ≡ of_bits binary32 0
+  pub silent : (time : Float) → value_at_of e time ≡ gives None → value_at_of (hard_as on e) time ≡ gives None
+  pub silent_sample : (sample : ℕ) → value_at_sample_of e sample ≡ gives None → value_at_sample_of (hard_as on e) sample ≡ gives None
+  pub silent_zero : (rate : Float) (i : ℕ) → value_at_of e (sample_time rate i) ≡ gives None → samples_of (hard_as on e) rate i ≡ of_bits binary32 0
   -- a lookup's refusals
   pub refused : (sample n : ℕ) → value_at_sample_of e sample ≡ refuses n → value_at_sample_of (hard_as on e) sample ≡ refuses n
   -- peaks and valleys

@@ -1,5 +1,5 @@
 -- Numbers in range of their types. Every value that a program holds is so, and no code tests it; the laws that go to words or to text and back ask for it.
-use Rattle.std.specs.Prelude.{Bool, true, ◌&&◌, ltb, eqb, length}
+use Rattle.std.specs.Prelude.{ℕ, Bool, true, ◌&&◌, ltb, eqb, length, Float, None, Option, Some}
 use Rattle.std.specs.Float.{binary32, binary64}
 use Rattle.std.specs.Float.Ieee.{fits}
 use Rattle.curve.specs.Curve.{controls}
@@ -7,10 +7,6 @@ use Rattle.curve.specs.declared.CurveType.{CurveType}
 use Rattle.points.specs.Points.{every}
 use Rattle.points.specs.declared.AutomationPoint.{AutomationPoint}
 use Rattle.points.specs.declared.Points.{Points}
-use Rattle.points.specs.declared.SamplePosition.{SamplePosition}
-use Rattle.points.specs.declared.SamplePosition.TheVariants as position
-use Rattle.limits.specs.declared.Limit.{Limit}
-use Rattle.limits.specs.declared.Limit.TheVariants as limit
 use Rattle.envelope.specs.declared.AutomationEnvelope.{AutomationEnvelope}
 use Rattle.envelope.specs.declared.edit.PointsEdit.{PointsEdit}
 use Rattle.envelope.specs.declared.edit.PointsEdit.TheVariants.{AddPoint, RemovePointAt, ShiftPoints, ScaleTime, Trim, Reverse, InvertValues, QuantizeTime, Simplify, Normalize, Scale}
@@ -25,9 +21,9 @@ abbrev pub typed_curve : CurveType → Bool
 typed_curve c = fits binary32 (controls c).cp1 && fits binary32 (controls c).cp2
 
 -- a position is a u64
-abbrev pub typed_position : SamplePosition → Bool
-typed_position position.None = true
-typed_position (position.At n) = ltb n 0x1_0000_0000_0000_0000
+abbrev pub typed_position : Option ℕ → Bool
+typed_position None = true
+typed_position (Some n) = ltb n 0x1_0000_0000_0000_0000
 
 -- the time is an f64, the value an f32
 abbrev pub typed_point : AutomationPoint → Bool
@@ -38,9 +34,9 @@ abbrev pub typed_points : Points → Bool
 typed_points ps = eqb (length ps.places) 256 && every typed_point ps.places
 
 -- a limit is an f32
-abbrev pub typed_limit : Limit → Bool
-typed_limit limit.None = true
-typed_limit (limit.Number x) = fits binary32 x
+abbrev pub typed_limit : Option Float → Bool
+typed_limit None = true
+typed_limit (Some x) = fits binary32 x
 
 -- the target is a u32, and all of the above
 unfoldable pub typed : AutomationEnvelope → Bool

@@ -2,16 +2,14 @@
 ghost use Rattle.std.specs.Prelude.{◌≡◌};
 ghost use Rattle.envelope.specs.Envelope.{new};
 ghost use Rattle.envelope.specs.declared.edit.Edit.TheVariants.{OfPoints, Replace, SetEnabled, SetMin, SetMax, SetStep, SetHard};
-ghost use Rattle.envelope.specs.Edit.{told_edit, points_edited, replaced_points, edited, renewed, setting, edit_of, side_of, join_of, with_points, with_settings, refused_edit};
+ghost use Rattle.envelope.specs.Edit.{told_edit, points_edited, replaced_points, limit_checked, edit_of, join_of, with_points};
 ghost use Rattle.envelope.specs.declared.edit.Join.TheVariants.{Merge, Combine};
 
-use crate::{AutomationEnvelope, Edited};
-use combine::{Operation, Side};
+use crate::AutomationEnvelope;
+use combine::Operation;
 use curve::CurveType;
-use limits::{Limit, Limits};
-use points::refusal::{Answer, Refusal};
+use points::refusal::Refusal;
 use points::{AutomationPoint, Points};
-use settle::EditedPoints;
 
 // The edits of the points.
 #[derive(Clone, Copy)]
@@ -50,9 +48,9 @@ pub enum Edit {
     OfPoints(PointsEdit),
     Replace(Replacement),
     SetEnabled(bool),
-    SetMin(Limit),
-    SetMax(Limit),
-    SetStep(Limit),
+    SetMin(Option<f32>),
+    SetMax(Option<f32>),
+    SetStep(Option<f32>),
     SetHard(bool),
 }
 
@@ -64,8 +62,9 @@ pub enum Join {
 }
 
 impl PointsEdit {
-    fn apply(self, points: Points) -> EditedPoints
-        ensures { result ≡ points_edited self points }
+    #[tactic(auto, unfolding(crate::specs::Edit::points_edited, crate::specs::Edit::proposed, settle::specs::Settle::edit_points, settle::specs::Settle::judged, pointwise::specs::Each::clamped_edit))]
+    fn apply(self, points: &Points) -> Result<Points, Refusal>
+        ensures { result ≡ points_edited self points.now }
     {
         match self {
             PointsEdit::AddPoint(p) => insert::add_point(points, p),
@@ -95,8 +94,9 @@ impl PointsEdit {
 }
 
 impl Replacement {
-    fn apply(self, points: Points) -> EditedPoints
-        ensures { result ≡ replaced_points self points }
+    #[tactic(auto, unfolding(crate::specs::Edit::replaced_points, crate::specs::Edit::constructed, settle::specs::Settle::edit_points, settle::specs::Settle::judged))]
+    fn apply(self, points: &Points) -> Result<Points, Refusal>
+        ensures { result ≡ replaced_points self points.now }
     {
         match self {
             Replacement::FadeIn(duration, c) => insert::fade_in(points, duration, c),
@@ -112,210 +112,99 @@ impl Replacement {
 }
 
 impl AutomationEnvelope {
-    fn with_points(self, points: Points) -> AutomationEnvelope
-        ensures { result ≡ with_points self points }
-    {
-        let min_value = self.min_value;
-        let max_value = self.max_value;
-        let step_size = self.step_size;
-        let hard = self.hard;
-        AutomationEnvelope {
-            target: self.target,
-            points,
-            enabled: self.enabled,
-            min_value,
-            max_value,
-            step_size,
-            hard,
-        }
-    }
-
-    fn refuse(self, refusal: Refusal) -> Edited
-        ensures { result ≡ refused_edit self refusal }
-    {
-        Edited {
-            answer: Answer::Refused(refusal),
-            envelope: self,
-        }
-    }
-
-    // What an edit of the points makes of the envelope.
-    fn settle(self, r: EditedPoints) -> Edited
-        ensures { told_edit result ≡ edited self r }
-    {
-        let limits = self.limits();
-        if limits.is_finite() {
-            let answer = r.answer;
-            let points = r.points;
-            Edited {
-                answer,
-                envelope: self.with_points(points),
-            }
-        } else {
-            self.refuse(Refusal::NotValid)
-        }
-    }
-
-    // A new envelope's settings, and these points.
-    fn fresh(target: u32, points: Points) -> AutomationEnvelope
-        ensures { result ≡ with_points (new target) points }
+    // A new envelope's settings, with the target and these points.
+    fn anew(&self, points: Points) -> AutomationEnvelope
+        ensures { result ≡ with_points (new self.now.target) points }
     {
         AutomationEnvelope {
-            target,
             points,
-            enabled: true,
-            min_value: Limit::None,
-            max_value: Limit::None,
-            step_size: Limit::None,
-            hard: false,
+            ..AutomationEnvelope::new(self.target)
         }
     }
 
-    // The target, and the points with new settings.
-    fn renew(self, r: EditedPoints) -> Edited
-        ensures { told_edit result ≡ renewed self r }
+    // The refusals of a limit that is set.
+    fn check_limit(&self, limit: Option<f32>) -> Result<(), Refusal>
+        ensures { result ≡ limit_checked self.now limit }
     {
-        let answer = r.answer;
-        let points = r.points;
-        match answer {
-            Answer::Accepted => Edited {
-                answer: Answer::Accepted,
-                envelope: AutomationEnvelope::fresh(self.target, points),
-            },
-            Answer::Refused(refusal) => self.refuse(refusal),
+        self.check()?;
+        if !limits::finite_limit(limit) {
+            return Err(Refusal::NotFinite);
         }
+        Ok(())
     }
 
-    // The same target and points with other settings.
-    fn with_settings(self, enabled: bool, limits: Limits) -> AutomationEnvelope
-        ensures { result ≡ with_settings self enabled limits }
+    // Any edit of the points. The limits' 1 is an `if` here and in the two below: as a `check_limits()?` before the rest the goals did not close.
+    #[tactic(auto, using(crate::proofs::Outcomes::refused_is), unfolding(crate::specs::Edit::edit_of, crate::specs::Edit::points_edited))]
+    pub fn edit_points(mut self, edit: PointsEdit) -> Result<AutomationEnvelope, Refusal>
+        ensures { told_edit self result ≡ edit_of (OfPoints edit) self }
     {
-        let points = self.points;
-        let min_value = limits.min_value;
-        let max_value = limits.max_value;
-        let step_size = limits.step_size;
-        AutomationEnvelope {
-            target: self.target,
-            points,
-            enabled,
-            min_value,
-            max_value,
-            step_size,
-            hard: limits.hard,
+        if !self.limits().is_finite() {
+            return Err(Refusal::NotValid);
         }
-    }
-
-    // What a setting makes of it; `ok` says that its argument is finite.
-    fn set(self, ok: bool, enabled: bool, limits: Limits) -> Edited
-        ensures { told_edit result ≡ setting self ok (with_settings self enabled limits) }
-    {
-        if self.is_valid() {
-            if ok {
-                Edited {
-                    answer: Answer::Accepted,
-                    envelope: self.with_settings(enabled, limits),
-                }
-            } else {
-                self.refuse(Refusal::NotFinite)
-            }
-        } else {
-            self.refuse(Refusal::NotValid)
-        }
-    }
-
-    // Any edit of the points. `settle` tests the limits too; without the test here the compiled code copies the envelope twice more.
-    pub fn edit_points(mut self, edit: PointsEdit) -> Edited
-        ensures { told_edit result ≡ edit_of (OfPoints edit) self }
-    {
-        let limits = self.limits();
-        if limits.is_finite() {
-            let points = self.points;
-            self.settle(edit.apply(points))
-        } else {
-            self.refuse(Refusal::NotValid)
-        }
+        self.points = edit.apply(&self.points)?;
+        Ok(self)
     }
 
     // Any of 000's constructors.
-    pub fn replace_points(mut self, replacement: Replacement) -> Edited
-        ensures { told_edit result ≡ edit_of (Replace replacement) self }
+    #[tactic(auto, using(crate::proofs::Outcomes::refused_is), unfolding(crate::specs::Edit::edit_of, crate::specs::Edit::replaced_points))]
+    pub fn replace_points(mut self, replacement: Replacement) -> Result<AutomationEnvelope, Refusal>
+        ensures { told_edit self result ≡ edit_of (Replace replacement) self }
     {
-        let limits = self.limits();
-        if limits.is_finite() {
-            let points = self.points;
-            self.renew(replacement.apply(points))
-        } else {
-            self.refuse(Refusal::NotValid)
+        if !self.limits().is_finite() {
+            return Err(Refusal::NotValid);
         }
+        Ok(self.anew(replacement.apply(&self.points)?))
     }
 
-    pub fn set_enabled(mut self, enabled: bool) -> Edited
-        ensures { told_edit result ≡ edit_of (SetEnabled enabled) self }
+    #[tactic(auto, using(crate::proofs::Outcomes::switch_is), unfolding(crate::specs::Edit::edit_of))]
+    pub fn set_enabled(mut self, enabled: bool) -> Result<AutomationEnvelope, Refusal>
+        ensures { told_edit self result ≡ edit_of (SetEnabled enabled) self }
     {
-        self.set(true, enabled, self.limits())
+        self.check()?;
+        self.enabled = enabled;
+        Ok(self)
     }
 
-    pub fn set_min(mut self, min: Limit) -> Edited
-        ensures { told_edit result ≡ edit_of (SetMin min) self }
+    #[tactic(auto, using(crate::proofs::Outcomes::setting_is), unfolding(crate::specs::Edit::edit_of))]
+    pub fn set_min(mut self, min: Option<f32>) -> Result<AutomationEnvelope, Refusal>
+        ensures { told_edit self result ≡ edit_of (SetMin min) self }
     {
-        let max_value = self.max_value;
-        let step_size = self.step_size;
-        let limits = Limits {
-            min_value: min,
-            max_value,
-            step_size,
-            hard: self.hard,
-        };
-        self.set(min.is_finite(), self.enabled, limits)
+        self.check_limit(min)?;
+        self.min_value = min;
+        Ok(self)
     }
 
-    pub fn set_max(mut self, max: Limit) -> Edited
-        ensures { told_edit result ≡ edit_of (SetMax max) self }
+    #[tactic(auto, using(crate::proofs::Outcomes::setting_is), unfolding(crate::specs::Edit::edit_of))]
+    pub fn set_max(mut self, max: Option<f32>) -> Result<AutomationEnvelope, Refusal>
+        ensures { told_edit self result ≡ edit_of (SetMax max) self }
     {
-        let min_value = self.min_value;
-        let step_size = self.step_size;
-        let limits = Limits {
-            min_value,
-            max_value: max,
-            step_size,
-            hard: self.hard,
-        };
-        self.set(max.is_finite(), self.enabled, limits)
+        self.check_limit(max)?;
+        self.max_value = max;
+        Ok(self)
     }
 
-    pub fn set_step(mut self, step: Limit) -> Edited
-        ensures { told_edit result ≡ edit_of (SetStep step) self }
+    #[tactic(auto, using(crate::proofs::Outcomes::setting_is), unfolding(crate::specs::Edit::edit_of))]
+    pub fn set_step(mut self, step: Option<f32>) -> Result<AutomationEnvelope, Refusal>
+        ensures { told_edit self result ≡ edit_of (SetStep step) self }
     {
-        let min_value = self.min_value;
-        let max_value = self.max_value;
-        let limits = Limits {
-            min_value,
-            max_value,
-            step_size: step,
-            hard: self.hard,
-        };
-        self.set(step.is_finite(), self.enabled, limits)
+        self.check_limit(step)?;
+        self.step_size = step;
+        Ok(self)
     }
 
     // 02's F-1.
-    pub fn set_hard(mut self, on: bool) -> Edited
-        ensures { told_edit result ≡ edit_of (SetHard on) self }
+    #[tactic(auto, using(crate::proofs::Outcomes::switch_is), unfolding(crate::specs::Edit::edit_of))]
+    pub fn set_hard(mut self, on: bool) -> Result<AutomationEnvelope, Refusal>
+        ensures { told_edit self result ≡ edit_of (SetHard on) self }
     {
-        let min_value = self.min_value;
-        let max_value = self.max_value;
-        let step_size = self.step_size;
-        let limits = Limits {
-            min_value,
-            max_value,
-            step_size,
-            hard: on,
-        };
-        self.set(true, self.enabled, limits)
+        self.check()?;
+        self.hard = on;
+        Ok(self)
     }
 
     // Any of 01's edits.
-    pub fn edit(mut self, e: Edit) -> Edited
-        ensures { told_edit result ≡ edit_of e self }
+    pub fn edit(mut self, e: Edit) -> Result<AutomationEnvelope, Refusal>
+        ensures { told_edit self result ≡ edit_of e self }
     {
         match e {
             Edit::OfPoints(edit) => self.edit_points(edit),
@@ -327,46 +216,42 @@ impl AutomationEnvelope {
             Edit::SetHard(on) => self.set_hard(on),
         }
     }
-}
-
-impl AutomationEnvelope {
-    // What a combination takes of it.
-    fn side(self) -> Side
-        ensures { result ≡ side_of self }
-    {
-        let points = self.points;
-        let limits = self.limits();
-        Side {
-            points,
-            enabled: self.enabled,
-            limits,
-        }
-    }
 
     // The other's points, each at its time plus the offset.
-    fn merge_with(self, other: AutomationEnvelope, offset: f64) -> Edited
-        ensures { told_edit result ≡ join_of (Merge offset) self other }
+    #[tactic(auto, using(crate::proofs::Outcomes::refused_is), unfolding(crate::specs::Edit::join_of, insert::specs::Insert::merged_points))]
+    fn merge_with(
+        mut self,
+        other: &AutomationEnvelope,
+        offset: f64,
+    ) -> Result<AutomationEnvelope, Refusal>
+        ensures { told_edit self result ≡ join_of (Merge offset) self other.now }
     {
-        let limits = other.limits();
-        if limits.is_finite() {
-            let points = self.points;
-            let others = other.points;
-            self.settle(insert::merge(points, others, offset))
-        } else {
-            self.refuse(Refusal::NotValid)
+        if !self.limits().is_finite() | !other.limits().is_finite() {
+            return Err(Refusal::NotValid);
         }
+        self.points = insert::merge(&self.points, &other.points, offset)?;
+        Ok(self)
     }
 
     // The operation on both values, at every time of either.
-    fn combine_with(self, other: AutomationEnvelope, operation: Operation) -> Edited
-        ensures { told_edit result ≡ join_of (Combine operation) self other }
+    #[tactic(auto, using(crate::proofs::Outcomes::combination_refused), unfolding(crate::specs::Edit::join_of, combine::specs::Combine::combined_points))]
+    fn combine_with(
+        &self,
+        other: &AutomationEnvelope,
+        operation: Operation,
+    ) -> Result<AutomationEnvelope, Refusal>
+        ensures { told_edit self.now result ≡ join_of (Combine operation) self.now other.now }
     {
-        self.renew(combine::combine(operation, self.side(), other.side()))
+        Ok(self.anew(combine::combine(operation, &self.heard(), &other.heard())?))
     }
 
     // Any of 01's edits that take a second envelope.
-    pub fn join(mut self, join: Join, other: AutomationEnvelope) -> Edited
-        ensures { told_edit result ≡ join_of join self other }
+    pub fn join(
+        mut self,
+        join: Join,
+        other: &AutomationEnvelope,
+    ) -> Result<AutomationEnvelope, Refusal>
+        ensures { told_edit self result ≡ join_of join self other.now }
     {
         match join {
             Join::Merge(offset) => self.merge_with(other, offset),

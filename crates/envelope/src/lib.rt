@@ -2,17 +2,18 @@
 #![tactic(auto)]
 
 ghost use Rattle.std.specs.Prelude.{◌≡◌, true, false};
-ghost use Rattle.points.specs.Refusal.{compared};
-ghost use Rattle.envelope.specs.Envelope.{new, limits_of, valid_envelope, same_limit, same_settings, envelopes_equal};
+ghost use Rattle.points.specs.Refusal.{said};
+ghost use Rattle.envelope.specs.Envelope.{new, limits_of, heard_of, valid_envelope, checked, same_settings, envelopes_equal};
 
 pub mod analyses;
 pub mod bench;
 pub mod edit;
 pub mod player;
 
-use limits::{Limit, Limits};
+use limits::Limits;
+use lookup::Heard;
 use points::Points;
-use points::refusal::{Answer, Compared, Refusal};
+use points::refusal::Refusal;
 
 #[derive(Clone, Copy)]
 pub struct AutomationEnvelope {
@@ -22,112 +23,93 @@ pub struct AutomationEnvelope {
     pub enabled: bool,
     // 02's F-1: whether the bounds hold after the step
     pub hard: bool,
-    pub min_value: Limit,
-    pub max_value: Limit,
-    pub step_size: Limit,
-}
-
-// What an edit gives: the changed envelope, or the old one with its refusal.
-#[derive(Clone, Copy)]
-pub struct Edited {
-    pub answer: Answer,
-    pub envelope: AutomationEnvelope,
-}
-
-fn same_limit(a: Limit, b: Limit) -> bool
-    ensures { result ≡ same_limit a b }
-{
-    match a {
-        Limit::None => {
-            match b {
-                Limit::None => true,
-                Limit::Number(_) => false,
-            }
-        }
-        Limit::Number(x) => {
-            match b {
-                Limit::None => false,
-                Limit::Number(y) => x == y,
-            }
-        }
-    }
+    pub min_value: Option<f32>,
+    pub max_value: Option<f32>,
+    pub step_size: Option<f32>,
 }
 
 impl AutomationEnvelope {
+    #[tactic(auto, unfolding(crate::specs::Envelope::new))]
     pub fn new(target: u32) -> AutomationEnvelope
         ensures { result ≡ new target }
     {
-        let points = points::list::none();
         AutomationEnvelope {
             target,
-            points,
+            points: points::list::none(),
             enabled: true,
-            min_value: Limit::None,
-            max_value: Limit::None,
-            step_size: Limit::None,
             hard: false,
+            min_value: None,
+            max_value: None,
+            step_size: None,
         }
     }
 
-    pub fn limits(self) -> Limits
-        ensures { result ≡ limits_of self }
+    pub fn limits(&self) -> Limits
+        ensures { result ≡ limits_of self.now }
     {
-        let min_value = self.min_value;
-        let max_value = self.max_value;
-        let step_size = self.step_size;
         Limits {
-            min_value,
-            max_value,
-            step_size,
+            min_value: self.min_value,
+            max_value: self.max_value,
+            step_size: self.step_size,
             hard: self.hard,
         }
     }
 
-    pub fn is_valid(self) -> bool
-        ensures { result ≡ valid_envelope self }
+    // What a lookup takes of it.
+    fn heard(&self) -> Heard<'_>
+        ensures { result ≡ heard_of self.now }
     {
-        let points = self.points;
-        lookup::is_valid(points, self.limits())
-    }
-
-    fn same_settings(self, other: AutomationEnvelope) -> bool
-        ensures { result ≡ same_settings self other }
-    {
-        let min = self.min_value;
-        let max = self.max_value;
-        let step = self.step_size;
-        let other_min = other.min_value;
-        let other_max = other.max_value;
-        let other_step = other.step_size;
-        (self.target == other.target)
-            & (self.enabled == other.enabled)
-            & same_limit(min, other_min)
-            & same_limit(max, other_max)
-            & same_limit(step, other_step)
-            & (self.hard == other.hard)
-    }
-
-    fn equal(self, other: AutomationEnvelope, exact: bool) -> Compared
-        ensures { compared result ≡ envelopes_equal exact self other }
-    {
-        if self.is_valid() & other.is_valid() {
-            let points = self.points;
-            let others = other.points;
-            Compared::Is(self.same_settings(other) & points.same(others, exact))
-        } else {
-            Compared::Refused(Refusal::NotValid)
+        Heard {
+            points: &self.points,
+            enabled: self.enabled,
+            limits: self.limits(),
         }
     }
 
+    pub fn is_valid(&self) -> bool
+        ensures { result ≡ valid_envelope self.now }
+    {
+        self.heard().is_valid()
+    }
+
+    // 1 where it isn't valid.
+    fn check(&self) -> Result<(), Refusal>
+        ensures { result ≡ checked self.now }
+    {
+        if !self.is_valid() {
+            return Err(Refusal::NotValid);
+        }
+        Ok(())
+    }
+
+    // No PartialEq: the points are compared by rules of their own.
+    fn same_settings(&self, other: &AutomationEnvelope) -> bool
+        ensures { result ≡ same_settings self.now other.now }
+    {
+        (self.target == other.target)
+            & (self.enabled == other.enabled)
+            & (self.limits() == other.limits())
+    }
+
+    // Both equalities of 000; `exact` is a flag as in specs/.
+    #[tactic(auto, unfolding(crate::specs::Envelope::envelopes_equal))]
+    fn equal(&self, other: &AutomationEnvelope, exact: bool) -> Result<bool, Refusal>
+        ensures { said result ≡ envelopes_equal exact self.now other.now }
+    {
+        self.check()?;
+        other.check()?;
+        Ok(self.same_settings(other) & self.points.same(&other.points, exact))
+    }
+
     // 000's derived PartialEq: breakpoints by time and value, the curve aside.
-    pub fn eq(self, other: AutomationEnvelope) -> Compared
-        ensures { compared result ≡ envelopes_equal false self other }
+    pub fn eq(&self, other: &AutomationEnvelope) -> Result<bool, Refusal>
+        ensures { said result ≡ envelopes_equal false self.now other.now }
     {
         self.equal(other, false)
     }
 
-    pub fn eq_exact(self, other: AutomationEnvelope) -> Compared
-        ensures { compared result ≡ envelopes_equal true self other }
+    pub fn eq_exact(&self, other: &AutomationEnvelope) -> Result<bool, Refusal>
+        ensures { said result ≡ envelopes_equal true self.now other.now }
     {
         self.equal(other, true)
     }

@@ -1,16 +1,13 @@
 -- 02, F-2: "bit-equal .., settings and count included". Bits are compared, not numbers: −0.0 and 0.0 differ.
-use Rattle.std.specs.Prelude.{Bool, true, false, ◌&&◌, eqb, Float}
+use Rattle.std.specs.Prelude.{ℕ, Bool, ◌&&◌, eqb, Float, Option}
 use Rattle.std.specs.Bool.{beq}
+use Rattle.std.specs.Option.{option_eq}
 use Rattle.std.specs.Float.{Format, binary32, binary64}
 use Rattle.std.specs.Float.Ieee.{to_bits}
 use Rattle.curve.specs.Curve.{code, controls}
 use Rattle.curve.specs.declared.CurveType.{CurveType}
 use Rattle.points.specs.Points.{list_of, every_pair}
 use Rattle.points.specs.declared.AutomationPoint.{AutomationPoint}
-use Rattle.points.specs.declared.SamplePosition.{SamplePosition}
-use Rattle.points.specs.declared.SamplePosition.TheVariants as position
-use Rattle.limits.specs.declared.Limit.{Limit}
-use Rattle.limits.specs.declared.Limit.TheVariants as limit
 use Rattle.envelope.specs.declared.AutomationEnvelope.{AutomationEnvelope}
 
 -- two floats of one format
@@ -18,18 +15,12 @@ abbrev pub same_bits : Format → Float → Float → Bool
 same_bits f x y = eqb (to_bits f x) (to_bits f y)
 
 -- "each a number or none"
-abbrev pub bit_equal_limit : Limit → Limit → Bool
-bit_equal_limit limit.None limit.None = true
-bit_equal_limit limit.None (limit.Number y) = false
-bit_equal_limit (limit.Number x) limit.None = false
-bit_equal_limit (limit.Number x) (limit.Number y) = same_bits binary32 x y
+abbrev pub bit_equal_limit : Option Float → Option Float → Bool
+bit_equal_limit = option_eq (same_bits binary32)
 
 -- "an optional sample position"
-abbrev pub bit_equal_position : SamplePosition → SamplePosition → Bool
-bit_equal_position position.None position.None = true
-bit_equal_position position.None (position.At n) = false
-bit_equal_position (position.At m) position.None = false
-bit_equal_position (position.At m) (position.At n) = eqb m n
+abbrev pub bit_equal_position : Option ℕ → Option ℕ → Bool
+bit_equal_position = option_eq eqb
 
 -- the curve's number, and "its two control numbers"
 abbrev pub bit_equal_curve : CurveType → CurveType → Bool

@@ -1,4 +1,5 @@
 -- A field that is written is read back, and a field that is read is written back. Assumes nothing.
+use Rattle.std.specs.Prelude.{None, Option, Some}
 use Prim.Native.Nat.{ℕ, zero, suc, ◌+◌, ◌-◌, ◌*◌, ◌^◌, ◌/◌, ◌%◌, ◌≤◌, ◌<◌}
 use mathlib.Core.Path.{◌≡◌, refl, sym, ap, ◌∙◌}
 use mathlib.Core.Bool.{Bool, true, false, cond}
@@ -11,8 +12,6 @@ use borrow.Author.Tests.{lt-ltb, le-ltb, ltb-true, ltb-false, eq-eqb, ne_eqb, eq
 use Rattle.fields.specs.Form.{Got, bad, got, then, digit, read_digits, next_is, ended, number_form, optional_form}
 use Rattle.fields.specs.Text.{digit_byte, digits_of, number_text, optional_text}
 use Rattle.fields.specs.Told.{Below}
-use Rattle.fields.specs.declared.Optional.{Optional}
-use Rattle.fields.specs.declared.Optional.TheVariants as optional
 use Rattle.fields.proofs.ReadDigits.{no_bad}
 use Rattle.fields.proofs.Forms.{unthen, uncond, unended}
 
@@ -139,10 +138,10 @@ no_dash base (suc (suc w)) v rest h =
     ap (λ (l : List ℕ). next_is 45 l) (append_assoc (digits_of base (suc w) (v / base)) (digit_byte (v % base) ∷ []) rest)
     ∙ no_dash base (suc w) (v / base) (digit_byte (v % base) ∷ rest) (omega arith)
 
-pub read_optional : (w e : ℕ) (p : Optional) (rest : List ℕ) → 0 < w → Below (16 ^ w) p → optional_form w e (optional_text w e p ++ rest) ≡ got p rest
+pub read_optional : (w e : ℕ) (p : Option ℕ) (rest : List ℕ) → 0 < w → Below (16 ^ w) p → optional_form w e (optional_text w e p ++ rest) ≡ got p rest
 unfolding optional_form optional_text next_is
-read_optional w e optional.None rest pos h = rw (eqb_self e)
-read_optional w e (optional.Bits v) rest pos h =
+read_optional w e None rest pos h = rw (eqb_self e)
+read_optional w e (Some v) rest pos h =
     let s : next_is 45 (number_text 16 w e v ++ rest) ≡ false = ap (λ (l : List ℕ). next_is 45 l) (append_assoc (digits_of 16 w v) (e ∷ []) rest) ∙ no_dash 16 w v (e ∷ rest) pos in
     rw (s, read_number 16 w e v rest (omega arith) (omega arith) h)
 
@@ -151,17 +150,17 @@ unfolding next_is
 next_cons b [] e = let z : ◌≡◌ {A = ℕ} 0 1 = cc in absurd (omega arith)
 next_cons b (x ∷ l) e = ap (λ (y : ℕ). y ∷ l) (eqb-true x b e)
 
-pub write_optional : (w e : ℕ) (l : List ℕ) (p : Optional) (rest : List ℕ) → optional_form w e l ≡ got p rest → l ≡ optional_text w e p ++ rest
+pub write_optional : (w e : ℕ) (l : List ℕ) (p : Option ℕ) (rest : List ℕ) → optional_form w e l ≡ got p rest → l ≡ optional_text w e p ++ rest
 unfolding optional_form optional_text
 write_optional w e l p rest q = on (next_is 45 l) refl q
   where
-    on : (t : Bool) → next_is 45 l ≡ t → cond t (ended e optional.None (tail l)) (then (number_form 16 w e l) (λ v m. got (optional.Bits v) m)) ≡ got p rest → l ≡ optional_text w e p ++ rest
+    on : (t : Bool) → next_is 45 l ≡ t → cond t (ended e None (tail l)) (then (number_form 16 w e l) (λ v m. got (Some v) m)) ≡ got p rest → l ≡ optional_text w e p ++ rest
     on true s k =
-        let z = unended e optional.None (tail l) k in
+        let z = unended e None (tail l) k in
         next_cons 45 l s ∙ rw (z.1, ← z.0)
     on false s k =
-        unthen (number_form 16 w e l) (λ v m. got (optional.Bits v) m) k
+        unthen (number_form 16 w e l) (λ v m. got (Some v) m) k
         (λ v m a b.
-        let n : optional.Bits v ≡ p = cc in
+        let n : Some v ≡ p = cc in
         let o : m ≡ rest = cc in
         rw (← n, ← o) (write_number 16 w e l v m (omega arith) a))

@@ -1,60 +1,50 @@
 -- Decimal digits as far as they go. Assumes nothing.
-use Prim.Native.Nat.{ℕ, zero, suc, ◌+◌, ◌*◌, ◌≤◌, ◌<◌}
+use Prim.Native.Nat.{ℕ, ◌+◌, ◌-◌, ◌*◌, ◌≤◌, ◌<◌}
 use mathlib.Core.Path.{◌≡◌, refl}
 use mathlib.Core.Bool.{Bool, true, false, cond}
 use mathlib.Core.List.{List, [], ◌∷◌, tail}
 use native.Mathlib.Numerals.{add-one}
 use native.Mathlib.Omega.{arith}
 use borrow.Author.Tests.{lt-ltb, le-ltb, ltb-true}
-use lib.ListN.{length, drop, get_or, drop_of_length-le}
-use lib.Seq.{drop-cons}
+use lib.ListN.{length, take, drop, get_or}
+use lib.Seq.{take-length}
 use lib.Dec.{ltb, eqb}
 use Rattle.fields.specs.Form.{bad, got, then, ended, digit, decimals, next_digit, target_form}
 use Rattle.fields.proofs.ReadDigits.{no_bad}
 use Rattle.fields.proofs.Forms.{unthen, uncond, unended}
 
-pub decimals_end : (v : ℕ) (s : List ℕ) (at : ℕ) → length s ≤ at → got v (drop at s) ≡ decimals v (drop at s)
+-- the next byte, and the bytes after it
+pub decimals_more : (v d u : ℕ) (s : List ℕ) → 1 ≤ length s → d ≡ digit (get_or s 0 0) → d < 10 → u ≡ v * 10 + d → u < 0x1_0000_0000
+    → decimals v s ≡ decimals u (take (length s - 1) (drop 1 s))
 unfolding decimals
-decimals_end v s at h = rw (drop_of_length-le s h)
+decimals_more v d u [] h e k q o = absurd (omega arith)
+decimals_more v d u (b ∷ s) h e k q o =
+    let t : ltb (digit b) 10 ≡ true = lt-ltb _ _ (rw e at k) in
+    let n : u ≡ v * 10 + digit b = rw e at q in
+    let f : ltb (v * 10 + digit b) 0x1_0000_0000 ≡ true = lt-ltb _ _ (omega (arith, n, o)) in
+    let z : length s + 1 - 1 ≡ length s = omega arith in
+    rw (t, f, n, ← add-one (length s), z, take-length)
 
-module _ (v : ℕ) (s : List ℕ) (at d : ℕ) (h : at < length s) (e : d ≡ digit (get_or s at 0)) where
-  front : drop at s ≡ get_or s at 0 ∷ drop (suc at) s
-  front = drop-cons s at 0 h
+pub decimals_stop : (v d : ℕ) (s : List ℕ) → d ≡ digit (get_or s 0 0) → 1 ≤ length s → 10 ≤ d → decimals v s ≡ got v s
+unfolding decimals
+decimals_stop v d [] e h k = absurd (omega arith)
+decimals_stop v d (b ∷ s) e h k = let t : ltb (digit b) 10 ≡ false = le-ltb _ _ (rw e at k) in rw t
 
-  pub decimals_stop : 10 ≤ d → got v (drop at s) ≡ decimals v (drop at s)
-  unfolding decimals
-  decimals_stop k =
-      let t : ltb (digit (get_or s at 0)) 10 ≡ false = le-ltb _ _ (rw e at k) in
-      rw (front, t)
+pub decimals_over : (v d : ℕ) (s : List ℕ) → 1 ≤ length s → d ≡ digit (get_or s 0 0) → d < 10 → 0x1_0000_0000 ≤ v * 10 + d → decimals v s ≡ bad
+unfolding decimals
+decimals_over v d [] h e k o = absurd (omega arith)
+decimals_over v d (b ∷ s) h e k o =
+    let t : ltb (digit b) 10 ≡ true = lt-ltb _ _ (rw e at k) in
+    let u : ltb (v * 10 + digit b) 0x1_0000_0000 ≡ false = le-ltb _ _ (rw e at o) in
+    rw (t, u)
 
-  pub decimals_over : d < 10 → 0x1_0000_0000 ≤ v * 10 + d → bad ≡ decimals v (drop at s)
-  unfolding decimals
-  decimals_over k o =
-      let t : ltb (digit (get_or s at 0)) 10 ≡ true = lt-ltb _ _ (rw e at k) in
-      let u : ltb (v * 10 + digit (get_or s at 0)) 0x1_0000_0000 ≡ false = le-ltb _ _ (rw e at o) in
-      rw (front, t, u)
+pub decimals_end : (v : ℕ) (s : List ℕ) → length s < 1 → decimals v s ≡ got v s
+unfolding decimals
+decimals_end v [] h = refl
+decimals_end v (b ∷ s) h = absurd (omega arith)
 
-  pub decimals_step : d < 10 → v * 10 + d < 0x1_0000_0000 → decimals v (drop at s) ≡ decimals (v * 10 + d) (drop (at + 1) s)
-  unfolding decimals
-  decimals_step k o =
-      let t : ltb (digit (get_or s at 0)) 10 ≡ true = lt-ltb _ _ (rw e at k) in
-      let u : ltb (v * 10 + digit (get_or s at 0)) 0x1_0000_0000 ≡ true = lt-ltb _ _ (rw e at o) in
-      rw (front, t, u, add-one at, ← e)
-
-pub next_digit_in : (s : List ℕ) (at : ℕ) → at < length s → digit (get_or s at 0) ≡ next_digit (drop at s)
-unfolding next_digit
-next_digit_in s at h = rw (drop-cons s at 0 h)
-
-pub next_digit_out : (s : List ℕ) (at : ℕ) → length s ≤ at → 16 ≡ next_digit (drop at s)
-unfolding next_digit
-next_digit_out s at h = rw (drop_of_length-le s h)
-
-pub next_digit_inside : (s : List ℕ) (at : ℕ) → next_digit (drop at s) < 16 → at < length s
-unfolding next_digit
-next_digit_inside [] zero h = absurd (omega arith)
-next_digit_inside [] (suc at) h = absurd (omega arith)
-next_digit_inside (x ∷ s) zero h = omega arith
-next_digit_inside (x ∷ s) (suc at) h = omega (arith, next_digit_inside s at h)
+-- those of the next byte that the check applies
+pub ruleset next_laws = (decimals_stop, decimals_over, decimals_end)
 
 pub decimals_lt : (v : ℕ) (l : List ℕ) (u : ℕ) (rest : List ℕ) → v < 0x1_0000_0000 → decimals v l ≡ got u rest → u < 0x1_0000_0000
 unfolding decimals

@@ -1,6 +1,4 @@
-pub mod Entries
 pub mod ReadDigits
-pub mod Fields
 pub mod Starts
 pub mod Forms
 pub mod Decimal

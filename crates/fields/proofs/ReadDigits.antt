@@ -2,17 +2,17 @@
 use Prim.Native.Nat.{ℕ, zero, suc, ◌+◌, ◌-◌, ◌*◌, ◌^◌, ◌≤◌, ◌<◌}
 use mathlib.Core.Path.{◌≡◌, refl, sym, ap, ◌∙◌}
 use mathlib.Core.Bool.{Bool, true, false, cond}
-use mathlib.Core.List.{List, [], ◌∷◌, tail}
+use mathlib.Core.List.{List, [], ◌∷◌, ◌++◌, tail, map}
 use native.Mathlib.Nat.{pow-suc, pow-zero, add-zero, zero-add, add-mul, one-mul, mul-le-mul_right, pow-le-pow_right, le_of_suc-le-suc, not-suc-le-zero}
 use native.Mathlib.Numerals.{add-one}
 use native.Mathlib.Omega.{arith}
-use lib.ListN.{length, drop, get_or}
+use lib.ListN.{length, drop, get_or, drop_of_length-le}
 use lib.Seq.{drop-cons}
-use lib.Dec.{T, ltb, eqb, eqb→eq}
+use lib.Dec.{ltb}
 use borrow.Author.Tests.{lt-ltb, le-ltb, ltb-true}
 use Rattle.fields.specs.Form.{Got, bad, got, then, digit, read_digits, next_is, ended, number_form}
-use Rattle.fields.specs.Told.{DigitTable}
-use Rattle.fields.proofs.Entries.{every, at}
+use Rattle.std.specs.List.{range_with_len}
+use Rattle.std.proofs.lemmas.List.FromFn.{get_or-map-range_with_len}
 
 either_bad : {A : Type 0} (t : Bool) {x : Got A} → x ≡ bad → cond t x bad ≡ bad
 either_bad true e = e
@@ -24,25 +24,28 @@ digits_short base zero v l h = absurd (not-suc-le-zero h)
 digits_short base (suc w) v [] h = refl
 digits_short base (suc w) v (b ∷ l) h = either_bad (ltb (digit b) base) (digits_short base w (v * base + digit b) l (le_of_suc-le-suc h))
 
-module _ (base v : ℕ) (s : List ℕ) (at w i : ℕ) (h : i < w) (inside : at + i < length s) where
-  opened : read_digits base (w - i) v (drop (at + i) s) ≡ read_digits base (suc (w - (i + 1))) v (get_or s (at + i) 0 ∷ drop (suc (at + i)) s)
+-- the digits of a part of the bytes, one after the other: another one, one that is none, and the last
+module _ (base v : ℕ) (s rest : List ℕ) (i d : ℕ) (h : i < length s) (e : d ≡ digit (get_or s i 0)) where
+  opened : read_digits base (length s - i) v (drop i s ++ rest) ≡ read_digits base (suc (length s - (i + 1))) v (get_or s i 0 ∷ (drop (i + 1) s ++ rest))
   opened =
-      let e : w - i ≡ suc (w - (i + 1)) = omega arith in
-      ap (λ (k : ℕ). read_digits base k v (drop (at + i) s)) e
-      ∙ ap (λ (l : List ℕ). read_digits base (suc (w - (i + 1))) v l) (drop-cons s (at + i) 0 inside)
+      let k : length s - i ≡ suc (length s - (i + 1)) = omega arith in
+      rw (k, drop-cons s i 0 h, add-one i)
 
-  pub digits_step : (d : ℕ) → d ≡ digit (get_or s (at + i) 0) → d < base → read_digits base (w - i) v (drop (at + i) s) ≡ read_digits base (w - (i + 1)) (v * base + d) (drop (at + (i + 1)) s)
+  pub digits_more : d < base → read_digits base (length s - i) v (drop i s ++ rest) ≡ read_digits base (length s - (i + 1)) (v * base + d) (drop (i + 1) s ++ rest)
   unfolding read_digits
-  digits_step d e small =
-      let t : ltb (digit (get_or s (at + i) 0)) base ≡ true = lt-ltb _ _ (rw e at small) in
-      let k : suc (at + i) ≡ at + (i + 1) = omega arith in
-      opened ∙ rw (t, k, ← e)
+  digits_more small =
+      let t : ltb (digit (get_or s i 0)) base ≡ true = lt-ltb _ _ (rw e at small) in
+      opened ∙ rw (t, ← e)
 
-  pub digits_stop : (d : ℕ) → d ≡ digit (get_or s (at + i) 0) → base ≤ d → read_digits base (w - i) v (drop (at + i) s) ≡ bad
+  pub digits_stop : base ≤ d → read_digits base (length s - i) v (drop i s ++ rest) ≡ bad
   unfolding read_digits
-  digits_stop d e large =
-      let t : ltb (digit (get_or s (at + i) 0)) base ≡ false = le-ltb _ _ (rw e at large) in
+  digits_stop large =
+      let t : ltb (digit (get_or s i 0)) base ≡ false = le-ltb _ _ (rw e at large) in
       opened ∙ rw t
+
+pub digits_all : (base v : ℕ) (s rest : List ℕ) (i : ℕ) → length s ≤ i → read_digits base (length s - i) v (drop i s ++ rest) ≡ got v rest
+unfolding read_digits
+digits_all base v s rest i h = let k : length s - i ≡ 0 = omega arith in rw (k, drop_of_length-le s h)
 
 -- the number after another digit is below the next power
 pub horner : (base i v d : ℕ) → v < base ^ i → d < base → v * base + d < base ^ (i + 1)
@@ -67,19 +70,12 @@ digit_le b = low (ltb b 48) (ltb b 58) refl (ltb b 65) (ltb b 71) refl
     low false false p false true q = omega (arith, ltb-true b 71 q)
     low false false p false false q = omega arith
 
--- ---- the table
--- a table whose 256 entries pass the test has the rule
-pub rule : (t : List ℕ) → T (every (λ k x. eqb x (digit k)) 0 t) → length t ≡ 256 → DigitTable t
-unfolding DigitTable
-rule t passes e b h = eqb→eq _ (digit b) (at (λ k x. eqb x (digit k)) t passes b (omega arith))
+-- those of the digits of a part
+pub ruleset part_laws = (digits_short, digits_more, digits_stop, digits_all, horner, horner_fits)
 
-module _ (t : List ℕ) (b : ℕ) (h : b < 256) (d : DigitTable t) where
-  pub entry : get_or t b 0 ≡ digit b
-  unfolding DigitTable
-  entry = d b h
-
-  pub entry_le : get_or t b 0 ≤ 16
-  entry_le = rw entry (digit_le b)
+-- a table of all digits
+pub entry : (t : List ℕ) → t ≡ map digit (range_with_len 0 256) → (b : ℕ) → b < 256 → get_or t b 0 ≡ digit b
+entry t e b h = ap (λ (t : List ℕ). get_or t b 0) e ∙ get_or-map-range_with_len digit 0 256 b b 0 h (zero-add b)
 
 -- ---- a number of so many digits is below the power
 pub no_bad : {A B : Type 0} {a : A} {l : List ℕ} → bad ≡ got a l → B

@@ -1,17 +1,18 @@
 -- Runs of stores, and how long the texts are. Assumes nothing.
+use Rattle.std.specs.Prelude.{None, Option, Some}
 use Prim.Native.Nat.{ℕ, zero, suc, ◌+◌, ◌-◌, ◌/◌, ◌%◌, ◌≤◌, ◌<◌}
 use mathlib.Core.Path.{◌≡◌, refl, sym, ap, ◌∙◌}
-use mathlib.Core.List.{List, [], ◌∷◌, ◌++◌}
+use mathlib.Core.List.{List, [], ◌∷◌, ◌++◌, append_assoc, append-nil}
 use native.Mathlib.Nat.{add-zero, zero-add}
 use native.Mathlib.Numerals.{add-one}
 use native.Mathlib.Omega.{arith}
 use borrow.Author.Tests.{le-leb, lt-leb}
-use lib.ListN.{length, set, drop, get_or, length-append, drop_of_length-le}
-use lib.Seq.{sets, sets-eq, set_comm, drop-cons, length-sets}
+use lib.ListN.{length, set, take, drop, length-append, length-take, length-drop}
+use Rattle.std.proofs.lemmas.List.{drop-set}
+use lib.Seq.{drop-drop, drop-length, sets, sets-eq, length-sets}
 use Rattle.fields.specs.Text.{digit_byte, digits_of, number_text, optional_text}
 use Rattle.fields.specs.Told.{Put, Fitted}
-use Rattle.fields.specs.declared.Optional.{Optional}
-use Rattle.fields.specs.declared.Optional.TheVariants as optional
+use borrow.Rule.Slice.PartMut.{put_mid}
 
 -- ---- one text after another
 
@@ -77,71 +78,61 @@ length_digits base (suc w) v = length-append (digits_of base w (v / base)) (digi
 pub length-number : (base w e v : ℕ) → length (number_text base w e v) ≡ w + 1
 length-number base w e v = length-append (digits_of base w v) (e ∷ []) ∙ ap (λ (n : ℕ). n + 1) (length_digits base w v)
 
--- the last store first
-sets_snoc : (l : List ℕ) (i : ℕ) (vs : List ℕ) (c : ℕ) → sets l i (vs ++ (c ∷ [])) ≡ sets (set l (i + length vs) c) i vs
-sets_snoc l i [] c = ap (λ (k : ℕ). set l k c) (sym (add-zero i))
-sets_snoc l i (a ∷ vs) c =
-    let k : suc i + length vs ≡ i + suc (length vs) = omega arith in
-    sets_snoc (set l i a) (suc i) vs c
-    ∙ ap (λ (n : ℕ). sets (set (set l i a) n c) (suc i) vs) k
-    ∙ ap (λ (m : List ℕ). sets m (suc i) vs) (set_comm l i (i + suc (length vs)) a c (λ e. omega arith))
+-- before the first digit is put, after one more, and after the last
+pub digits_start : (base v : ℕ) (l : List ℕ) → digits_of base (length l) v ++ drop (length l) l ≡ digits_of base (length l) v
+digits_start base v l = rw drop-length (append-nil (digits_of base (length l) v))
 
--- a digit stored, and those before it left to store
-pub digit_stored : (l : List ℕ) (at base k left : ℕ) → 0 < k
-    → sets (set l (at + (k - 1)) (digit_byte (left % base))) at (digits_of base (k - 1) (left / base)) ≡ sets l at (digits_of base k left)
+pub digits_more : (base k left : ℕ) (l : List ℕ) → k < length l
+    → digits_of base k (left / base) ++ drop k (set l k (digit_byte (left % base))) ≡ digits_of base (k + 1) left ++ drop (k + 1) l
 unfolding digits_of
-digit_stored l at base zero left h = absurd (omega arith)
-digit_stored l at base (suc k) left h =
-    let e : suc k - 1 ≡ k = omega arith in
-    rw e (sym (sets_snoc l at (digits_of base k (left / base)) (digit_byte (left % base))
-    ∙ ap (λ (n : ℕ). sets (set l (at + n) (digit_byte (left % base))) at (digits_of base k (left / base))) (length_digits base k (left / base))))
+digits_more base k left l h =
+    rw (drop-set l k (digit_byte (left % base)) h, add-one k)
+    (sym (append_assoc (digits_of base k (left / base)) (digit_byte (left % base) ∷ []) (drop (suc k) l)))
 
--- all digits stored, after the byte at their end
-pub number_stored : (l b : List ℕ) (at base w v e k left : ℕ) → k ≤ 0
-    → sets b at (digits_of base k left) ≡ sets (set l (at + w) e) at (digits_of base w v) → Put l at (number_text base w e v) b (at + w + 1)
+pub digits_end : (base k left : ℕ) (l : List ℕ) → k ≤ 0 → digits_of base k left ++ drop k l ≡ l
 unfolding digits_of
-number_stored l b at base w v e zero left z q = record {
-  next = omega (arith, length-number base w e v);
-  bytes = q ∙ ap (λ (n : ℕ). sets (set l (at + n) e) at (digits_of base w v)) (sym (length_digits base w v)) ∙ sym (sets_snoc l at (digits_of base w v) e);
-}
-number_stored l b at base w v e (suc k) left z q = absurd (omega arith)
+digits_end base zero left l h = refl
+digits_end base (suc k) left l h = absurd (omega arith)
 
--- ---- an optional number, by its case
+-- ---- a part of the bytes, written anew
 
-module _ (w e : ℕ) {p : Optional} where
-  pub some_is : (v : ℕ) → p ≡ optional.Bits v → number_text 16 w e v ≡ optional_text w e p
-  unfolding optional_text
-  some_is v q = rw q
+part_put : (l w : List ℕ) (at e : ℕ) → e ≡ at + length w → e ≤ length l → put_mid at (e - at) l w ≡ sets l at w
+part_put l w at e p h =
+    let k : e - at ≡ length w = omega arith in
+    let r : at + length w ≤ length l = omega arith in
+    rw (k, sets-eq w l at r, drop-drop (length w) at l) (sym (append_assoc (take at l) w (drop (at + length w) l)))
 
-  pub none_is : p ≡ optional.None → 45 ∷ e ∷ [] ≡ optional_text w e p
-  unfolding optional_text
-  none_is q = rw q
+pub text_put : (l w m : List ℕ) (at e : ℕ) → e ≡ at + length w → e ≤ length l → m ≡ w → Fitted l at w (put_mid at (e - at) l m) e
+text_put l w m at e p h q =
+    let t = le-leb (at + length w) (length l) (omega arith) in
+    record { next = rw t p; bytes = rw (t, q) (part_put l w at e p h) }
 
-  pub some_length : (v : ℕ) → p ≡ optional.Bits v → length (optional_text w e p) ≡ w + 1
-  some_length v q = ap length (sym (some_is v q)) ∙ length-number 16 w e v
+pub number_put : (l m : List ℕ) (at base w e v last : ℕ) → last ≡ at + w → last < length l → m ≡ digits_of base (length (take (last - at) (drop at l))) v
+    → Fitted l at (number_text base w e v) (set (put_mid at (last - at) l m) last e) (last + 1)
+number_put l m at base w e v last p h q =
+    let k : length (take (last - at) (drop at l)) ≡ w = simp (length-take, length-drop) (omega arith) in
+    let d : m ≡ digits_of base w v = q ∙ ap (λ (n : ℕ). digits_of base n v) k in
+    let n : length m ≡ w = ap length d ∙ length_digits base w v in
+    let r : put_mid at (last - at) l m ≡ sets l at m = part_put l m at last (omega arith) (omega arith) in
+    let t = le-leb (at + length (number_text base w e v)) (length l) (omega (arith, length-number base w e v)) in
+    let z : at + length (digits_of base w v) ≡ last = omega (arith, length_digits base w v) in
+    record {
+      next = rw t (omega (arith, length-number base w e v));
+      bytes = rw (t, r, d, sets_append l at (digits_of base w v) (e ∷ []), z);
+    }
 
-  pub none_length : p ≡ optional.None → length (optional_text w e p) ≡ 2
-  none_length q = ap length (sym (none_is q))
+pub no_number : (l : List ℕ) (at base w e v : ℕ) → length l ≤ at + w → Fitted l at (number_text base w e v) l at
+no_number l at base w e v h = not_fits l at (number_text base w e v) (omega (arith, length-number base w e v))
+
+-- ---- an optional number
 
 -- the byte after it does not matter
-pub same_length : (w e f : ℕ) (p : Optional) → length (optional_text w e p) ≡ length (optional_text w f p)
+pub same_length : (w e f : ℕ) (p : Option ℕ) → length (optional_text w e p) ≡ length (optional_text w f p)
 unfolding optional_text
-same_length w e f optional.None = refl
-same_length w e f (optional.Bits v) = length-number 16 w e v ∙ sym (length-number 16 w f v)
+same_length w e f None = refl
+same_length w e f (Some v) = length-number 16 w e v ∙ sym (length-number 16 w f v)
 
-pub length-le : (w e : ℕ) (p : Optional) → length (optional_text w e p) ≤ w + 2
+pub length-le : (w e : ℕ) (p : Option ℕ) → length (optional_text w e p) ≤ w + 2
 unfolding optional_text
-length-le w e optional.None = omega arith
-length-le w e (optional.Bits v) = omega (arith, length-number 16 w e v)
-
--- ---- a text, from the front
-
-pub text_step : (l w : List ℕ) (at i : ℕ) → i < length w → sets l (at + i) (drop i w) ≡ sets (set l (at + i) (get_or w i 0)) (at + (i + 1)) (drop (i + 1) w)
-text_step l w at i h =
-    let k : suc (at + i) ≡ at + (i + 1) = omega arith in
-    ap (λ (v : List ℕ). sets l (at + i) v) (drop-cons w i 0 h)
-    ∙ ap (λ (n : ℕ). sets (set l (at + i) (get_or w i 0)) n (drop (suc i) w)) k
-    ∙ ap (λ (n : ℕ). sets (set l (at + i) (get_or w i 0)) (at + (i + 1)) (drop n w)) (sym (add-one i))
-
-pub text_end : (l w : List ℕ) (at i : ℕ) → length w ≤ i → sets l (at + i) (drop i w) ≡ l
-text_end l w at i h = rw (drop_of_length-le w h)
+length-le w e None = omega arith
+length-le w e (Some v) = omega (arith, length-number 16 w e v)

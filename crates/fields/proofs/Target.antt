@@ -6,11 +6,12 @@ use mathlib.Core.List.{List, [], ◌∷◌, ◌++◌, tail, append_assoc}
 use native.Mathlib.Nat.{pow-suc, pow-zero, add-mul, mul_comm, mul_assoc, mul-one, one-mul, mul-le-mul_right, zero-add, div-lt_iff_lt-mul, le-div_iff_mul-le, pow-le-pow_right}
 use native.Mathlib.Omega.{arith}
 use lib.Dec.{ltb, eqb}
-use borrow.Author.Tests.{lt-ltb, le-ltb, ltb-true, ltb-false, eqb-true, eqb-false, ne_eqb}
+use borrow.Author.Tests.{lt-ltb, ltb-true, ltb-false, eqb-true, eqb-false, ne_eqb}
 use Rattle.fields.specs.Form.{bad, got, then, digit, read_digits, next_is, ended, decimals, next_digit, target_form}
 use Rattle.fields.specs.Text.{digit_byte, digits_of, places_of, decimal_text}
 use Rattle.fields.proofs.ReadDigits.{no_bad, digits_lt}
 use Rattle.fields.proofs.Decimal.{decimals_lt}
+use Rattle.fields.proofs.Places.{ten, places_is}
 use Rattle.fields.proofs.Forms.{unthen, uncond, unended}
 use Rattle.fields.proofs.Back.{byte_digit, read-digits, write_digits}
 
@@ -88,9 +89,6 @@ all_digits j (b ∷ l) v m e h =
 
 -- ---- how many digits a number has
 
-ten : 0 < 10
-ten = omega arith
-
 record Places (most v : ℕ) : Type 0 where
   before_last : ℕ
   is : places_of most v ≡ suc before_last
@@ -115,16 +113,6 @@ places (suc k) v h p = on (ltb v 10) refl (λ s q. places k (v / 10) s q)
           low = rw pow-suc ((le-div_iff_mul-le ten).0 r.low);
           high = rw (pow-suc 10 (suc r.before_last)) ((div-lt_iff_lt-mul ten).0 r.high);
         }
-
-places_is : (most j v : ℕ) → 10 ^ j ≤ v → v < 10 ^ suc j → suc j ≤ most → places_of most v ≡ suc j
-unfolding places_of
-places_is zero j v low high h = absurd (omega arith)
-places_is (suc k) zero v low high h = rw (lt-ltb v 10 (omega (arith, pow-suc 10 0, pow-zero 10)))
-places_is (suc k) (suc j) v low high h =
-    let m : 10 ^ j * 10 ≤ v = rw pow-suc at low in
-    let o : 1 ≤ 10 ^ j = omega (arith, pow-le-pow_right {n = 10} ten {i = 0} {j = j} (omega arith), pow-zero 10) in
-    let s : v < 10 ^ suc j * 10 = rw (pow-suc 10 (suc j)) at high in
-    rw (le-ltb v 10 (omega arith)) (ap suc (places_is k j (v / 10) ((le-div_iff_mul-le ten).1 m) ((div-lt_iff_lt-mul ten).1 s) (omega arith)))
 
 -- ---- the target
 

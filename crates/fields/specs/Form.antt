@@ -1,11 +1,10 @@
 -- 01, "The sheet": the fields of a line. A form looks at the front of the bytes. It finds a value there and leaves the bytes after it, or the line breaks the sheet's form.
-use Rattle.std.specs.Prelude.{ℕ, zero, suc, ◌+◌, ◌-◌, ◌*◌, Bool, true, false, cond, ◌&&◌, ltb, eqb}
+use Rattle.std.specs.Prelude.{ℕ, zero, suc, ◌+◌, ◌-◌, ◌*◌, Bool, false, cond, ltb, eqb, nat_eq, None, Option, Some}
+use Rattle.std.specs.List as slices
 use Prim.Native.Char.{code}
 use Prim.Native.String as string
 use Prim.Native.String.{String}
 use mathlib.Core.List.{List, [], ◌∷◌, tail}
-use Rattle.fields.specs.declared.Optional.{Optional}
-use Rattle.fields.specs.declared.Optional.TheVariants as optional
 
 -- the line breaks the sheet's form, or the value that stands in front and the bytes after it
 pub data Got (A : Type 0) : Type 0 where
@@ -34,9 +33,7 @@ text (string.◌∷◌ c cs) = code c ∷ text cs
 
 -- the bytes start with those of a text
 unfoldable pub starts_with : List ℕ → List ℕ → Bool
-starts_with [] l = true
-starts_with (b ∷ w) [] = false
-starts_with (b ∷ w) (c ∷ l) = eqb c b && starts_with w l
+starts_with w l = slices.starts_with nat_eq l w
 
 -- the next byte is e
 unfoldable pub next_is : ℕ → List ℕ → Bool
@@ -62,8 +59,8 @@ unfoldable pub number_form : ℕ → ℕ → ℕ → List ℕ → Got ℕ
 number_form base width e l = then (read_digits base width 0 l) (λ v rest. ended e v rest)
 
 -- "`-` is none, allowed for position and the three limits": it, or a number in hexadecimal
-unfoldable pub optional_form : ℕ → ℕ → List ℕ → Got Optional
-optional_form width e l = cond (next_is dash l) (ended e optional.None (tail l)) (then (number_form 16 width e l) (λ v rest. got (optional.Bits v) rest))
+unfoldable pub optional_form : ℕ → ℕ → List ℕ → Got (Option ℕ)
+optional_form width e l = cond (next_is dash l) (ended e None (tail l)) (then (number_form 16 width e l) (λ v rest. got (Some v) rest))
 
 -- decimal digits as far as they go, read onto v; "at most 2^32 − 1 (else 9)"
 unfoldable pub decimals : ℕ → List ℕ → Got ℕ

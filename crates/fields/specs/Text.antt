@@ -1,8 +1,6 @@
 -- 01, "The sheet": the fields that the writer writes.
-use Rattle.std.specs.Prelude.{ℕ, zero, suc, ◌+◌, ◌/◌, ◌%◌, cond, List, [], ◌∷◌, ◌++◌, ltb}
+use Rattle.std.specs.Prelude.{ℕ, zero, suc, ◌+◌, ◌/◌, ◌%◌, cond, List, [], ◌∷◌, ◌++◌, ltb, None, Option, Some}
 use Rattle.fields.specs.Form.{dash}
-use Rattle.fields.specs.declared.Optional.{Optional}
-use Rattle.fields.specs.declared.Optional.TheVariants as optional
 
 -- the byte of a digit below 16
 unfoldable pub digit_byte : ℕ → ℕ
@@ -19,10 +17,10 @@ abbrev pub number_text : ℕ → ℕ → ℕ → ℕ → List ℕ
 number_text base width e v = digits_of base width v ++ (e ∷ [])
 
 -- "`-` is none", or the number in so many hexadecimal digits; and the byte after it
-unfoldable pub optional_text : ℕ → ℕ → Optional → List ℕ
+unfoldable pub optional_text : ℕ → ℕ → Option ℕ → List ℕ
 unfolding digits_of
-optional_text width e optional.None = dash ∷ e ∷ []
-optional_text width e (optional.Bits v) = number_text 16 width e v
+optional_text width e None = dash ∷ e ∷ []
+optional_text width e (Some v) = number_text 16 width e v
 
 -- how many decimal digits the number v has, if at most `most`
 unfoldable pub places_of : ℕ → ℕ → ℕ

@@ -1,18 +1,20 @@
 -- What the code's answers say, in the terms of the definitions.
-use Rattle.std.specs.Prelude.{ℕ, ◌+◌, ◌<◌, ◌≡◌, Bool, cond, List, leb, length, get_or}
+use Rattle.std.specs.Prelude.{ℕ, ◌+◌, ◌<◌, ◌≡◌, Bool, cond, List, leb, length, None, Option, Some}
+use Rattle.std.specs.Borrow.{Bor}
 use Rattle.std.proofs.lemmas.List.Edits.{sets}
-use Rattle.fields.specs.Form.{digit}
-use Rattle.fields.specs.declared.Optional.{Optional}
-use Rattle.fields.specs.declared.Optional.TheVariants as optional
+use Rattle.fields.specs.Form.{Got, bad, got}
 
--- the digit table's rule: "a 256-entry digit table"
-unfoldable pub DigitTable : List ℕ → Type 0
-DigitTable t = (b : ℕ) → b < 256 → get_or t b 0 ≡ digit b
+-- ---- the reader
+
+-- what stands in front, or that it breaks the form, as a function says it: the value, and a reference to the bytes after it
+abbrev pub told : {A : Type 0} → Option (A × Bor (List ℕ)) → Got A
+told None = bad
+told (Some p) = got p.0 p.1.now
 
 -- an optional number is below n
-abbrev pub Below : ℕ → Optional → Type 0
-Below n optional.None = Unit
-Below n (optional.Bits v) = v < n
+abbrev pub Below : ℕ → Option ℕ → Type 0
+Below n None = Unit
+Below n (Some v) = v < n
 
 -- ---- the writer
 

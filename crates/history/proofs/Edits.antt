@@ -1,9 +1,9 @@
 -- An edit, as the rule and as the contracts have it. Assumes nothing.
+use Rattle.std.specs.Prelude.{None}
 use Prim.Native.Nat.{ℕ, ◌+◌, ◌-◌, ◌%◌, ◌≤◌, ◌<◌, min}
 use mathlib.Core.Path.{◌≡◌, refl, ap, sym, ◌∙◌}
 use mathlib.Core.List.{List, [], ◌∷◌}
 use mathlib.Core.Bool.{Bool, true, false, cond}
-use mathlib.Core.Option.{none}
 use mathlib.Core.Logic.{⊎_elim}
 use native.Mathlib.Nat.{eq-zero-or-pos}
 use native.Mathlib.Omega.{arith}
@@ -33,15 +33,15 @@ ruled_refused : (y : Said (Unit {0})) (old new : Hist) (n : ℕ) → y ≡ refus
 ruled_refused y old new n h = ap (λ (y : Said (Unit {0})). ruled_by y old new) h
 
 module _ (start : AutomationEnvelope) (d : ℕ) (h : Hist) (s : Session) (m : List ℕ) (v : Inv start d h s m) where
-  module _ (x : Entry) (passed : first_failing (in_turn (rule_tests start h (edit x))) ≡ none) where
+  module _ (x : Entry) (passed : first_failing (in_turn (rule_tests start h (edit x))) ≡ None) where
     abbrev told : EditTold
     told = made_by x s.envelope
 
     rule_edit : rule_of start d h (edit x) ≡ edit_ruled d h x s.envelope told
-    rule_edit = rule_by start d h s m v (edit x) none passed ∙ ap (λ (e : AutomationEnvelope). edit_ruled d h x e (made_by x e)) (sym v.envelope)
+    rule_edit = rule_by start d h s m v (edit x) None passed ∙ ap (λ (e : AutomationEnvelope). edit_ruled d h x e (made_by x e)) (sym v.envelope)
 
     calls_edit : call_of (edit x) s m ≡ settled s m told.said told.envelope
-    calls_edit = calls_by start d h s m v (edit x) none passed
+    calls_edit = calls_by start d h s m v (edit x) None passed
 
     refused-edit : (n : ℕ) → told.said ≡ refuses n → CallStep start d h s m (edit x)
     refused-edit n r =

@@ -1,9 +1,9 @@
 -- The history theorem, demand 3: one law over every list of calls from a new session.
+use Rattle.std.specs.Prelude.{None, Option, Result, Some}
 use Prim.Native.Nat.{ℕ}
 use mathlib.Core.Path.{◌≡◌, refl, ap, ap₂, sym, ◌∙◌}
 use mathlib.Core.List.{List, ◌∷◌}
 use mathlib.Core.Bool.{true}
-use mathlib.Core.Option.{Option, none, some}
 use native.Mathlib.Nat.{zero-mod}
 use native.Mathlib.Omega.{arith}
 use lib.ListN.{length, get_or}
@@ -22,7 +22,6 @@ use Rattle.equal.specs.Equal.{bit_equal}
 use Rattle.session.specs.Session.{states_in, opened, open_session, Called, called}
 use Rattle.session.specs.Calls.{Entry, made_by, Call, edit, back, forward, in_turn, Obeys, Ran, done, call}
 use Rattle.session.specs.declared.Session.{Session}
-use Rattle.session.specs.declared.SessionAnswer.{SessionAnswer}
 use Rattle.history.specs.Rule.{Hist, new_hist, made, up_to, Ruled, rule_tests, rule_of, hist_after, answers_after}
 use Rattle.history.specs.After.{typed_call}
 use Rattle.history.specs.Promised.{HistoryFrom, History}
@@ -33,7 +32,7 @@ use Rattle.history.proofs.Played.{runs_of}
 
 -- what a call does
 module _ (start : AutomationEnvelope) (d : ℕ) (h : Hist) (s : Session) (m : List ℕ) (v : Inv start d h s m) where
-  passes : (c : Call) → first_failing (in_turn (rule_tests start h c)) ≡ none → CallStep start d h s m c
+  passes : (c : Call) → first_failing (in_turn (rule_tests start h c)) ≡ None → CallStep start d h s m c
   passes (edit x) p = edit_stepped start d h s m v x p (made_by x s.envelope).said refl (bit_equal s.envelope (made_by x s.envelope).envelope) refl
   passes back p = yes_back start d h s m v p
   passes forward p = yes_forward start d h s m v p
@@ -42,40 +41,40 @@ module _ (start : AutomationEnvelope) (d : ℕ) (h : Hist) (s : Session) (m : Li
   step c = go (first_failing (in_turn (rule_tests start h c))) refl
     where
       go : (o : Option Refusal) → first_failing (in_turn (rule_tests start h c)) ≡ o → CallStep start d h s m c
-      go none e = passes c e
-      go (some r) e = refused_call start d h s m v c r e
+      go None e = passes c e
+      go (Some r) e = refused_call start d h s m v c r e
 
 carry : (start : AutomationEnvelope) (d : ℕ) (h h' : Hist) (s s' : Session) (m m' : List ℕ) → h ≡ h' → s ≡ s' → m ≡ m' → Inv start d h' s' m' → Inv start d h s m
 carry start d h h' s s' m m' p q r v = rw (p, q, r) v
 
 -- one call that obeys its contract takes the rule's history to the rule's next, and says what the rule says
-module _ (start : AutomationEnvelope) (d : ℕ) (h : Hist) (s : Session) (m : List ℕ) (v : Inv start d h s m) (c : Call) (a : SessionAnswer) (m' : List ℕ) (ob : Obeys s m c a m') where
+module _ (start : AutomationEnvelope) (d : ℕ) (h : Hist) (s : Session) (m : List ℕ) (v : Inv start d h s m) (c : Call) (a : Result (Unit {0}) Refusal) (s' : Session) (m' : List ℕ) (ob : Obeys s m c a s' m') where
   abbrev st : CallStep start d h s m c
   st = step start d h s m v c
 
-  as_stepped : called a m' ≡ record { said = st.answer; session = st.session; memory = st.memory }
+  as_stepped : called a s' m' ≡ record { said = st.answer; session = st.session; memory = st.memory }
   as_stepped = ob ∙ st.calls
 
-  next_inv : typed_call c ≡ true → Inv start d (rule_of start d h c).hist a.session m'
+  next_inv : typed_call c ≡ true → Inv start d (rule_of start d h c).hist s' m'
   next_inv t =
-      carry start d (rule_of start d h c).hist st.hist a.session st.session m' st.memory (ap (λ (x : Ruled). x.hist) st.rule)
+      carry start d (rule_of start d h c).hist st.hist s' st.session m' st.memory (ap (λ (x : Ruled). x.hist) st.rule)
       (ap (λ (x : Called). x.session) as_stepped) (ap (λ (x : Called). x.memory) as_stepped) (st.inv t)
 
   next_lent : length m' ≡ length m
   next_lent = ap (λ (x : Called). length x.memory) as_stepped ∙ st.lent
 
-  next_said : said a.answer ≡ (rule_of start d h c).said
+  next_said : said a ≡ (rule_of start d h c).said
   next_said = ap (λ (x : Called). x.said) as_stepped ∙ sym (ap (λ (x : Ruled). x.said) st.rule)
 
 keeps : (start : AutomationEnvelope) (d : ℕ) (h : Hist) {s : Session} {m : List ℕ} {cs : List Call} {answers : List (Said (Unit {0}))} {s'' : Session} {m'' : List ℕ}
     → Ran s m cs answers s'' m'' → every typed_call cs ≡ true → Inv start d h s m
     → Inv start d (hist_after start d h cs) s'' m'' × (answers ≡ answers_after start d h cs) × (length m'' ≡ length m)
-unfolding hist_after answers_after every
+unfolding hist_after answers_after
 keeps start d h done t v = (v, refl, refl)
-keeps start d h (call {s = s} {m = m} {c = c} a {m' = m'} {cs = cs} ob r) t v =
+keeps start d h (call {s = s} {m = m} {c = c} a {s' = s'} {m' = m'} {cs = cs} ob r) t v =
     let k = keeps start d (rule_of start d h c).hist r (and_right (typed_call c) (every typed_call cs) t)
-    (next_inv start d h s m v c a m' ob (and_left (typed_call c) (every typed_call cs) t)) in
-    (k.0, ap₂ (λ (x : Said (Unit {0})) (xs : List (Said (Unit {0}))). x ∷ xs) (next_said start d h s m v c a m' ob) k.1, k.2 ∙ next_lent start d h s m v c a m' ob)
+    (next_inv start d h s m v c a s' m' ob (and_left (typed_call c) (every typed_call cs) t)) in
+    (k.0, ap₂ (λ (x : Said (Unit {0})) (xs : List (Said (Unit {0}))). x ∷ xs) (next_said start d h s m v c a s' m' ob) k.1, k.2 ∙ next_lent start d h s m v c a s' m' ob)
 
 begun : (start : AutomationEnvelope) (m : List ℕ) → typed start ≡ true → valid_envelope start ≡ true → Inv start (states_in (length m)) new_hist (opened start (length m)) m
 unfolding up_to made

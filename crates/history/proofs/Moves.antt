@@ -1,8 +1,8 @@
 -- A step back and a step forward, as the rule and as the contracts have them. Assumes nothing.
+use Rattle.std.specs.Prelude.{None, Some}
 use Prim.Native.Nat.{ℕ, ◌+◌, ◌-◌, ◌*◌, ◌/◌, ◌%◌, ◌≤◌, ◌<◌}
 use mathlib.Core.Path.{◌≡◌, refl, ap, sym, ◌∙◌}
 use mathlib.Core.List.{List}
-use mathlib.Core.Option.{none, some}
 use mathlib.Core.Logic.{⊎_elim}
 use native.Mathlib.Nat.{mod-lt}
 use native.Mathlib.Omega.{arith}
@@ -41,15 +41,15 @@ module _ (start : AutomationEnvelope) (d : ℕ) (h : Hist) (s : Session) (m : Li
     put_stays : (i : ℕ) → (i / state_words ≡ j % d → ⊥) → get_or (stored p (pack s.envelope) m) i 0 ≡ get_or m i 0
     put_stays i n = word_other m p (pack s.envelope) (envelope_words start d h s m v) p_fits i (λ e. n (e ∙ slot))
 
-    reads : (k : ℕ) → k ≤ length h.edits → state_at m (j % d) ≡ pack (up_to start h k) → unpacked (state_at m p) ≡ some (up_to start h k)
+    reads : (k : ℕ) → k ≤ length h.edits → state_at m (j % d) ≡ pack (up_to start h k) → unpacked (state_at m p) ≡ Some (up_to start h k)
     reads k l e =
         ap (λ (n : ℕ). unpacked (state_at m n)) slot ∙ ap unpacked e ∙ unpacked_pack (up_to start h k) (v.in_range k l) (v.valid k l)
 
-    stepped : (k at kept ahead : ℕ) → unpacked (state_at m p) ≡ some (up_to start h k)
+    stepped : (k at kept ahead : ℕ) → unpacked (state_at m p) ≡ Some (up_to start h k)
         → stepped_over s m p at kept ahead ≡ accepted (moved_to s (up_to start h k) at kept ahead) (stored p (pack s.envelope) m)
     stepped k at kept ahead e = ap (exchanged s m p (λ f. moved_to s f at kept ahead)) e
 
-  module _ (passed : first_failing (in_turn (rule_tests start h back)) ≡ none) where
+  module _ (passed : first_failing (in_turn (rule_tests start h back)) ≡ None) where
     q : 0 < h.kept
     q = ltb-true 0 h.kept (stands (rule_tests start h back) passed)
 
@@ -67,7 +67,7 @@ module _ (start : AutomationEnvelope) (d : ℕ) (h : Hist) (s : Session) (m : Li
         let e : h.mark ≡ h.mark - 1 + 1 = omega (arith, q) in
         ap (slot_before d) (v.at_slot pos_b ∙ ap (λ (n : ℕ). n % d) e) ∙ before_slot (h.mark - 1) d pos_b
 
-    read_b : unpacked (state_at m pb) ≡ some (up_to start h (h.mark - 1))
+    read_b : unpacked (state_at m pb) ≡ Some (up_to start h (h.mark - 1))
     read_b = reads (h.mark - 1) pb pos_b slot_b (h.mark - 1) (omega (arith, q)) (v.holds.before (h.mark - 1) (omega (arith, q)) (omega (arith, q)))
 
     abbrev sb : Session
@@ -114,7 +114,7 @@ module _ (start : AutomationEnvelope) (d : ℕ) (h : Hist) (s : Session) (m : Li
 
     calls_b : call_of back s m ≡ accepted sb mb
     calls_b =
-        calls_by start d h s m v back none passed
+        calls_by start d h s m v back None passed
         ∙ rw (states start d h s m v) (stepped (h.mark - 1) pb pos_b slot_b (h.mark - 1) pb (s.kept - 1) (s.ahead + 1) read_b)
 
     pub yes_back : CallStep start d h s m back
@@ -124,14 +124,14 @@ module _ (start : AutomationEnvelope) (d : ℕ) (h : Hist) (s : Session) (m : Li
           hist = hb;
           session = sb;
           memory = mb;
-          rule = rule_by start d h s m v back none passed;
+          rule = rule_by start d h s m v back None passed;
           calls = calls_b;
           inv = λ t. inv_b;
           lent = put_length (h.mark - 1) pb pos_b slot_b;
           stays = λ i out. put_stays (h.mark - 1) pb pos_b slot_b i (out (h.mark - 1) (omega (arith, q)) (omega (arith, q)));
         }
 
-  module _ (passed : first_failing (in_turn (rule_tests start h forward)) ≡ none) where
+  module _ (passed : first_failing (in_turn (rule_tests start h forward)) ≡ None) where
     q' : 0 < s.ahead
     q' = omega (arith, ltb-true h.mark (length h.edits) (stands (rule_tests start h forward) passed))
 
@@ -141,7 +141,7 @@ module _ (start : AutomationEnvelope) (d : ℕ) (h : Hist) (s : Session) (m : Li
     abbrev hf : Hist
     hf = stepped_forward h
 
-    read_f : unpacked (state_at m s.at) ≡ some (up_to start h (h.mark + 1))
+    read_f : unpacked (state_at m s.at) ≡ Some (up_to start h (h.mark + 1))
     read_f =
         reads h.mark s.at pos_f (v.at_slot pos_f) (h.mark + 1) (omega (arith, q')) (v.holds.after h.mark (omega (arith, q')) (omega (arith, q')))
 
@@ -191,7 +191,7 @@ module _ (start : AutomationEnvelope) (d : ℕ) (h : Hist) (s : Session) (m : Li
 
     calls_f : call_of forward s m ≡ accepted sf mf
     calls_f =
-        calls_by start d h s m v forward none passed
+        calls_by start d h s m v forward None passed
         ∙ rw (states start d h s m v) (stepped h.mark s.at pos_f (v.at_slot pos_f) (h.mark + 1) (slot_after d s.at) (s.kept + 1) (s.ahead - 1) read_f)
 
     pub yes_forward : CallStep start d h s m forward
@@ -201,7 +201,7 @@ module _ (start : AutomationEnvelope) (d : ℕ) (h : Hist) (s : Session) (m : Li
           hist = hf;
           session = sf;
           memory = mf;
-          rule = rule_by start d h s m v forward none passed;
+          rule = rule_by start d h s m v forward None passed;
           calls = calls_f;
           inv = λ t. inv_f;
           lent = put_length h.mark s.at pos_f (v.at_slot pos_f);

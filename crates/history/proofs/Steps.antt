@@ -1,9 +1,9 @@
 -- What a session keeps from one call to the next: the rule's history against the session and its memory. Assumes nothing.
+use Rattle.std.specs.Prelude.{None, Option, Some}
 use Prim.Native.Nat.{ℕ, ◌+◌, ◌*◌, ◌%◌, ◌≤◌, ◌<◌}
 use mathlib.Core.Path.{◌≡◌, refl, ap, sym, ◌∙◌}
 use mathlib.Core.List.{List, [], ◌∷◌, ◌++◌}
 use mathlib.Core.Bool.{true, false, ◌&&◌}
-use mathlib.Core.Option.{Option, none, some}
 use mathlib.Core.Logic.{⊎_elim}
 use native.Mathlib.Nat.{mod-lt, eq-zero-or-pos}
 use native.Mathlib.Omega.{arith}
@@ -14,7 +14,6 @@ use Rattle.numbers.proofs.Tests.{and_left, and_right}
 use Rattle.points.specs.Checks.{first_failing, unless_refused}
 use Rattle.points.proofs.CheckLaws.{all_hold}
 use Rattle.points.specs.Refusal.{Said, refuses, number}
-use Rattle.points.specs.Points.{every}
 use Rattle.points.specs.declared.refusal.Refusal.{Refusal}
 use Rattle.envelope.specs.Envelope.{valid_envelope}
 use Rattle.envelope.specs.Typed.{typed}
@@ -128,21 +127,20 @@ module _ (start : AutomationEnvelope) (d : ℕ) (h : Hist) (s : Session) (m : Li
         (ap (λ (t : Tests). first_failing (in_turn t)) (tests_agree c) ∙ e)
 
   -- one that a test refuses
-  pub refused_call : (c : Call) (r : Refusal) → first_failing (in_turn (rule_tests start h c)) ≡ some r → CallStep start d h s m c
+  pub refused_call : (c : Call) (r : Refusal) → first_failing (in_turn (rule_tests start h c)) ≡ Some r → CallStep start d h s m c
   refused_call c r e =
       record {
         answer = refuses (number r);
         hist = h;
         session = s;
         memory = m;
-        rule = rule_by c (some r) e;
-        calls = calls_by c (some r) e;
+        rule = rule_by c (Some r) e;
+        calls = calls_by c (Some r) e;
         inv = λ t. v;
         lent = refl;
         stays = λ i out. refl;
       }
 
 -- where none fails a step stands
-pub stands : (t : Tests) → first_failing (in_turn t) ≡ none → t.step ≡ true
-unfolding every
+pub stands : (t : Tests) → first_failing (in_turn t) ≡ None → t.step ≡ true
 stands t h = and_left t.step _ (and_right t.ticket _ (and_right t.admission.length _ (and_right t.valid _ (all_hold (in_turn t) h))))

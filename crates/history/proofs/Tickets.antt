@@ -1,13 +1,13 @@
 -- 14 by the rule: where the envelope differs by a bit from a ticket's first and 1 doesn't apply, and nowhere else. Assumes nothing.
+use Rattle.std.specs.Prelude.{None, Some}
 use Prim.Native.Nat.{ℕ, ◌<◌}
 use mathlib.Core.Path.{◌≡◌, refl, sym}
 use mathlib.Core.Bool.{Bool, true, false, cond}
-use mathlib.Core.Option.{none, some}
 use native.Mathlib.Omega.{arith}
 use lib.Dec.{ltb}
 use borrow.Author.Tests.{ltb-true}
 use Rattle.points.specs.Checks.{first_failing, unless_refused}
-use Rattle.points.specs.Points.{every, list_of}
+use Rattle.points.specs.Points.{list_of}
 use Rattle.points.proofs.CheckLaws.{never}
 use Rattle.points.specs.Refusal.{Said, refuses, gives, number}
 use Rattle.points.specs.declared.refusal.Refusal.TheVariants.{NotValid, NoStep, OtherEnvelope}
@@ -23,7 +23,7 @@ use Rattle.history.specs.Promised.{FourteenWhereItDiffers, FourteenNowhereElse}
 
 -- an edit's own refusals have 01's numbers
 made_numbers : (x : Entry) (e : AutomationEnvelope) (n : ℕ) → (made_by x e).said ≡ refuses n → n < 14
-unfolding edit_of every
+unfolding edit_of
 made_numbers (alone d) e n h = ltb-true n 14 (outcome_among e (valid_envelope e) (proposal d (list_of e.points)) _ (λ n. ltb n 14) refl n h)
 made_numbers (joined j other) e n h = join_numbers j e other n h
 made_numbers (committed t) e n h = join_numbers (Merge t.offset) e t.second n h
@@ -44,7 +44,7 @@ module _ (start : AutomationEnvelope) (d : ℕ) (h : Hist) where
   module _ (c : Call) where
     -- the rule by its tests, of which 11 always passes
     by_tests : rule_of start d h c
-        ≡ unless_refused (cond (call_valid c) (cond (call_fits c (envelope_of start h)) (cond (stands_in h c) none (some NoStep)) (some OtherEnvelope)) (some NotValid))
+        ≡ unless_refused (cond (call_valid c) (cond (call_fits c (envelope_of start h)) (cond (stands_in h c) None (Some NoStep)) (Some OtherEnvelope)) (Some NotValid))
         (λ r. rule_refuses (number r) h) (ruled start d h c)
     unfolding rule_of first_failing
     by_tests = refl
@@ -53,7 +53,7 @@ module _ (start : AutomationEnvelope) (d : ℕ) (h : Hist) where
     given v f = rw (by_tests, v, f)
 
     only_by : (v f s : Bool)
-        → (unless_refused (cond v (cond f (cond s none (some NoStep)) (some OtherEnvelope)) (some NotValid)) (λ r. rule_refuses (number r) h) (ruled start d h c)).said ≡ refuses 14
+        → (unless_refused (cond v (cond f (cond s None (Some NoStep)) (Some OtherEnvelope)) (Some NotValid)) (λ r. rule_refuses (number r) h) (ruled start d h c)).said ≡ refuses 14
         → (v ≡ true) × (f ≡ false)
     only_by false f s is = let z : ◌≡◌ {A = ℕ} 1 14 = cc in absurd (omega arith)
     only_by true false s is = (refl, refl)

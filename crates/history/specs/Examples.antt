@@ -1,7 +1,6 @@
 -- 01's proved example of the session, two of 02's F-2 and one of F-3.
-use Rattle.std.specs.Float.{round_with}
-use Rattle.std.specs.Prelude.{ℕ, ◌≡◌, refl, List, [], ◌∷◌, replicate}
-use Rattle.std.specs.Float.{binary32, binary64}
+use Rattle.std.specs.Prelude.{ℕ, ◌≡◌, refl, List, [], ◌∷◌, replicate, Some}
+use Rattle.std.specs.Float.{binary32, binary64, round_with}
 use Rattle.std.specs.Float.Ieee.{of_bits, to_bits, of_int, to_unsigned, round, mul, div, le}
 use Rattle.curve.specs.declared.CurveType.TheVariants.{Linear}
 use Rattle.points.specs.Checks.{first_failing}
@@ -10,17 +9,14 @@ use Rattle.points.specs.Point.{point_with}
 use Rattle.insert.specs.Insert.{insert_point}
 use Rattle.numbers.specs.Bounds.{finite}
 use Rattle.numbers.specs.Order.{order_key}
-use Rattle.numbers.specs.Whole.{round_away}
-use Rattle.shape.specs.Shape.{keep_if, firsts}
+use Rattle.shape.specs.Shape.{firsts}
 use Rattle.curve.specs.Curve.{code, controls, curve_of, finite_controls}
-use Rattle.points.specs.Points.{holding, every, every_pair, rising_by, valid_points}
-use Rattle.settle.specs.Settle.{edit_points, settle}
+use Rattle.points.specs.Points.{holding, every_pair, rising_by, valid_points}
 use Rattle.envelope.specs.Envelope.{new}
-use Rattle.envelope.specs.Edit.{with_points, edit_of, edited, points_edited}
+use Rattle.envelope.specs.Edit.{with_points, edit_of}
 use Rattle.envelope.specs.declared.AutomationEnvelope.{AutomationEnvelope}
 use Rattle.envelope.specs.declared.edit.Edit.TheVariants.{OfPoints, SetMin}
 use Rattle.envelope.specs.declared.edit.PointsEdit.TheVariants.{AddPoint, QuantizeTime}
-use Rattle.limits.specs.declared.Limit.TheVariants as limit
 use Rattle.equal.specs.Equal.{bit_equal}
 use Rattle.state.specs.State.{pack_settings, pack_point, pack_points, pack, point_of, points_of, state_of, unpacked}
 use Rattle.session.specs.Session.{open_session, state_at, stored, slot_after, slot_before, in_order}
@@ -37,7 +33,7 @@ quantize grid = edit (alone (OfPoints (QuantizeTime (of_bits binary64 grid))))
 
 -- setting the minimum, by its bits
 abbrev set_min : ℕ → Call
-set_min bits = edit (alone (SetMin (limit.Number (of_bits binary32 bits))))
+set_min bits = edit (alone (SetMin (Some (of_bits binary32 bits))))
 
 -- "P13 D = 1: edit, edit, back, back (10), forward."
 abbrev pub p13_calls : List Call
@@ -70,9 +66,9 @@ answers_of s m [] = []
 answers_of s m (c ∷ cs) = (call_of c s m).said ∷ answers_of (call_of c s m).session (call_of c s m).memory cs
 
 pub p13_functions : answers_of (open_session 3 (replicate 1028 7)) (replicate 1028 7) p13_calls ≡ gives tt ∷ gives tt ∷ gives tt ∷ refuses 10 ∷ gives tt ∷ []
-unfolding answers_of open_session state_at stored slot_after slot_before in_order call_of first_failing bit_equal new edit_of edited points_edited edit_points settle insert_point valid_points every every_pair rising_by finite finite_controls controls code curve_of order_key of_bits to_bits pack_settings pack_point pack_points pack point_of points_of state_of unpacked
+unfolding answers_of open_session state_at stored slot_after slot_before in_order call_of first_failing bit_equal new edit_of insert_point valid_points every_pair rising_by finite finite_controls controls code curve_of order_key of_bits to_bits pack_settings pack_point pack_points pack point_of points_of state_of unpacked
 p13_functions = refl
 
 pub idle_functions : answers_of (open_session 3 (replicate 1028 7)) (replicate 1028 7) idle_calls ≡ gives tt ∷ gives tt ∷ gives tt ∷ gives tt ∷ gives tt ∷ refuses 10 ∷ []
-unfolding answers_of open_session state_at stored slot_after slot_before in_order call_of first_failing bit_equal new edit_of edited points_edited edit_points settle insert_point valid_points every every_pair rising_by finite finite_controls controls code curve_of order_key of_bits to_bits pack_settings pack_point pack_points pack point_of points_of state_of unpacked keep_if firsts round_with round mul div le to_unsigned of_int
+unfolding answers_of open_session state_at stored slot_after slot_before in_order call_of first_failing bit_equal new edit_of insert_point valid_points every_pair rising_by finite finite_controls controls code curve_of order_key of_bits to_bits pack_settings pack_point pack_points pack point_of points_of state_of unpacked firsts round_with round mul div le to_unsigned of_int
 idle_functions = refl

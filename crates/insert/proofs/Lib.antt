@@ -1,2 +1,3 @@
 pub mod Inserting
-pub mod Merging
+pub mod Times
+pub mod Ends

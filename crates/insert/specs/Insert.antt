@@ -1,5 +1,5 @@
 -- The edits that put points in, as 000 has them.
-use Rattle.std.specs.Prelude.{cond, ◌&&◌, ltb, eqb, Float}
+use Rattle.std.specs.Prelude.{cond, ◌&&◌, ltb, eqb, Float, Result}
 use mathlib.Core.List.{List, [], ◌∷◌, map, foldl}
 use Rattle.std.specs.Float.{binary64}
 use Rattle.std.specs.Float.Ieee.{add}
@@ -10,7 +10,7 @@ use Rattle.curve.specs.declared.CurveType.TheVariants.{Linear}
 use Rattle.points.specs.Points.{time_key, list_of, valid_points}
 use Rattle.points.specs.declared.AutomationPoint.{AutomationPoint}
 use Rattle.points.specs.declared.Points.{Points}
-use Rattle.settle.specs.declared.EditedPoints.{EditedPoints}
+use Rattle.points.specs.declared.refusal.Refusal.{Refusal}
 use Rattle.settle.specs.Settle.{plain, judged}
 use Rattle.points.specs.Point.{point_with}
 use Rattle.pointwise.specs.declared.Change.TheVariants.{Shift}
@@ -32,9 +32,9 @@ abbrev pub merged : List AutomationPoint → List AutomationPoint → Float → 
 merged l other offset = insert_all l (map (changed (Shift offset)) other)
 
 -- an edit that makes this list, given the other's points too
-unfoldable pub merged_points : Points → Points → Float → EditedPoints
+unfoldable pub merged_points : Points → Points → Float → Result Points Refusal
 unfolding judged
-merged_points ps other offset = judged ps (valid_points ps && valid_points other) (plain (finite offset) (merged (list_of ps) (list_of other) offset))
+merged_points ps other offset = judged (valid_points ps && valid_points other) (plain (finite offset) (merged (list_of ps) (list_of other) offset))
 
 -- fade_in, fade_out and ramp: from one value at 0 to another at the duration
 abbrev pub ramp_list : Float → Float → Float → CurveType → List AutomationPoint

@@ -1,10 +1,9 @@
--- For the code's own use: what its insertion stands on, and what it gives. `Insert.antt` has what an edit is held to.
-use Rattle.std.specs.Prelude.{◌≤◌, ◌≡◌, true, List, leb, length}
+-- For the code's own use: what its insertion stands on, and where a point goes. `Insert.antt` has what an edit is held to.
+use Rattle.std.specs.Prelude.{ℕ, ◌≡◌, ◌<◌, ◌≤◌, true, List, length, slice_set, insert, Result, MatchResult}
 use Rattle.points.specs.Points.{rising, list_of, holding}
 use Rattle.points.specs.declared.AutomationPoint.{AutomationPoint}
 use Rattle.points.specs.declared.Points.{Points}
-use Rattle.insert.specs.Insert.{insert_all}
-use Rattle.insert.specs.declared.Inserted.{Inserted}
+use Rattle.insert.specs.Insert.{insert_point}
 
 -- points that rise, in their places
 pub record Sorted (ps : Points) : Type 0 where
@@ -12,7 +11,6 @@ pub record Sorted (ps : Points) : Type 0 where
   pub holds : holding (list_of ps) ≡ ps
   pub rises : rising (list_of ps) ≡ true
 
--- what inserting all of m into l gives
-pub record Inserts (l m : List AutomationPoint) (r : Inserted) : Type 0 where
-  pub fits : r.fits ≡ leb (length (insert_all l m)) 256
-  pub made : r.fits ≡ true → r.points ≡ holding (insert_all l m)
+-- p goes to this place: `Ok` where it replaces the point there, `Err` where that and all after it make way
+abbrev pub GoesTo : AutomationPoint → List AutomationPoint → Result ℕ ℕ → Type 0
+GoesTo p l r = MatchResult r (λ i. (i < length l) × (insert_point p l ≡ slice_set l i p)) (λ i. (i ≤ length l) × (insert_point p l ≡ insert l i p))

@@ -1,12 +1,11 @@
 -- The bounds applied twice are the bounds applied once. Assumes nothing.
+use Rattle.std.specs.Prelude.{None, Option, Some}
 use mathlib.Core.Path.{◌≡◌, refl, sym, ap, ◌∙◌}
 use mathlib.Core.Bool.{Bool, true, false, cond, false≢true}
 use lib.Ieee.{Float, lt, is_nan}
 use Rattle.numbers.specs.Bounds.{max_num, min_num}
 use Rattle.numbers.proofs.Compare.{lt_left}
 use Rattle.limits.specs.Limits.{at_least, at_most, bounded}
-use Rattle.limits.specs.declared.Limit.{Limit}
-use Rattle.limits.specs.declared.Limit.TheVariants as limit
 use Rattle.limits.specs.declared.Limits.{Limits}
 
 same : (t b : Bool) (x : Float) → cond t x (cond b x x) ≡ x
@@ -91,11 +90,11 @@ both_twice v low high = go (is_nan (max_num v low)) refl (lt high (max_num v low
     go false t true h = from high (min_above (max_num v low) high t h) (high_stays low high (is_nan high) refl (λ n. absurd (false≢true (sym (lt_left high (max_num v low) h) ∙ n))))
     go false t false h = from (max_num v low) (min_keeps (max_num v low) high t h) (ap (λ (y : Float). min_num y high) (max_twice v low) ∙ min_keeps (max_num v low) high t h)
 
-limits_twice : (low high : Limit) (v : Float) → at_most high (at_least low (at_most high (at_least low v))) ≡ at_most high (at_least low v)
-limits_twice limit.None limit.None v = refl
-limits_twice limit.None (limit.Number h) v = min_twice v h
-limits_twice (limit.Number m) limit.None v = max_twice v m
-limits_twice (limit.Number m) (limit.Number h) v = both_twice v m h
+limits_twice : (low high : Option Float) (v : Float) → at_most high (at_least low (at_most high (at_least low v))) ≡ at_most high (at_least low v)
+limits_twice None None v = refl
+limits_twice None (Some h) v = min_twice v h
+limits_twice (Some m) None v = max_twice v m
+limits_twice (Some m) (Some h) v = both_twice v m h
 
 pub bounded_twice : (l : Limits) (v : Float) → bounded l (bounded l v) ≡ bounded l v
 bounded_twice l v = limits_twice l.min_value l.max_value v

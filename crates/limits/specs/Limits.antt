@@ -1,41 +1,39 @@
 -- 01, "Lookup": the constraints, and 02's F-1.
-use Rattle.std.specs.Prelude.{Bool, true, false, cond, ◌&&◌, Float}
+use Rattle.std.specs.Prelude.{Bool, true, false, cond, ◌&&◌, Float, None, Option, Some}
 use Rattle.std.specs.Float.{binary32}
 use Rattle.std.specs.Float.Ieee.{lt, le, of_bits}
 use Rattle.numbers.specs.Whole.{nearest_multiple}
 use Rattle.numbers.specs.Bounds.{finite, max_num, min_num}
-use Rattle.limits.specs.declared.Limit.{Limit}
-use Rattle.limits.specs.declared.Limit.TheVariants as limit
 use Rattle.limits.specs.declared.Limits.{Limits}
 
 -- a limit is "a number or none": whether there is a number
-abbrev pub has_limit : Limit → Bool
-has_limit limit.None = false
-has_limit (limit.Number x) = true
+abbrev pub has_limit : Option Float → Bool
+has_limit None = false
+has_limit (Some x) = true
 
 -- and a number has to be finite
-abbrev pub finite_limit : Limit → Bool
-finite_limit limit.None = true
-finite_limit (limit.Number x) = finite x
+abbrev pub finite_limit : Option Float → Bool
+finite_limit None = true
+finite_limit (Some x) = finite x
 
 -- "all .. settings are finite"
 abbrev pub finite_limits : Limits → Bool
 finite_limits l = finite_limit l.min_value && finite_limit l.max_value && finite_limit l.step_size
 
 -- "max with the minimum"
-abbrev pub at_least : Limit → Float → Float
-at_least limit.None v = v
-at_least (limit.Number m) v = max_num v m
+abbrev pub at_least : Option Float → Float → Float
+at_least None v = v
+at_least (Some m) v = max_num v m
 
 -- "min with the maximum (so the maximum wins if they cross)"
-abbrev pub at_most : Limit → Float → Float
-at_most limit.None v = v
-at_most (limit.Number m) v = min_num v m
+abbrev pub at_most : Option Float → Float → Float
+at_most None v = v
+at_most (Some m) v = min_num v m
 
 -- "then, for a step above 0, round(value / step) times step"
-abbrev pub to_step : Limit → Float → Float
-to_step limit.None v = v
-to_step (limit.Number s) v = cond (lt (of_bits binary32 0) s) (nearest_multiple binary32 s v) v
+abbrev pub to_step : Option Float → Float → Float
+to_step None v = v
+to_step (Some s) v = cond (lt (of_bits binary32 0) s) (nearest_multiple binary32 s v) v
 
 -- both bounds, each where it is set
 abbrev pub bounded : Limits → Float → Float

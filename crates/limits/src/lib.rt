@@ -5,86 +5,61 @@
 ghost use Rattle.std.specs.Prelude.{◌≡◌};
 ghost use Rattle.limits.specs.Limits.{finite_limit, finite_limits, at_least, at_most, bounded, constrained};
 
-// 000's Option<f32>: a minimum, a maximum or a step.
-#[derive(Clone, Copy)]
-pub enum Limit {
-    None,
-    Number(f32),
-}
-
-#[derive(Clone, Copy)]
+#[derive(Clone, Copy, Debug, PartialEq)]
 pub struct Limits {
-    pub min_value: Limit,
-    pub max_value: Limit,
-    pub step_size: Limit,
+    pub min_value: Option<f32>,
+    pub max_value: Option<f32>,
+    pub step_size: Option<f32>,
     pub hard: bool,
 }
 
-impl Limit {
-    pub fn is_finite(self) -> bool
-        ensures { result ≡ finite_limit self }
-    {
-        match self {
-            Limit::None => true,
-            Limit::Number(x) => x.is_finite(),
-        }
-    }
+// A limit is a number or none, and a number has to be finite.
+pub fn finite_limit(limit: Option<f32>) -> bool
+    ensures { result ≡ finite_limit limit }
+{
+    limit.is_none_or(|x| x.is_finite())
+}
 
-    fn at_least(self, v: f32) -> f32
-        ensures { result ≡ at_least self v }
-    {
-        match self {
-            Limit::None => v,
-            Limit::Number(m) => numbers::order::max(v, m),
-        }
-    }
+// 01 has two rules for the two bounds, by `max` and by `min`.
+fn at_least(limit: Option<f32>, v: f32) -> f32
+    ensures { result ≡ at_least limit v }
+{
+    limit.map_or(v, |m| numbers::order::max(v, m))
+}
 
-    fn at_most(self, v: f32) -> f32
-        ensures { result ≡ at_most self v }
-    {
-        match self {
-            Limit::None => v,
-            Limit::Number(m) => numbers::order::min(v, m),
-        }
-    }
+fn at_most(limit: Option<f32>, v: f32) -> f32
+    ensures { result ≡ at_most limit v }
+{
+    limit.map_or(v, |m| numbers::order::min(v, m))
 }
 
 impl Limits {
     pub fn is_finite(self) -> bool
         ensures { result ≡ finite_limits self }
     {
-        let min = self.min_value;
-        let max = self.max_value;
-        let step = self.step_size;
-        min.is_finite() & max.is_finite() & step.is_finite()
+        finite_limit(self.min_value) & finite_limit(self.max_value) & finite_limit(self.step_size)
     }
 
     // The minimum, then the maximum.
     fn bound(self, v: f32) -> f32
         ensures { result ≡ bounded self v }
     {
-        let min = self.min_value;
-        let max = self.max_value;
-        max.at_most(min.at_least(v))
+        at_most(self.max_value, at_least(self.min_value, v))
     }
 
     // 000's apply_constraints: the bounds, then the step; with hard on, the bounds again, which without a step changes nothing.
+    #[tactic(auto, using(crate::proofs::TwiceLaws::hard_bounded), unfolding(crate::specs::Limits::constrained))]
     pub fn apply_constraints(self, v: f32) -> f32
         ensures { result ≡ constrained self v }
     {
-        let step = self.step_size;
         let hard = self.hard;
         let bounded = self.bound(v);
-        match step {
-            Limit::None => bounded,
-            Limit::Number(s) => {
-                if s > 0.0 {
-                    let stepped = (bounded / s).round() * s;
-                    if hard { self.bound(stepped) } else { stepped }
-                } else {
-                    bounded
-                }
+        match self.step_size {
+            Some(s) if s > 0.0 => {
+                let stepped = (bounded / s).round() * s;
+                if hard { self.bound(stepped) } else { stepped }
             }
+            _ => bounded,
         }
     }
 }

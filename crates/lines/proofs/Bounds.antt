@@ -1,10 +1,9 @@
--- The fields of a settings line that has the form, and their bounds. Assumes nothing.
-use Prim.Native.Nat.{ℕ, ◌^◌}
+-- The fields of a settings line that has the form. Assumes nothing.
+use Prim.Native.Nat.{ℕ}
 use mathlib.Core.Path.{◌≡◌, subst}
 use mathlib.Core.List.{List}
 use Rattle.fields.specs.Form.{got, number_form, optional_form, target_form}
-use Rattle.fields.specs.Told.{Below}
-use Rattle.fields.proofs.Forms.{unthen, optional_lt}
+use Rattle.fields.proofs.Forms.{unthen}
 use Rattle.lines.specs.Lines.{settings_form}
 use Rattle.lines.specs.declared.settings.RawSettings.{RawSettings}
 
@@ -36,8 +35,3 @@ settings_parts l r rest q =
     let end : l6 ≡ rest = cc in
     subst (λ (x : RawSettings). SettingsParts l x rest) same
     (record { l1 = l1; l2 = l2; l3 = l3; l4 = l4; l5 = l5; target = e1; enabled = e2; min = e3; max = e4; step = e5; hard = rw (← end) e6 })))))))
-
-pub settings_below : (l : List ℕ) (r : RawSettings) (rest : List ℕ) → settings_form l ≡ got r rest → Below (2 ^ 32) r.min × (Below (2 ^ 32) r.max × Below (2 ^ 32) r.step)
-settings_below l r rest q =
-    let p = settings_parts l r rest q in
-    (optional_lt 8 32 p.l2 r.min p.l3 p.min, (optional_lt 8 32 p.l3 r.max p.l4 p.max, optional_lt 8 32 p.l4 r.step p.l5 p.step))

@@ -1,30 +1,20 @@
 -- Where the bytes end. Assumes nothing.
-use Prim.Native.Nat.{ℕ, ◌≤◌, ◌<◌}
-use mathlib.Core.Path.{◌≡◌, refl, sym}
-use mathlib.Core.Bool.{Bool, true, false}
-use mathlib.Core.List.{List}
-use borrow.Author.Tests.{leb-true, leb-false}
-use lib.Dec.{leb}
-use lib.ListN.{length, drop, drop_of_length-le}
-use lib.Seq.{drop-cons}
+use Rattle.std.specs.Prelude.{nat_eq}
+use Rattle.std.specs.Cmp.Lexicographic.{pointwise}
+use Prim.Native.Nat.{ℕ}
+use mathlib.Core.Path.{◌≡◌, refl, sym, ap, ◌∙◌}
+use mathlib.Core.Bool.{Bool, ◌&&◌, and_assoc}
+use mathlib.Core.List.{List, [], ◌∷◌}
+use lib.ListN.{length, drop}
+use lib.Dec.{eqb}
+use Rattle.fields.specs.Form.{starts_with}
+use Rattle.fields.proofs.Starts.{turned}
 use Rattle.lines.specs.PointLines.{is_empty}
 
-module _ (s : List ℕ) (at : ℕ) where
-  pub empty_in : at < length s → is_empty (drop at s) ≡ false
-  unfolding is_empty
-  empty_in h = rw (drop-cons s at 0 h)
-
-  pub empty_out : length s ≤ at → is_empty (drop at s) ≡ true
-  unfolding is_empty
-  empty_out h = rw (drop_of_length-le s h)
-
-  pub empty_leb : leb (length s) at ≡ is_empty (drop at s)
-  empty_leb = go (leb (length s) at) refl
-    where
-      go : (t : Bool) → leb (length s) at ≡ t → t ≡ is_empty (drop at s)
-      go true e = sym (empty_out (leb-true _ _ e))
-      go false e = sym (empty_in (leb-false _ _ e))
-
--- ---- the place in a call's answer, as far as the call ensures it
-pub reached : {A : Type 0} (f : A → ℕ) {r q : A} {n : ℕ} → f r ≤ n → r ≡ q → f q ≤ n
-reached f h e = rw e at h
+-- all of the bytes are those of a text
+pub whole : (w l : List ℕ) → pointwise nat_eq l w ≡ (starts_with w l && is_empty (drop (length w) l))
+unfolding starts_with is_empty
+whole [] [] = refl
+whole [] (x ∷ l) = refl
+whole (b ∷ w) [] = refl
+whole (b ∷ w) (x ∷ l) = rw (turned b x) (ap (λ (t : Bool). eqb x b && t) (whole w l) ∙ sym (and_assoc (eqb x b) (starts_with w l) (is_empty (drop (length w) l))))

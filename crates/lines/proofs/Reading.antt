@@ -1,61 +1,46 @@
 -- The loop over the point lines: what holds before each line, and what it comes to. Assumes nothing.
+use Rattle.std.specs.Prelude.{Some, None, slice_get}
 use Prim.Native.Nat.{ℕ, zero, suc, ◌+◌, ◌-◌, ◌≤◌, ◌<◌}
-use mathlib.Core.Path.{◌≡◌, refl, sym, ap, ◌∙◌}
+use mathlib.Core.Path.{◌≡◌, refl, sym, ap, subst, ◌∙◌}
 use mathlib.Core.Bool.{Bool, true, false, cond, ◌&&◌, ◌||◌, and-true}
 use mathlib.Core.List.{List, [], ◌∷◌, ◌++◌}
-use native.Mathlib.Numerals.{add-one}
 use native.Mathlib.Omega.{arith}
-use borrow.Author.Tests.{lt-ltb, le-ltb, leb-true, leb-false}
-use lib.Dec.{ltb, leb}
-use lib.ListN.{length, drop, take, set, replicate, length-set, length-replicate, take-append-drop}
-use lib.Seq.{drop-drop, length-take-le, take-suc-set, drop-set-lt}
+use borrow.Author.Tests.{lt-ltb}
+use lib.ListN.{length, length-append}
+use lib.Dec.{ltb}
+use Rattle.std.proofs.lemmas.Option.{none-some, same_Some}
 use Rattle.numbers.proofs.Tests.{and_left, and_right}
-use Rattle.points.specs.Point.{unused}
-use Rattle.points.specs.Points.{holding, time_key, rising, rising_by}
+use Rattle.points.specs.Points.{list_of, holding, with_more, rising, rising_by, time_key}
+use Rattle.points.proofs.ValidLaws.{list_of_holding, pushed}
 use Rattle.points.specs.declared.AutomationPoint.{AutomationPoint}
 use Rattle.points.specs.declared.Points.{Points}
-use Rattle.lines.specs.Lines.{refused, line, point_line}
+use Rattle.lines.specs.Lines.{Line, refused, line, point_line}
 use Rattle.lines.specs.PointLines.{Lines, stop, lines, onward, is_empty, points_end, cut_short, point_lines}
 
--- ---- one more point
+-- ---- one more point: the first one, and one after another
 
--- the key of the last one, k where there is none
-unfoldable pub last_key : ℕ → List AutomationPoint → ℕ
-last_key k [] = k
-last_key k (p ∷ ps) = last_key (time_key p) ps
+before : (n : ℕ) → suc n - 1 ≡ n
+before n = omega arith
 
-pub last-key : (k : ℕ) (ps : List AutomationPoint) (p : AutomationPoint) → last_key k (ps ++ (p ∷ [])) ≡ time_key p
-unfolding last_key
-last-key k [] p = refl
-last-key k (q ∷ ps) p = last-key (time_key q) ps p
+pub rise_first : (ps : List AutomationPoint) (p : AutomationPoint) → slice_get ps (length ps - 1) ≡ None → rising (ps ++ (p ∷ [])) ≡ true
+unfolding rising_by
+rise_first [] p e = refl
+rise_first (q ∷ ps) p e = absurd (within q ps (rw before at e))
+  where
+    within : (q : AutomationPoint) (l : List AutomationPoint) → slice_get (q ∷ l) (length l) ≡ None → ⊥
+    within q [] e = none-some q (sym e)
+    within q (x ∷ l) e = within x l e
 
-pub rising_snoc : (q : AutomationPoint) (ps : List AutomationPoint) (p : AutomationPoint) → rising (q ∷ ps) ≡ true
-    → rising (q ∷ (ps ++ (p ∷ []))) ≡ ltb (last_key (time_key q) ps) (time_key p)
-unfolding rising_by last_key
-rising_snoc q [] p h = and-true (ltb (time_key q) (time_key p))
-rising_snoc q (r ∷ ps) p h =
-    ap (λ (t : Bool). t && rising (r ∷ (ps ++ (p ∷ [])))) (and_left (ltb (time_key q) (time_key r)) _ h)
-    ∙ rising_snoc r ps p (and_right (ltb (time_key q) (time_key r)) _ h)
-
--- the code's test
-module _ (ps : List AutomationPoint) (p : AutomationPoint) (last : ℕ) (l : last ≡ last_key 0 ps) (h : rising ps ≡ true) where
-  pub later : (ltb 0 (length ps) && leb (time_key p) last) ≡ false → rising (ps ++ (p ∷ [])) ≡ true
-  unfolding rising_by last_key
-  later e = go ps h l e
-    where
-      go : (ps : List AutomationPoint) → rising ps ≡ true → last ≡ last_key 0 ps → (ltb 0 (length ps) && leb (time_key p) last) ≡ false → rising (ps ++ (p ∷ [])) ≡ true
-      go [] h l e = refl
-      go (q ∷ ps) h l e =
-          let t : leb (time_key p) last ≡ false = ap (λ (b : Bool). b && leb (time_key p) last) (sym (lt-ltb 0 (suc (length ps)) (omega arith))) ∙ e in
-          rising_snoc q ps p h ∙ lt-ltb (last_key (time_key q) ps) (time_key p) (omega (arith, leb-false (time_key p) last t))
-
-  pub earlier : (ltb 0 (length ps) && leb (time_key p) last) ≡ true → rising (ps ++ (p ∷ [])) ≡ false
-  unfolding rising_by last_key
-  earlier e = go ps h l e
-    where
-      go : (ps : List AutomationPoint) → rising ps ≡ true → last ≡ last_key 0 ps → (ltb 0 (length ps) && leb (time_key p) last) ≡ true → rising (ps ++ (p ∷ [])) ≡ false
-      go [] h l e = let z : ◌≡◌ {A = ℕ} 0 1 = cc in absurd (omega arith)
-      go (q ∷ ps) h l e = rising_snoc q ps p h ∙ le-ltb (last_key (time_key q) ps) (time_key p) (omega (arith, leb-true (time_key p) last (and_right (ltb 0 (suc (length ps))) _ e)))
+pub rise_next : (ps : List AutomationPoint) (p q : AutomationPoint) → rising ps ≡ true → slice_get ps (length ps - 1) ≡ Some q → rising (ps ++ (p ∷ [])) ≡ ltb (time_key q) (time_key p)
+unfolding rising_by
+rise_next [] p q r e = absurd (none-some q e)
+rise_next (x ∷ ps) p q r e = up x ps r (rw before at e)
+  where
+    up : (x : AutomationPoint) (ps : List AutomationPoint) → rising (x ∷ ps) ≡ true → slice_get (x ∷ ps) (length ps) ≡ Some q → rising (x ∷ (ps ++ (p ∷ []))) ≡ ltb (time_key q) (time_key p)
+    up x [] r e = let k : x ≡ q = same_Some x q e in rw k (and-true (ltb (time_key q) (time_key p)))
+    up x (y ∷ ps) r e =
+        let s = ltb (time_key x) (time_key y) in
+        ap (λ (t : Bool). t && rising (y ∷ (ps ++ (p ∷ [])))) (and_left s _ r) ∙ up y ps (and_right s _ r) e
 
 -- ---- the definition, opened
 
@@ -81,87 +66,68 @@ module _ (program : Bool) (before : List AutomationPoint) (l : List ℕ) where
 
 -- ---- the loop
 
-pub record Reading (program : Bool) (l₀ s : List ℕ) (ps : List AutomationPoint) (count at last : ℕ) : Type 0 where
-  pub few : count ≤ 256
-  pub long : length ps ≡ 256
-  pub last_is : last ≡ last_key 0 (take count ps)
-  pub rises : rising (take count ps) ≡ true
-  pub rest : drop count ps ≡ replicate (256 - count) unused
-  pub same : point_lines program 256 [] l₀ ≡ point_lines program (256 - count) (take count ps) (drop at s)
+pub record Reading (program : Bool) (l rest : List ℕ) (ps : Points) : Type 0 where
+  pub few : ps.count ≤ 256
+  pub holds : holding (list_of ps) ≡ ps
+  pub rises : rising (list_of ps) ≡ true
+  pub same : point_lines program 256 [] l ≡ point_lines program (256 - ps.count) (list_of ps) rest
 
-pub begun : (program : Bool) (s : List ℕ) (start : ℕ) (none : AutomationPoint) → none ≡ unused → Reading program (drop start s) s (replicate 256 none) 0 start 0
-unfolding last_key rising_by
-begun program s start none e = record {
-  few = omega arith;
-  long = length-replicate 256 none;
-  last_is = refl;
-  rises = refl;
-  rest = ap (λ (p : AutomationPoint). replicate 256 p) e;
-  same = refl;
-}
+pub begun : (program : Bool) (l : List ℕ) (ps : Points) → ps ≡ holding [] → Reading program l l ps
+unfolding rising_by
+begun program l ps e = subst (λ (x : Points). Reading program l l x) (sym e) (record { few = omega arith; holds = refl; rises = refl; same = refl })
 
-made : ℕ → List AutomationPoint → Points
-made n l = record { count = n; places = l }
+module _ {program : Bool} {l rest : List ℕ} {ps : Points} (r : Reading program l rest ps) where
+  taken : length (list_of ps) ≡ ps.count
+  taken = ap (λ (x : Points). x.count) r.holds
 
-module _ {program : Bool} {l₀ s : List ℕ} {ps : List AutomationPoint} {count at last : ℕ} (r : Reading program l₀ s ps count at last) where
-  pub taken : length (take count ps) ≡ count
-  taken = length-take-le count ps (omega (arith, r.few, r.long))
+  pub ended : points_end program rest ≡ true → lines ps rest ≡ point_lines program 256 [] l
+  ended h = sym (r.same ∙ lines_end program (list_of ps) rest (256 - ps.count) h ∙ ap (λ (e : Points). lines e rest) r.holds)
 
-  whole : holding (take count ps) ≡ record { count = count; places = ps }
-  unfolding made
-  whole =
-      let e : take count ps ++ replicate (256 - length (take count ps)) unused ≡ ps =
-      ap (λ (n : ℕ). take count ps ++ replicate (256 - n) unused) taken ∙ ap (λ (l : List AutomationPoint). take count ps ++ l) (sym r.rest) ∙ take-append-drop count ps in
-      ap (λ (n : ℕ). made n (take count ps ++ replicate (256 - length (take count ps)) unused)) taken ∙ ap (λ (l : List AutomationPoint). made count l) e
-
-  pub ended : points_end program (drop at s) ≡ true → lines (record { count = count; places = ps }) (drop at s) ≡ point_lines program 256 [] l₀
-  ended h = sym (r.same ∙ lines_end program (take count ps) (drop at s) (256 - count) h ∙ ap (λ (e : Points). lines e (drop at s)) whole)
-
-  module _ (h : points_end program (drop at s) ≡ false) where
-    pub full : (n : ℕ) → n ≡ cond (is_empty (drop at s) || cut_short program (drop at s)) 9 5 → count ≡ 256 → stop n (count + 4) ≡ point_lines program 256 [] l₀
+  module _ (h : points_end program rest ≡ false) where
+    pub full : (n : ℕ) → n ≡ cond (is_empty rest || cut_short program rest) 9 5 → ps.count ≡ 256 → stop n (ps.count + 4) ≡ point_lines program 256 [] l
     full n k e =
-        let z : 256 - count ≡ 0 = omega arith in
-        sym (r.same ∙ ap (λ (m : ℕ). point_lines program m (take count ps) (drop at s)) z ∙ lines_full program (take count ps) (drop at s) h ∙ rw (← k, taken))
+        let z : 256 - ps.count ≡ 0 = omega arith in
+        sym (r.same ∙ ap (λ (m : ℕ). point_lines program m (list_of ps) rest) z ∙ lines_full program (list_of ps) rest h ∙ rw (← k, taken))
 
-    module _ (less : count < 256) where
-      opened : point_lines program 256 [] l₀
-          ≡ onward (count + 4) (point_line (drop at s))
-          (λ p rest. cond (rising (take count ps ++ (p ∷ []))) (point_lines program (256 - (count + 1)) (take count ps ++ (p ∷ [])) rest) (stop 6 (count + 4)))
+    module _ (less : ps.count < 256) where
+      opened : point_lines program 256 [] l
+          ≡ onward (ps.count + 4) (point_line rest)
+          (λ p after. cond (rising (list_of ps ++ (p ∷ []))) (point_lines program (256 - (ps.count + 1)) (list_of ps ++ (p ∷ [])) after) (stop 6 (ps.count + 4)))
       opened =
-          let z : 256 - count ≡ suc (256 - (count + 1)) = omega arith in
+          let z : 256 - ps.count ≡ suc (256 - (ps.count + 1)) = omega arith in
           r.same
-          ∙ ap (λ (k : ℕ). point_lines program k (take count ps) (drop at s)) z
-          ∙ lines_next program (take count ps) (drop at s) (256 - (count + 1)) h
+          ∙ ap (λ (k : ℕ). point_lines program k (list_of ps) rest) z
+          ∙ lines_next program (list_of ps) rest (256 - (ps.count + 1)) h
           ∙ ap
-          (λ (k : ℕ). onward (k + 4) (point_line (drop at s))
-          (λ p rest. cond (rising (take count ps ++ (p ∷ []))) (point_lines program (256 - (count + 1)) (take count ps ++ (p ∷ [])) rest) (stop 6 (k + 4)))) taken
+          (λ (k : ℕ). onward (k + 4) (point_line rest)
+          (λ p after. cond (rising (list_of ps ++ (p ∷ []))) (point_lines program (256 - (ps.count + 1)) (list_of ps ++ (p ∷ [])) after) (stop 6 (k + 4)))) taken
 
-      pub refuses : (n : ℕ) → point_line (drop at s) ≡ refused n → stop n (count + 4) ≡ point_lines program 256 [] l₀
+      pub refuses : (n : ℕ) → point_line rest ≡ refused n → stop n (ps.count + 4) ≡ point_lines program 256 [] l
       refuses n e = sym (opened ∙ rw e)
 
-      module _ (p : AutomationPoint) (next : ℕ) (e : point_line (drop at s) ≡ line p (drop next s)) where
-        pub falls : (ltb 0 count && leb (time_key p) last) ≡ true → stop 6 (count + 4) ≡ point_lines program 256 [] l₀
-        falls f = sym (opened ∙ rw (e, earlier (take count ps) p last r.last_is r.rises (ap (λ (k : ℕ). ltb 0 k && leb (time_key p) last) taken ∙ f)))
+      module _ (p : AutomationPoint) (after : List ℕ) (e : point_line rest ≡ line p after) where
+        pub falls : rising (list_of ps ++ (p ∷ [])) ≡ false → stop 6 (ps.count + 4) ≡ point_lines program 256 [] l
+        falls f = sym (opened ∙ rw (e, f))
 
-        remain : drop (count + 1) ps ≡ replicate (256 - (count + 1)) unused
-        remain =
-            let z : 256 - count ≡ suc (256 - (count + 1)) = omega arith in
-            sym (drop-drop 1 count ps) ∙ ap (λ (l : List AutomationPoint). drop 1 l) (r.rest ∙ ap (λ (k : ℕ). replicate k unused) z)
+        pub goes_on : rising (list_of ps ++ (p ∷ [])) ≡ true → (more : Points) → more ≡ with_more ps p → Reading program l after more
+        goes_on f more q =
+            let m = list_of ps ++ (p ∷ []) in
+            let n : length m ≡ ps.count + 1 = omega (arith, length-append (list_of ps) (p ∷ []), taken) in
+            let is : more ≡ holding m = q ∙ rw (lt-ltb ps.count 256 less) (pushed ps (list_of ps) p (omega (arith, taken)) (sym r.holds)) in
+            let has : list_of (holding m) ≡ m = list_of_holding m in
+            subst (λ (x : Points). Reading program l after x) (sym is)
+            (record {
+              few = omega (arith, n);
+              holds = ap holding has;
+              rises = ap (λ (l : List AutomationPoint). rising l) has ∙ f;
+              same = opened ∙ rw (e, f, has, n);
+            })
 
-        pub goes_on : (key : ℕ) → key ≡ time_key p → (ltb 0 count && leb (time_key p) last) ≡ false → Reading program l₀ s (set ps count p) (count + 1) next key
-        goes_on key k f =
-            let t : take (count + 1) (set ps count p) ≡ take count ps ++ (p ∷ []) = rw (add-one count) (take-suc-set ps count p (omega (arith, r.long))) in
-            let d : drop (count + 1) (set ps count p) ≡ drop (count + 1) ps = drop-set-lt (count + 1) ps count p (omega arith) in
-            let u : rising (take count ps ++ (p ∷ [])) ≡ true = later (take count ps) p last r.last_is r.rises (ap (λ (k : ℕ). ltb 0 k && leb (time_key p) last) taken ∙ f) in
-            record {
-              few = omega arith;
-              long = length-set ps count p ∙ r.long;
-              last_is = k ∙ sym (ap (λ (l : List AutomationPoint). last_key 0 l) t ∙ last-key 0 (take count ps) p);
-              rises = ap (λ (l : List AutomationPoint). rising l) t ∙ u;
-              rest = d ∙ remain;
-              same = opened ∙ rw (e, u, t);
-            }
+-- each turn leaves fewer places
+pub fewer : (ps : Points) (p : AutomationPoint) (more : Points) → more ≡ with_more ps p → ps.count < 256 → 256 - more.count < 256 - ps.count
+fewer ps p more q h = let n : more.count ≡ ps.count + 1 = ap (λ (x : Points). x.count) q ∙ rw (lt-ltb ps.count 256 h) in omega (arith, n)
 
--- a line is refused or read
-pub no_line : {A C : Type 0} {n : ℕ} {a : A} {rest : List ℕ} → refused n ≡ line a rest → C
-no_line e = let z : ◌≡◌ {A = ℕ} 0 1 = cc in absurd (omega arith)
+-- what a line said, by what it is with its number
+pub was_line : {A : Type 0} (k : ℕ) (l : Line A) (a : A) (m : List ℕ) → lines a m ≡ onward k l lines → l ≡ line a m
+was_line k (refused n) a m e = cc
+was_line k (line b r) a m e = cc

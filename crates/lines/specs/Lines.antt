@@ -1,19 +1,13 @@
 -- 01, "The sheet": the settings line, a point's line and the line of rate and duration. Each has a form and a meaning.
 -- "Sheet: .. 9, then fields left to right for 3 and 2": the form of the whole line, its 0A included, comes before what its numbers mean.
-use Rattle.std.specs.Prelude.{ℕ, Bool, true, false, cond, List, drop, eqb}
+use Rattle.std.specs.Prelude.{ℕ, Bool, true, false, cond, List, drop, eqb, None, Option, Some, Float}
 use Rattle.std.specs.Float.{binary32, binary64}
 use Rattle.std.specs.Float.Ieee.{of_bits}
 use Rattle.numbers.specs.Bounds.{finite}
 use Rattle.curve.specs.Curve.{curve_of, known}
 use Rattle.points.specs.Refusal.{Said, refuses, gives}
 use Rattle.points.specs.declared.AutomationPoint.{AutomationPoint}
-use Rattle.points.specs.declared.SamplePosition.{SamplePosition}
-use Rattle.points.specs.declared.SamplePosition.TheVariants as position
-use Rattle.limits.specs.declared.Limit.{Limit}
-use Rattle.limits.specs.declared.Limit.TheVariants as limit
 use Rattle.fields.specs.Form.{Got, bad, got, then, space, newline, text, starts_with, number_form, optional_form, target_form}
-use Rattle.fields.specs.declared.Optional.{Optional}
-use Rattle.fields.specs.declared.Optional.TheVariants as optional
 use Rattle.lines.specs.declared.settings.RawSettings.{RawSettings}
 use Rattle.lines.specs.declared.settings.Settings.{Settings}
 use Rattle.lines.specs.declared.point.RawPoint.{RawPoint}
@@ -54,14 +48,14 @@ settings_form l =
     got (record { target = target; enabled = enabled; min = min; max = max; step = step; hard = hard }) l6))))))
 
 -- an f32 from its bits, or none
-unfoldable pub limit_of : Optional → Limit
-limit_of optional.None = limit.None
-limit_of (optional.Bits b) = limit.Number (of_bits binary32 b)
+unfoldable pub limit_of : Option ℕ → Option Float
+limit_of None = None
+limit_of (Some b) = Some (of_bits binary32 b)
 
 -- none, or the bits of a finite f32
-unfoldable pub finite_bits : Optional → Bool
-finite_bits optional.None = true
-finite_bits (optional.Bits b) = finite (of_bits binary32 b)
+unfoldable pub finite_bits : Option ℕ → Bool
+finite_bits None = true
+finite_bits (Some b) = finite (of_bits binary32 b)
 
 -- 3 for the minimum, the maximum and the step, from the left
 unfoldable pub settings_meaning : RawSettings → Said Settings
@@ -98,11 +92,6 @@ point_form l =
     then (controls_form curve l4) (λ controls l5.
     got (record { time = time; position = position; value = value; curve = curve; cp1 = controls.0; cp2 = controls.1 }) l5)))))
 
--- a sample position, or none
-unfoldable pub position_of : Optional → SamplePosition
-position_of optional.None = position.None
-position_of (optional.Bits n) = position.At n
-
 -- 3 for time, value and controls, 2 for the curve, from the left. A plain curve's controls are 0.0.
 unfoldable pub point_meaning : RawPoint → Said AutomationPoint
 point_meaning r =
@@ -115,7 +104,7 @@ point_meaning r =
     (check (known r.curve) 2
     (check (finite cp1) 3
     (check (finite cp2) 3
-    (gives (record { time = time; sample_position = position_of r.position; value = value; curve = curve_of r.curve cp1 cp2 }))))))
+    (gives (record { time = time; sample_position = r.position; value = value; curve = curve_of r.curve cp1 cp2 }))))))
 
 -- a point's line: 9 for its form, then 3 and 2
 unfoldable pub point_line : List ℕ → Line AutomationPoint

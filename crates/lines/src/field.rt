@@ -1,148 +1,124 @@
-// The fields of a line. In each answer stands the place after the field and the byte that ends it.
-ghost use Rattle.std.specs.Prelude.{◌≡◌, ◌^◌, ◌<◌, ◌≤◌, length, drop};
-ghost use Rattle.fields.specs.Form.{number_form, optional_form, decimals, next_digit, target_form};
-ghost use Rattle.fields.specs.Told.{DigitTable};
-ghost use Rattle.lines.specs.Told.{told_number, told_single, told_optional, number_end, single_end, optional_end};
+// The fields of a line.
+ghost use Rattle.std.specs.Prelude.{◌≡◌, ◌^◌, ◌<◌, ◌≤◌, IfSome};
+ghost use Rattle.std.specs.Float.{binary32, binary64};
+ghost use Rattle.std.specs.Float.Ieee.{of_bits};
+ghost use Rattle.numbers.specs.Bounds.{finite};
+ghost use Rattle.points.specs.Refusal.{said, gives};
+ghost use Rattle.fields.specs.Form.{ended, read_digits, number_form, optional_form, decimals, target_form};
+ghost use Rattle.fields.specs.Told.{told, Below};
+ghost use Rattle.lines.specs.Lines.{check};
 
-use fields::Optional;
+use points::refusal::Refusal;
+use std::num::{f32_from_bits_with_nan, f64_from_bits_with_nan};
 
-#[derive(Clone, Copy)]
-pub enum Number {
-    Bad,
-    Is(u64, usize),
+// The byte `end`, after a field with this value.
+#[tactic(auto, unfolding(fields::specs::Form::next_is))]
+fn ended<T: Copy>(value: T, s: &[u8], end: u8) -> Option<(T, &[u8])>
+    ensures { told result ≡ ended end value s.now }
+{
+    match s {
+        [b, rest @ ..] if *b == end => Some((value, rest)),
+        _ => None,
+    }
 }
 
-#[derive(Clone, Copy)]
-pub enum Single {
-    Bad,
-    Is(u32, usize),
-}
-
-#[derive(Clone, Copy)]
-pub enum OptionalAt {
-    Bad,
-    Is(Optional, usize),
+// `width` digits of a base. A plain `for`, since a byte that is no digit ends it at once.
+#[tactic(auto, using(fields::proofs::ReadDigits::part_laws))]
+fn digits(s: &[u8], base: u64, width: usize) -> Option<(u64, &[u8])>
+    requires { base ^ width ≤ 2 ^ 64 }
+    ensures value { told result ≡ read_digits base width 0 s.now }
+    ensures fits { IfSome result (λ p. p.0 < base ^ width) }
+{
+    let (front, rest) = s.split_at_checked(width)?;
+    let mut v = 0;
+    for b in front {
+        let d = fields::digits::value(*b);
+        if base <= d {
+            return None;
+        }
+        v = v * base + d;
+    }
+    Some((v, rest))
 }
 
 // A number of a fixed width, and the byte `end` after it.
-pub(crate) fn number_at(
-    t: &[u8; 256],
-    s: &[u8],
-    at: usize,
-    base: u64,
-    width: usize,
-    end: u8,
-) -> Number
-    requires digits { DigitTable t.now }
-    requires width_fits { (0 < width) × (base ^ width ≤ 2 ^ 64) }
-    ensures answer { told_number s.now result ≡ number_form base width end (drop at s.now) }
-    ensures within { number_end result ≤ length s.now }
+#[tactic(auto, using(fields::proofs::Forms::ended_lt), unfolding(fields::specs::Form::number_form))]
+pub(crate) fn number(s: &[u8], base: u64, width: usize, end: u8) -> Option<(u64, &[u8])>
+    requires { base ^ width ≤ 2 ^ 64 }
+    ensures value { told result ≡ number_form base width end s.now }
+    ensures fits { IfSome result (λ p. p.0 < base ^ width) }
 {
-    let Number::Is(v, next) = crate::digits::digits_at(t, s, at, base, width) else {
-        return Number::Bad;
-    };
-    if fields::bytes::next_is(s, next, end) {
-        Number::Is(v, next + 1)
-    } else {
-        Number::Bad
-    }
-}
-
-// The same, of 32 bits.
-pub(crate) fn single_at(
-    t: &[u8; 256],
-    s: &[u8],
-    at: usize,
-    base: u64,
-    width: usize,
-    end: u8,
-) -> Single
-    requires digits { DigitTable t.now }
-    requires width_fits { (0 < width) × (base ^ width ≤ 2 ^ 32) }
-    ensures answer { told_single s.now result ≡ number_form base width end (drop at s.now) }
-    ensures within { single_end result ≤ length s.now }
-{
-    match number_at(t, s, at, base, width, end) {
-        Number::Is(v, next) => Single::Is(v as u32, next),
-        Number::Bad => Single::Bad,
-    }
+    let (v, s) = digits(s, base, width)?;
+    ended(v, s, end)
 }
 
 // A number in hexadecimal, or '-' for none.
-pub(crate) fn optional_at(t: &[u8; 256], s: &[u8], at: usize, width: usize, end: u8) -> OptionalAt
-    requires digits { DigitTable t.now }
-    requires width_fits { (0 < width) × (width ≤ 16) }
-    ensures answer { told_optional s.now result ≡ optional_form width end (drop at s.now) }
-    ensures within { optional_end result ≤ length s.now }
+#[tactic(auto, unfolding(fields::specs::Form::optional_form, fields::specs::Form::next_is))]
+pub(crate) fn optional(s: &[u8], width: usize, end: u8) -> Option<(Option<u64>, &[u8])>
+    requires { 16 ^ width ≤ 2 ^ 64 }
+    ensures value { told result ≡ optional_form width end s.now }
+    ensures fits { IfSome result (λ p. Below (16 ^ width) p.0) }
 {
-    if fields::bytes::next_is(s, at, b'-') {
-        let next = at + 1;
-        if fields::bytes::next_is(s, next, end) {
-            return OptionalAt::Is(Optional::None, next + 1);
-        }
-        return OptionalAt::Bad;
+    if let [b'-', rest @ ..] = s {
+        return ended(None, rest, end);
     }
-    match number_at(t, s, at, 16, width, end) {
-        Number::Is(v, next) => OptionalAt::Is(Optional::Bits(v), next),
-        Number::Bad => OptionalAt::Bad,
-    }
+    let (v, s) = number(s, 16, width, end)?;
+    Some((Some(v), s))
 }
 
-// The digit at the place, 16 for none.
-fn next_digit(t: &[u8; 256], s: &[u8], at: usize) -> u64
-    requires { DigitTable t.now }
-    ensures { result ≡ next_digit (drop at s.now) }
+// Decimal digits, as far as they go. A `while let`: the bytes after the last digit are given back.
+#[tactic(auto, using(fields::proofs::Decimal::next_laws))]
+fn decimals(s: &[u8]) -> Option<(u32, &[u8])>
+    ensures { told result ≡ decimals 0 s.now }
 {
-    if at < s.len() {
-        crate::digits::digit_of(t, s[at])
-    } else {
-        16
-    }
-}
-
-// Decimal digits from the place on, as far as they go.
-fn decimals_at(t: &[u8; 256], s: &[u8], start: usize) -> Number
-    requires { DigitTable t.now }
-    ensures { told_number s.now result ≡ decimals 0 (drop start s.now) }
-{
-    let mut v: u64 = 0;
-    let mut at = start;
-    while at < s.len() {
-        let d = crate::digits::digit_of(t, s[at]);
+    let mut v: u32 = 0;
+    let mut rest = s;
+    while let [b, after @ ..] = rest {
+        let d = fields::digits::value(*b);
         if 10 <= d {
             break;
         }
-        let u = v * 10 + d;
-        if 0x1_0000_0000 <= u {
-            return Number::Bad;
-        }
-        v = u;
-        at += 1;
+        v = v.checked_mul(10)?.checked_add(d as u32)?;
+        rest = after;
     }
-    Number::Is(v, at)
+    Some((v, rest))
 }
 
 // The target, and the space after it.
-pub(crate) fn target_at(t: &[u8; 256], s: &[u8], at: usize) -> Single
-    requires { DigitTable t.now }
-    ensures { told_single s.now result ≡ target_form (drop at s.now) }
+#[tactic(auto, unfolding(fields::specs::Form::target_form, fields::specs::Form::next_digit))]
+pub(crate) fn target(s: &[u8]) -> Option<(u32, &[u8])>
+    ensures { told result ≡ target_form s.now }
 {
-    let d = next_digit(t, s, at);
-    if d == 0 {
-        if fields::bytes::next_is(s, at + 1, b' ') {
-            return Single::Is(0, at + 2);
+    match s {
+        [b'0', rest @ ..] => ended(0, rest, b' '),
+        [b'1'..=b'9', ..] => {
+            let (v, s) = decimals(s)?;
+            ended(v, s, b' ')
         }
-        return Single::Bad;
+        _ => None,
     }
-    if 10 <= d {
-        return Single::Bad;
-    }
-    let Number::Is(v, next) = decimals_at(t, s, at) else {
-        return Single::Bad;
-    };
-    if fields::bytes::next_is(s, next, b' ') {
-        Single::Is(v as u32, next + 1)
+}
+
+// The f64 of its bits, if it is finite.
+pub(crate) fn finite(bits: u64) -> Result<f64, Refusal>
+    ensures { said result ≡ check (finite (of_bits binary64 bits)) 3 (gives (of_bits binary64 bits)) }
+{
+    let x = f64_from_bits_with_nan(bits);
+    if x.is_finite() {
+        Ok(x)
     } else {
-        Single::Bad
+        Err(Refusal::NotFinite)
+    }
+}
+
+// The same of an f32. Twice, since a trait over the two widths would be longer than both.
+pub(crate) fn finitef(bits: u32) -> Result<f32, Refusal>
+    ensures { said result ≡ check (finite (of_bits binary32 bits)) 3 (gives (of_bits binary32 bits)) }
+{
+    let x = f32_from_bits_with_nan(bits);
+    if x.is_finite() {
+        Ok(x)
+    } else {
+        Err(Refusal::NotFinite)
     }
 }

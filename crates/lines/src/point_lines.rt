@@ -1,124 +1,77 @@
 // The point lines.
-ghost use Rattle.std.specs.Prelude.{◌≡◌, cond, ◌||◌, List, [], ℕ, min, length, drop};
+ghost use Rattle.std.specs.Prelude.{◌≡◌, true, cond, ◌||◌, [], ◌∷◌, ◌++◌};
+ghost use Rattle.points.specs.Points.{rising};
 ghost use Rattle.points.specs.Refusal.{number};
-ghost use Rattle.fields.specs.Told.{DigitTable};
-ghost use Rattle.lines.specs.PointLines.{stop, is_empty, points_end, cut_short, point_lines};
-ghost use Rattle.lines.specs.Told.{told_point_lines, point_lines_held};
+ghost use Rattle.lines.specs.PointLines.{is_empty, points_end, cut_short, point_lines};
+ghost use Rattle.lines.specs.Told.{told_lines};
 
-use crate::point::PointLine;
-use points::Points;
-use points::refusal::{Answer, Refusal};
+use crate::point::point_line;
+use crate::{SheetRefusal, on_line};
+use points::refusal::Refusal;
+use points::{AutomationPoint, Points};
 
-// The points of the lines, and the place after them; beside a refusal its line, no points and 0.
-#[derive(Clone, Copy)]
-pub struct PointLines {
-    pub answer: Answer,
-    pub line: u32,
-    pub points: Points,
-    pub next: usize,
-}
-
-// Whether the points end at the place: with the bytes, or in the program at the names of its block.
-fn points_end(s: &[u8], at: usize, program: bool) -> bool
-    ensures { result ≡ points_end program (drop at s.now) }
+// Whether the points end here: with the bytes, or in the program at the names of its block. `program` is a flag as in specs/: a closure in its place would ask for contracts of its own.
+#[tactic(auto, unfolding(crate::specs::PointLines::points_end, crate::specs::PointLines::is_empty, fields::specs::Form::starts_with))]
+fn points_end(s: &[u8], program: bool) -> bool
+    ensures { result ≡ points_end program s.now }
 {
     if program {
-        fields::bytes::starts_with(s, at, b"rate duration\n")
+        s.starts_with(b"rate duration\n")
     } else {
-        s.len() <= at
+        s.is_empty()
     }
 }
 
-// Whether at the place the program's input has the names of its block without their last byte, and ends.
-fn cut_short(s: &[u8], at: usize, program: bool) -> bool
-    ensures { result ≡ cut_short program (drop at s.now) }
+// Whether the program's input has the names of its block without their last byte, and ends.
+#[tactic(auto, unfolding(crate::specs::PointLines::cut_short))]
+fn cut_short(s: &[u8], program: bool) -> bool
+    ensures { result ≡ cut_short program s.now }
 {
-    if !program {
-        return false;
-    }
-    if !fields::bytes::starts_with(s, at, b"rate duration") {
-        return false;
-    }
-    // those names have 13 bytes
-    s.len() <= at + 13
+    program && s == b"rate duration".as_slice()
 }
 
 // What is wrong after 256 points: no line, or the block's cut short; else one more.
-fn after_last(s: &[u8], at: usize, program: bool) -> Refusal
-    ensures { number result ≡ cond (is_empty (drop at s.now) || cut_short program (drop at s.now)) 9 5 }
+#[tactic(auto, unfolding(crate::specs::PointLines::is_empty))]
+fn after_last(s: &[u8], program: bool) -> Refusal
+    ensures { number result ≡ cond (is_empty s.now || cut_short program s.now) 9 5 }
 {
-    if (s.len() <= at) | cut_short(s, at, program) {
+    if s.is_empty() | cut_short(s, program) {
         Refusal::SheetForm
     } else {
         Refusal::TooManyPoints
     }
 }
 
-fn no_points(refusal: Refusal, line: u32) -> PointLines
-    ensures answer { (s : List ℕ) → told_point_lines s result ≡ stop (number refusal) line }
-    ensures held { (s : List ℕ) → result ≡ point_lines_held s result.answer (stop (number refusal) line) }
+// Whether the times rise with one more point.
+#[tactic(auto, using(crate::proofs::Reading::rise_first, crate::proofs::Reading::rise_next))]
+fn rise_with(points: &[AutomationPoint], p: AutomationPoint) -> bool
+    requires { rising points.now ≡ true }
+    ensures { result ≡ rising (points.now ++ (p ∷ [])) }
 {
-    let points = points::list::none();
-    PointLines {
-        answer: Answer::Refused(refusal),
-        line,
-        points,
-        next: 0,
-    }
+    points.last().is_none_or(|q| q.key() < p.key())
 }
 
-// The place, or the end of the bytes for one past it.
-fn place_within(s: &[u8], at: usize) -> usize
-    ensures { result ≡ min at (length s.now) }
+// The points of the lines, and the bytes after them. A `while`: each line takes as many bytes as it has. The number of a point's line is 4 more than
+// how many points stand before it: the first is on line 4.
+#[tactic(auto, using(crate::proofs::Reading::ended, crate::proofs::Reading::refuses, crate::proofs::Reading::falls))]
+pub fn point_lines(s: &[u8], program: bool) -> Result<(Points, &[u8]), SheetRefusal>
+    ensures { told_lines result ≡ point_lines program 256 [] s.now }
 {
-    if at < s.len() { at } else { s.len() }
-}
-
-// The point lines from the place on, through the table.
-fn lines_from(t: &[u8; 256], s: &[u8], start: usize, program: bool) -> PointLines
-    requires { DigitTable t.now }
-    ensures answer { told_point_lines s.now result ≡ point_lines program 256 [] (drop start s.now) }
-    ensures held { result ≡ point_lines_held s.now result.answer (point_lines program 256 [] (drop start s.now)) }
-{
-    let unused = points::point::unused();
-    let mut places = [unused; 256];
-    let mut count: usize = 0;
-    let mut at = start;
-    let mut last: u64 = 0;
-    while !points_end(s, at, program) {
-        let line = (count + 4) as u32;
-        if count == 256 {
-            return no_points(after_last(s, at, program), line);
+    let mut points = points::list::none();
+    let mut rest = s;
+    while !points_end(rest, program) {
+        let line = (points.count + 4) as u32;
+        if points.count == 256 {
+            let refusal = after_last(rest, program);
+            return Err(SheetRefusal { refusal, line });
         }
-        match crate::point::point_line(t, s, at) {
-            PointLine::Refused(refusal) => {
-                return no_points(refusal, line);
-            }
-            PointLine::Is(p, next) => {
-                let key = numbers::order::order_key(p.time);
-                if (0 < count) & (key <= last) {
-                    return no_points(Refusal::TimesDontRise, line);
-                }
-                places[count] = p;
-                count += 1;
-                last = key;
-                at = next;
-            }
+        let (p, after) = on_line(point_line(rest), line)?;
+        if !rise_with(points.as_slice(), p) {
+            let refusal = Refusal::TimesDontRise;
+            return Err(SheetRefusal { refusal, line });
         }
+        points.push(p);
+        rest = after;
     }
-    PointLines {
-        answer: Answer::Accepted,
-        line: 0,
-        points: Points { count, places },
-        next: place_within(s, at),
-    }
-}
-
-// The point lines from the place on.
-pub fn point_lines(s: &[u8], start: usize, program: bool) -> PointLines
-    ensures answer { told_point_lines s.now result ≡ point_lines program 256 [] (drop start s.now) }
-    ensures held { result ≡ point_lines_held s.now result.answer (point_lines program 256 [] (drop start s.now)) }
-{
-    let t = fields::digits::table();
-    lines_from(&t, s, start, program)
+    Ok((points, rest))
 }

@@ -1,338 +1,334 @@
-// The fields of a line `call => answer`. A field is a space and what stands after it; a function
-// takes the place where a field begins, and gives the place after it.
-ghost use Rattle.std.specs.Prelude.{◌≡◌, true, ◌≤◌, ◌^◌, min, length};
-ghost use Rattle.listing.specs.Fields.{Within, Below};
+// The fields of a line `call => answer`. A field is a space and what stands after it.
+ghost use Rattle.std.specs.Prelude.{◌≡◌, ◌≤◌, ◌<◌, ◌^◌, ◌++◌, length, IfSome, MatchOption, IsTrue, ◌↔◌};
 
-// The place after what was looked for.
-#[derive(Clone, Copy)]
-pub enum Place {
-    Nowhere,
-    At(usize),
-}
+use std::num::{
+    f32_from_bits_with_nan, f32_to_bits_with_nan, f64_from_bits_with_nan, f64_to_bits_with_nan,
+};
+use std::str;
 
-// A number, and the place after it.
-#[derive(Clone, Copy)]
-pub enum Word {
-    Bad,
-    Is(u64, usize),
-}
-
-#[derive(Clone, Copy)]
-pub enum Single {
-    Bad,
-    Is(f32, usize),
-}
-
-#[derive(Clone, Copy)]
-pub enum Double {
-    Bad,
-    Is(f64, usize),
-}
-
-#[derive(Clone, Copy)]
-pub enum Doubles {
-    Bad,
-    Are(f64, f64, usize),
-}
-
-#[derive(Clone, Copy)]
-pub enum Singles {
-    Bad,
-    Are(f32, f32, usize),
-}
-
-// What a line comes to: our answer is the line's, or another, or the call is none that we have.
-#[derive(Clone, Copy)]
+// What a call that we have comes to: our answer is the line's, or another. Of a call that we don't have there is none.
+#[derive(Debug, PartialEq, Eq, Clone, Copy)]
 pub enum Outcome {
     Same,
     Differs,
-    Unknown,
 }
 
-// The first place from `start` on that has the byte b, or the line's end.
-pub fn find(s: &[u8], start: usize, b: u8) -> usize
-    ensures { (min start (length s.now) ≤ result) × (result ≤ length s.now) }
-{
-    if s.len() < start {
-        return s.len();
-    }
-    let mut at = start;
-    while at < s.len() {
-        if s[at] == b {
-            return at;
+impl Outcome {
+    // Where the line was read to its end, our answer was the line's.
+    pub fn of(said: Option<()>) -> Outcome {
+        match said {
+            Some(()) => Outcome::Same,
+            None => Outcome::Differs,
         }
-        at += 1;
     }
-    at
 }
 
-// The place after the bytes w, where they stand at a place.
-pub fn after(s: &[u8], at: usize, w: &[u8]) -> Place
-    ensures { Within s.now result }
-{
-    if s.len() < at {
-        return Place::Nowhere;
-    }
-    if s.len() - at < w.len() {
-        return Place::Nowhere;
-    }
-    let mut i: usize = 0;
-    while i < w.len() {
-        if s[at + i] != w[i] {
-            return Place::Nowhere;
-        }
-        i += 1;
-    }
-    Place::At(at + w.len())
+// A value that stands in a line. Where neither this trait, or `Said`, nor the type is of the crate that reads it, the type
+// is in a newtype of that crate: `Curve`, `Point`, `Envelope` and others.
+pub trait Field: Sized {
+    fn read(line: &mut Line<'_>) -> Option<Self>;
 }
 
-// A name in the line, from a place up to another.
+// A value that is held against a line: `is_said` goes past what says it, bit for bit but where a zero is marked `~`.
+pub trait Said {
+    fn is_said(&self, line: &mut Line<'_>) -> Option<()>;
+}
+
+// What is left of a line.
 #[derive(Clone, Copy)]
-pub struct Name {
-    pub from: usize,
-    pub to: usize,
+pub struct Line<'a> {
+    pub rest: &'a [u8],
 }
 
-impl Name {
-    fn is(self, s: &[u8], w: &[u8]) -> bool {
-        match after(s, self.from, w) {
-            Place::At(next) => next == self.to,
-            Place::Nowhere => false,
+impl<'a> Line<'a> {
+    // Goes past the bytes w, where they stand next.
+    pub fn past(&mut self, w: &[u8]) -> Option<()>
+        ensures { MatchOption result (self.new ≡ self.old) (λ _. self.old.rest.now ≡ w.now ++ self.new.rest.now) }
+    {
+        self.rest = self.rest.strip_prefix(w)?;
+        Some(())
+    }
+
+    // The next n bytes.
+    fn next_bytes(&mut self, n: usize) -> Option<&'a [u8]>
+        ensures { IfSome result (λ bytes. length bytes.now ≡ n) }
+    {
+        if self.rest.len() < n {
+            return None;
+        }
+        let (bytes, rest) = self.rest.split_at(n);
+        self.rest = rest;
+        Some(bytes)
+    }
+
+    // The bytes before the first b, or all.
+    pub fn before(&mut self, b: u8) -> &'a [u8]
+        ensures { self.old.rest.now ≡ result.now ++ self.new.rest.now }
+    {
+        let end = self.rest.iter().position(|x| *x == b);
+        let (front, rest) = self.rest.split_at(end.unwrap_or(self.rest.len()));
+        self.rest = rest;
+        front
+    }
+
+    // A text that has no `=`, before the answer: all up to the byte before the first `=`. That byte is not looked at here.
+    pub fn text(&mut self) -> Option<&'a [u8]> {
+        let end = self.rest.iter().position(|b| *b == b'=')?.checked_sub(1)?;
+        let (text, rest) = self.rest.split_at(end);
+        self.rest = rest;
+        Some(text)
+    }
+
+    // A space and n hexadecimal digits.
+    fn hexadecimal(&mut self, n: usize) -> Option<u64>
+        requires { n ≤ 16 }
+        ensures { IfSome result (λ x. x < 16 ^ n) }
+    {
+        self.past(b" ")?;
+        number_of(self.next_bytes(n)?)
+    }
+
+    // Decimal digits, as far as they go. A number of 2^64 or more is none.
+    pub fn decimal(&mut self) -> Option<u64> {
+        let end = self.rest.iter().position(|b| !b.is_ascii_digit());
+        let digits = self.next_bytes(end.unwrap_or(self.rest.len()))?;
+        str::from_utf8(digits).ok()?.parse().ok()
+    }
+
+    pub fn field<T: Field>(&mut self) -> Option<T> {
+        T::read(self)
+    }
+
+    // Nothing is left.
+    pub fn ended(&self) -> Option<()> {
+        self.rest.is_empty().then_some(())
+    }
+
+    // Our answer, and then the line's end.
+    pub fn says<T: Said>(&mut self, answer: &T) -> Option<()> {
+        answer.is_said(self)?;
+        self.ended()
+    }
+
+    // Whether the line's answer is what the call gives of the line's arguments.
+    pub fn holds<A: Field, R: Said + Drop, F: FnOnce(A) -> R + Drop>(mut self, call: F) -> Outcome
+        requires { F.IsAlwaysCallable call }
+    {
+        let Some(arguments) = self.field() else {
+            return Outcome::Differs;
+        };
+        Outcome::of(self.says(&call(arguments)))
+    }
+
+    // The same of a call that gives a plain value.
+    pub fn gives<A: Field, R: Said + Drop, F: FnOnce(A) -> R + Drop>(self, call: F) -> Outcome
+        requires { F.IsAlwaysCallable call }
+    {
+        self.holds(|arguments| Given(call(arguments)))
+    }
+}
+
+// The answer `ok` and a value.
+#[derive(Clone, Copy, Drop)]
+pub struct Given<T>(pub T);
+
+impl<T: Said> Said for Given<T> {
+    fn is_said(&self, line: &mut Line<'_>) -> Option<()> {
+        line.past(b" => ok")?;
+        self.0.is_said(line)
+    }
+}
+
+// A byte's value as a hexadecimal digit in capitals.
+pub(crate) fn digit(b: u8) -> Option<u64>
+    ensures { IfSome result (λ d. d < 16) }
+{
+    match b {
+        b'0'..=b'9' => Some(u64::from(b - b'0')),
+        b'A'..=b'F' => Some(u64::from(b - b'A') + 10),
+        _ => None,
+    }
+}
+
+// The number of these hexadecimal digits.
+fn number_of(digits: &[u8]) -> Option<u64>
+    requires { length digits.now ≤ 16 }
+    ensures { IfSome result (λ n. n < 16 ^ length digits.now) }
+{
+    let mut n = 0;
+    for b in digits {
+        n = n * 16 + digit(*b)?;
+    }
+    Some(n)
+}
+
+// Whether two values are the same: a NaN is like any NaN, and 0.0 is not -0.0. Two impls, since the library has the bits of each width by a name of its own.
+pub trait Same: Copy {
+    fn is_same(self, other: Self) -> bool
+        ensures { IsTrue result ↔ (self ≡ other) };
+}
+
+impl Same for f64 {
+    fn is_same(self, other: f64) -> bool {
+        f64_to_bits_with_nan(self) == f64_to_bits_with_nan(other)
+    }
+}
+
+impl Same for f32 {
+    fn is_same(self, other: f32) -> bool {
+        f32_to_bits_with_nan(self) == f32_to_bits_with_nan(other)
+    }
+}
+
+// Goes past a field that is this value.
+fn says_field<T: Field + PartialEq + Drop>(line: &mut Line<'_>, value: &T) -> Option<()> {
+    (line.field::<T>()? == *value).then_some(())
+}
+
+// A word of 16 hexadecimal digits: a list writes the sample numbers of points and of lookups so, and sums.
+impl Field for u64 {
+    fn read(line: &mut Line<'_>) -> Option<u64> {
+        line.hexadecimal(16)
+    }
+}
+
+impl Said for u64 {
+    fn is_said(&self, line: &mut Line<'_>) -> Option<()> {
+        says_field(line, self)
+    }
+}
+
+// A number of that type that a list writes in decimal digits: where a run begins, and how many samples.
+#[derive(Clone, Copy, PartialEq)]
+pub struct Count(pub u64);
+
+impl Field for Count {
+    fn read(line: &mut Line<'_>) -> Option<Count> {
+        line.past(b" ")?;
+        line.decimal().map(Count)
+    }
+}
+
+impl Said for Count {
+    fn is_said(&self, line: &mut Line<'_>) -> Option<()> {
+        says_field(line, self)
+    }
+}
+
+// Decimal digits too: a count of points or of places, or the number of one.
+impl Field for usize {
+    fn read(line: &mut Line<'_>) -> Option<usize> {
+        let Count(n) = line.field()?;
+        Some(n as usize)
+    }
+}
+
+impl Said for usize {
+    fn is_said(&self, line: &mut Line<'_>) -> Option<()> {
+        says_field(line, self)
+    }
+}
+
+impl Field for f64 {
+    fn read(line: &mut Line<'_>) -> Option<f64> {
+        Some(f64_from_bits_with_nan(line.hexadecimal(16)?))
+    }
+}
+
+impl Said for f64 {
+    fn is_said(&self, line: &mut Line<'_>) -> Option<()> {
+        line.field::<f64>()?.is_same(*self).then_some(())
+    }
+}
+
+impl Field for f32 {
+    fn read(line: &mut Line<'_>) -> Option<f32> {
+        Some(f32_from_bits_with_nan(line.hexadecimal(8)? as u32))
+    }
+}
+
+// A zero marked `~` says either zero.
+impl Said for f32 {
+    fn is_said(&self, line: &mut Line<'_>) -> Option<()> {
+        let said: f32 = line.field()?;
+        let same = match line.past(b"~") {
+            Some(()) => said == 0.0 && *self == 0.0,
+            None => said.is_same(*self),
+        };
+        same.then_some(())
+    }
+}
+
+impl Field for u32 {
+    fn read(line: &mut Line<'_>) -> Option<u32> {
+        u32::try_from(line.field::<usize>()?).ok()
+    }
+}
+
+impl Said for u32 {
+    fn is_said(&self, line: &mut Line<'_>) -> Option<()> {
+        says_field(line, self)
+    }
+}
+
+impl Field for bool {
+    fn read(line: &mut Line<'_>) -> Option<bool> {
+        match line.past(b" 1") {
+            Some(()) => Some(true),
+            None => line.past(b" 0").map(|()| false),
         }
     }
+}
 
-    // Which of the words the name is, from 0 on; their number where it is none. Each word has a space
-    // after it.
-    pub fn among(self, s: &[u8], words: &[u8]) -> usize {
-        let mut k: usize = 0;
-        let mut at: usize = 0;
-        loop {
-            let end = find(words, at, b' ');
-            if end == words.len() {
-                return k;
-            }
-            if self.is(s, &words[at..end]) {
-                return k;
-            }
-            at = end + 1;
-            k += 1;
+impl Said for bool {
+    fn is_said(&self, line: &mut Line<'_>) -> Option<()> {
+        says_field(line, self)
+    }
+}
+
+// `-` is none.
+impl<T: Field> Field for Option<T> {
+    fn read(line: &mut Line<'_>) -> Option<Option<T>> {
+        match line.past(b" -") {
+            Some(()) => Some(None),
+            None => line.field().map(Some),
         }
     }
 }
 
-// Which of the words the line's first `end` bytes are.
-pub fn call_among(s: &[u8], end: usize, words: &[u8]) -> usize {
-    let name = Name { from: 0, to: end };
-    name.among(s, words)
-}
-
-fn wide(x: u8) -> u64
-    ensures { result ≡ x }
-{
-    x as u64
-}
-
-// A byte's value as a hexadecimal digit in capitals, 16 for none.
-pub(crate) fn digit(b: u8) -> u64
-    ensures { result ≤ 16 }
-{
-    let d = wide(b);
-    if d < 48 {
-        return 16;
-    }
-    if d < 58 {
-        return d - 48;
-    }
-    if d < 65 {
-        return 16;
-    }
-    if d < 71 {
-        return d - 55;
-    }
-    16
-}
-
-// A space and n hexadecimal digits.
-fn hexadecimal(s: &[u8], at: usize, n: usize) -> Word
-    requires { n ≤ 16 }
-    ensures { Below (16 ^ n) result }
-{
-    let Place::At(start) = after(s, at, b" ") else {
-        return Word::Bad;
-    };
-    if s.len() - start < n {
-        return Word::Bad;
-    }
-    let mut v: u64 = 0;
-    let mut i: usize = 0;
-    while i < n {
-        let d = digit(s[start + i]);
-        if 16 <= d {
-            return Word::Bad;
+impl<T: Said> Said for Option<T> {
+    fn is_said(&self, line: &mut Line<'_>) -> Option<()> {
+        match self {
+            Some(x) => x.is_said(line),
+            None => line.past(b" -"),
         }
-        v = v * 16 + d;
-        i += 1;
-    }
-    Word::Is(v, start + n)
-}
-
-// The bytes w and decimal digits, as far as they go. A number of 2^64 or more is bad.
-pub fn decimal_after(s: &[u8], at: usize, w: &[u8]) -> Word
-    ensures { Below (2 ^ 64) result }
-{
-    let Place::At(start) = after(s, at, w) else {
-        return Word::Bad;
-    };
-    let mut v: u64 = 0;
-    let mut i = start;
-    while i < s.len() {
-        let d = digit(s[i]);
-        if 10 <= d {
-            break;
-        }
-        if (u64::MAX - d) / 10 < v {
-            return Word::Bad;
-        }
-        v = v * 10 + d;
-        i += 1;
-    }
-    if i == start {
-        return Word::Bad;
-    }
-    Word::Is(v, i)
-}
-
-// A field of a count.
-pub fn decimal_at(s: &[u8], at: usize) -> Word
-    ensures { Below (2 ^ 64) result }
-{
-    decimal_after(s, at, b" ")
-}
-
-// A field of a u64.
-pub fn word_at(s: &[u8], at: usize) -> Word {
-    hexadecimal(s, at, 16)
-}
-
-// A field of an f32.
-pub fn single_at(s: &[u8], at: usize) -> Single {
-    match hexadecimal(s, at, 8) {
-        Word::Is(b, next) => Single::Is(std::num::f32_from_bits_with_nan(b as u32), next),
-        Word::Bad => Single::Bad,
     }
 }
 
-// A field of an f64.
-pub fn double_at(s: &[u8], at: usize) -> Double {
-    match hexadecimal(s, at, 16) {
-        Word::Is(b, next) => Double::Is(std::num::f64_from_bits_with_nan(b), next),
-        Word::Bad => Double::Bad,
+impl<A: Field + Drop, B: Field> Field for (A, B) {
+    fn read(line: &mut Line<'_>) -> Option<(A, B)> {
+        let first = line.field()?;
+        Some((first, line.field()?))
     }
 }
 
-pub fn two_doubles_at(s: &[u8], at: usize) -> Doubles {
-    let Double::Is(x, second) = double_at(s, at) else {
-        return Doubles::Bad;
-    };
-    let Double::Is(y, next) = double_at(s, second) else {
-        return Doubles::Bad;
-    };
-    Doubles::Are(x, y, next)
-}
-
-pub fn two_singles_at(s: &[u8], at: usize) -> Singles {
-    let Single::Is(x, second) = single_at(s, at) else {
-        return Singles::Bad;
-    };
-    let Single::Is(y, next) = single_at(s, second) else {
-        return Singles::Bad;
-    };
-    Singles::Are(x, y, next)
-}
-
-// Whether two numbers are the same: a NaN is like any NaN, and 0.0 is not -0.0.
-pub fn same_single(x: f32, y: f32) -> bool
-    ensures { (result ≡ true → x ≡ y) × (x ≡ y → result ≡ true) }
-{
-    std::num::f32_to_bits_with_nan(x) == std::num::f32_to_bits_with_nan(y)
-}
-
-pub fn same_double(x: f64, y: f64) -> bool
-    ensures { (result ≡ true → x ≡ y) × (x ≡ y → result ≡ true) }
-{
-    std::num::f64_to_bits_with_nan(x) == std::num::f64_to_bits_with_nan(y)
-}
-
-// The place after a field that says y. A zero marked `~` says either zero.
-pub fn says_single(s: &[u8], at: usize, y: f32) -> Place {
-    let Single::Is(x, next) = single_at(s, at) else {
-        return Place::Nowhere;
-    };
-    let Place::At(end) = after(s, next, b"~") else {
-        if same_single(x, y) {
-            return Place::At(next);
-        }
-        return Place::Nowhere;
-    };
-    if (x == 0.0) & (y == 0.0) {
-        return Place::At(end);
+impl<A: Said, B: Said> Said for (A, B) {
+    fn is_said(&self, line: &mut Line<'_>) -> Option<()> {
+        self.0.is_said(line)?;
+        self.1.is_said(line)
     }
-    Place::Nowhere
 }
 
-pub fn says_double(s: &[u8], at: usize, y: f64) -> Place {
-    let Double::Is(x, next) = double_at(s, at) else {
-        return Place::Nowhere;
-    };
-    if same_double(x, y) {
-        return Place::At(next);
+impl<A: Field + Drop, B: Field + Drop, C: Field> Field for (A, B, C) {
+    fn read(line: &mut Line<'_>) -> Option<(A, B, C)> {
+        let (first, second) = line.field()?;
+        Some((first, second, line.field()?))
     }
-    Place::Nowhere
 }
 
-pub fn says_word(s: &[u8], at: usize, y: u64) -> Place {
-    let Word::Is(x, next) = word_at(s, at) else {
-        return Place::Nowhere;
-    };
-    if x == y {
-        return Place::At(next);
+// One after the other.
+impl<T: Said> Said for &[T] {
+    fn is_said(&self, line: &mut Line<'_>) -> Option<()> {
+        self.iter().try_for_each(|x| x.is_said(line))
     }
-    Place::Nowhere
-}
-
-// Where the line ends at a place, our answer was the line's.
-pub fn ended(s: &[u8], end: Place) -> Outcome {
-    let Place::At(at) = end else {
-        return Outcome::Differs;
-    };
-    if at == s.len() {
-        return Outcome::Same;
-    }
-    Outcome::Differs
-}
-
-// The line's answer is the words w and the f32 y.
-pub fn answers_single_as(s: &[u8], at: usize, w: &[u8], y: f32) -> Outcome {
-    let Place::At(answer) = after(s, at, w) else {
-        return Outcome::Differs;
-    };
-    ended(s, says_single(s, answer, y))
-}
-
-pub fn answers_single(s: &[u8], at: usize, y: f32) -> Outcome {
-    answers_single_as(s, at, b" => ok", y)
-}
-
-pub fn answers_double(s: &[u8], at: usize, y: f64) -> Outcome {
-    let Place::At(answer) = after(s, at, b" => ok") else {
-        return Outcome::Differs;
-    };
-    ended(s, says_double(s, answer, y))
-}
-
-pub fn answers_word(s: &[u8], at: usize, y: u64) -> Outcome {
-    let Place::At(answer) = after(s, at, b" => ok") else {
-        return Outcome::Differs;
-    };
-    ended(s, says_word(s, answer, y))
 }

@@ -1,99 +1,47 @@
 // The calls of a walk: `walk E RATE DURATION CALLS => ok walk COUNT VALUE/PLACE ..`, with each call's
-// value, `-` for none, and the place it leaves. `at` is the place after the name.
+// value, `-` for none, and the place it leaves. `line` is what comes after the name.
 use envelope::AutomationEnvelope;
-use listing::text::{
-    Doubles, Outcome, Place, Word, after, call_among, decimal_after, decimal_at, ended,
-    says_single, two_doubles_at,
-};
-use listing_envelopes::records::envelope_at;
-use listing_points::answers::answers_refusal;
-use lookup::Lookup;
-use render::{SampleIterator, SampleStep, Walk};
+use listing::text::{Count, Line, Outcome, Said};
+use listing_envelopes::records::Envelope;
+use listing_points::answers::Refused;
+use render::SampleIterator;
 
-pub fn run(s: &[u8], at: usize) -> Outcome {
-    match call_among(s, at, b"walk ") {
-        0 => walk(s, at),
-        _ => Outcome::Unknown,
-    }
+pub fn run(name: &[u8], line: Line<'_>) -> Option<Outcome> {
+    Some(match name {
+        b"walk" => Outcome::of(walk(line)),
+        _ => return None,
+    })
 }
 
-fn says_sample(s: &[u8], at: usize, answer: Lookup) -> Place {
-    match answer {
-        Lookup::Silent => after(s, at, b" -"),
-        Lookup::Value(v) => says_single(s, at, v),
-        Lookup::Refused(_) => Place::Nowhere,
-    }
-}
-
-fn says_step(s: &[u8], at: usize, step: SampleStep) -> Place {
-    let answer = step.answer;
-    let walk = step.walk;
-    let Place::At(slash) = says_sample(s, at, answer) else {
-        return Place::Nowhere;
-    };
-    let Word::Is(n, next) = decimal_after(s, slash, b"/") else {
-        return Place::Nowhere;
-    };
-    if n == walk.current_sample {
-        return Place::At(next);
-    }
-    Place::Nowhere
+fn says_step(
+    line: &mut Line<'_>,
+    envelope: &AutomationEnvelope,
+    walk: &mut SampleIterator,
+) -> Option<()> {
+    envelope.next(walk).ok()?.is_said(line)?;
+    line.past(b"/")?;
+    (line.decimal()? == walk.current_sample).then_some(())
 }
 
 // As many calls as the line has.
 fn says_steps(
-    s: &[u8],
-    at: usize,
-    envelope: AutomationEnvelope,
-    start: SampleIterator,
-    calls: u64,
-) -> Place {
-    let mut walk = start;
-    let mut place = at;
-    let mut i: u64 = 0;
-    while i < calls {
-        let step = envelope.next(walk);
-        let Place::At(next) = says_step(s, place, step) else {
-            return Place::Nowhere;
-        };
-        walk = step.walk;
-        place = next;
-        i += 1;
+    line: &mut Line<'_>,
+    envelope: &AutomationEnvelope,
+    mut walk: SampleIterator,
+    calls: usize,
+) -> Option<()> {
+    line.past(b" => ok walk")?;
+    Count(walk.total_samples).is_said(line)?;
+    for _ in 0..calls {
+        says_step(line, envelope, &mut walk)?;
     }
-    Place::At(place)
+    line.ended()
 }
 
-fn answers_steps(
-    s: &[u8],
-    at: usize,
-    envelope: AutomationEnvelope,
-    walk: SampleIterator,
-    calls: u64,
-) -> Outcome {
-    let Word::Is(n, start) = decimal_after(s, at, b" => ok walk ") else {
-        return Outcome::Differs;
-    };
-    if n == walk.total_samples {
-        return ended(s, says_steps(s, start, envelope, walk, calls));
-    }
-    Outcome::Differs
-}
-
-fn walk(s: &[u8], at: usize) -> Outcome {
-    let given = envelope_at(s, at);
-    let envelope = given.envelope;
-    let end = given.end;
-    let Place::At(second) = end else {
-        return Outcome::Differs;
-    };
-    let Doubles::Are(rate, duration, third) = two_doubles_at(s, second) else {
-        return Outcome::Differs;
-    };
-    let Word::Is(calls, next) = decimal_at(s, third) else {
-        return Outcome::Differs;
-    };
-    match envelope.iter_samples(rate, duration) {
-        Walk::Over(walk) => answers_steps(s, next, envelope, walk, calls),
-        Walk::Refused(why) => answers_refusal(s, next, why),
+fn walk(mut line: Line<'_>) -> Option<()> {
+    let (Envelope(e), (rate, duration), calls) = line.field()?;
+    match e.iter_samples(rate, duration) {
+        Ok(walk) => says_steps(&mut line, &e, walk, calls),
+        Err(why) => line.says(&Refused(why)),
     }
 }

@@ -1,94 +1,20 @@
-// The calls of the Player: lookups, validity and the equalities. `at` is the place after the name.
-use crate::records::{envelope_at, two_envelopes_at};
-use listing::text::{Double, Outcome, Place, Word, call_among, double_at, word_at};
-use listing_points::answers::{answers_compared, answers_lookup, answers_truth};
-use listing_points::records::{PointsPair, two_points_at};
+// The calls of the Player: lookups, validity and the equalities. `line` is what comes after the name.
+use crate::records::Envelope;
+use listing::text::{Line, Outcome};
+use listing_points::answers::{Answer, Found};
+use listing_points::records::Point;
 
-pub fn run(s: &[u8], at: usize) -> Outcome {
-    match call_among(
-        s,
-        at,
-        b"value_at value_at_sample valid eq eq_exact point_eq point_eq_exact ",
-    ) {
-        0 => value_at(s, at),
-        1 => value_at_sample(s, at),
-        2 => valid(s, at),
-        3 => eq(s, at),
-        4 => eq_exact(s, at),
-        5 => point_eq(s, at),
-        6 => point_eq_exact(s, at),
-        _ => Outcome::Unknown,
-    }
-}
-
-fn value_at(s: &[u8], at: usize) -> Outcome {
-    let given = envelope_at(s, at);
-    let envelope = given.envelope;
-    let end = given.end;
-    let Place::At(second) = end else {
-        return Outcome::Differs;
-    };
-    let Double::Is(time, next) = double_at(s, second) else {
-        return Outcome::Differs;
-    };
-    answers_lookup(s, next, envelope.get_value_at(time))
-}
-
-fn value_at_sample(s: &[u8], at: usize) -> Outcome {
-    let given = envelope_at(s, at);
-    let envelope = given.envelope;
-    let end = given.end;
-    let Place::At(second) = end else {
-        return Outcome::Differs;
-    };
-    let Word::Is(sample, next) = word_at(s, second) else {
-        return Outcome::Differs;
-    };
-    answers_lookup(s, next, envelope.get_value_at_sample(sample))
-}
-
-fn valid(s: &[u8], at: usize) -> Outcome {
-    let given = envelope_at(s, at);
-    let envelope = given.envelope;
-    let end = given.end;
-    let Place::At(next) = end else {
-        return Outcome::Differs;
-    };
-    answers_truth(s, next, envelope.is_valid())
-}
-
-fn eq(s: &[u8], at: usize) -> Outcome {
-    let given = two_envelopes_at(s, at);
-    let first = given.first;
-    let second = given.second;
-    let end = given.end;
-    let Place::At(next) = end else {
-        return Outcome::Differs;
-    };
-    answers_compared(s, next, first.eq(second))
-}
-
-fn eq_exact(s: &[u8], at: usize) -> Outcome {
-    let given = two_envelopes_at(s, at);
-    let first = given.first;
-    let second = given.second;
-    let end = given.end;
-    let Place::At(next) = end else {
-        return Outcome::Differs;
-    };
-    answers_compared(s, next, first.eq_exact(second))
-}
-
-fn point_eq(s: &[u8], at: usize) -> Outcome {
-    let PointsPair::Are(p, q, next) = two_points_at(s, at) else {
-        return Outcome::Differs;
-    };
-    answers_compared(s, next, p.eq(q))
-}
-
-fn point_eq_exact(s: &[u8], at: usize) -> Outcome {
-    let PointsPair::Are(p, q, next) = two_points_at(s, at) else {
-        return Outcome::Differs;
-    };
-    answers_compared(s, next, p.eq_exact(q))
+pub fn run(name: &[u8], line: Line<'_>) -> Option<Outcome> {
+    Some(match name {
+        b"value_at" => line.holds(|(Envelope(e), time)| Answer(e.get_value_at(time).map(Found))),
+        b"value_at_sample" => {
+            line.holds(|(Envelope(e), sample)| Answer(e.get_value_at_sample(sample).map(Found)))
+        }
+        b"valid" => line.gives(|Envelope(e)| e.is_valid()),
+        b"eq" => line.holds(|(Envelope(a), Envelope(b))| Answer(a.eq(&b))),
+        b"eq_exact" => line.holds(|(Envelope(a), Envelope(b))| Answer(a.eq_exact(&b))),
+        b"point_eq" => line.holds(|(Point(p), Point(q))| Answer(p.eq(q))),
+        b"point_eq_exact" => line.holds(|(Point(p), Point(q))| Answer(p.eq_exact(q))),
+        _ => return None,
+    })
 }

@@ -2,7 +2,6 @@
 // `vectors`: its functions are proved safe and ending, and state no result.
 #![tactic(auto)]
 
-pub mod answers;
 pub mod calls_player;
 pub mod calls_render;
 pub mod records;

@@ -12,5 +12,4 @@
 mod reader;
 mod report;
 
-pub use reader::{NextLine, Reader, next, start};
-pub use report::{counted, print_tally};
+pub use reader::Lines;

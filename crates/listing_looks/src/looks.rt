@@ -1,116 +1,58 @@
 // The lines of a session's calls that alter nothing: lookups and runs, which have the answers of the
 // calls on its envelope, and those that look at the whole step memory, `memory => ok SUM`,
-// `words FROM COUNT => ok SUM` and `slot K => ok E`. `at` is the place after the name.
+// `words FROM COUNT => ok SUM` and `slot K => ok E`. `line` is what comes after the name.
 use crate::words;
-use envelope::Edited;
-use listing::text::{Double, Name, Outcome, Word, answers_word, decimal_at, double_at, word_at};
-use listing_envelopes::answers::answers_envelope;
-use listing_envelopes::calls_render::{RunField, WholeField, run_at, whole_at};
-use listing_points::answers::answers_lookup;
-use listing_points::buffers::{answers_buffer, marked};
-use points::refusal::Answer;
+use listing::text::{Count, Given, Line, Outcome};
+use listing_envelopes::records::Envelope;
+use listing_points::answers::{Answer, Found};
+use listing_points::buffers::{marked, says_buffer};
 use session::Session;
+pub use state::STATE_WORDS;
+use state::read::read_state;
 
-// ---- lookups and runs
-
-fn value_at(s: &[u8], at: usize, session: Session) -> Outcome {
-    let Double::Is(time, next) = double_at(s, at) else {
-        return Outcome::Differs;
-    };
-    answers_lookup(s, next, session.get_value_at(time))
+fn render(mut line: Line<'_>, session: &Session) -> Option<()> {
+    let (rate, Count(first), Count(count)) = line.field()?;
+    let (place, length) = line.field::<(usize, usize)>()?;
+    let mut room = marked();
+    let buffer = room.get_mut(..length)?;
+    let answer = session.render(rate, first, count, buffer, place);
+    says_buffer(&mut line, answer, buffer)
 }
 
-fn value_at_sample(s: &[u8], at: usize, session: Session) -> Outcome {
-    let Word::Is(sample, next) = word_at(s, at) else {
-        return Outcome::Differs;
-    };
-    answers_lookup(s, next, session.get_value_at_sample(sample))
+fn to_buffer(mut line: Line<'_>, session: &Session) -> Option<()> {
+    let (rate, duration) = line.field()?;
+    let (place, length) = line.field::<(usize, usize)>()?;
+    let mut room = marked();
+    let buffer = room.get_mut(..length)?;
+    let answer = session.to_buffer(rate, duration, buffer, place);
+    says_buffer(&mut line, answer, buffer)
 }
-
-fn render(s: &[u8], at: usize, session: Session) -> Outcome {
-    let RunField::Is(rate, first, count, place, length, next) = run_at(s, at) else {
-        return Outcome::Differs;
-    };
-    if 1024 < length {
-        return Outcome::Differs;
-    }
-    let mut buffer = marked();
-    let out = &mut buffer[0..length];
-    let answer = session.render(rate, first, count, out, place);
-    answers_buffer(s, next, answer, out)
-}
-
-fn to_buffer(s: &[u8], at: usize, session: Session) -> Outcome {
-    let WholeField::Is(rate, duration, place, length, next) = whole_at(s, at) else {
-        return Outcome::Differs;
-    };
-    if 1024 < length {
-        return Outcome::Differs;
-    }
-    let mut buffer = marked();
-    let out = &mut buffer[0..length];
-    let answer = session.to_buffer(rate, duration, out, place);
-    answers_buffer(s, next, answer, out)
-}
-
-// ---- the step memory
 
 // The sum of a part of the words.
-fn part(s: &[u8], at: usize, memory: &[u64]) -> Outcome {
-    let Word::Is(from, second) = decimal_at(s, at) else {
-        return Outcome::Differs;
-    };
-    let Word::Is(count, next) = decimal_at(s, second) else {
-        return Outcome::Differs;
-    };
-    let from = from as usize;
-    let count = count as usize;
-    if memory.len() < from {
-        return Outcome::Differs;
-    }
-    if memory.len() - from < count {
-        return Outcome::Differs;
-    }
-    let to = from + count;
-    answers_word(s, next, words::sum(&memory[from..to]))
-}
-
-fn answers_stored(s: &[u8], at: usize, read: Edited) -> Outcome {
-    let answer = read.answer;
-    let envelope = read.envelope;
-    match answer {
-        Answer::Accepted => answers_envelope(s, at, envelope),
-        Answer::Refused(_) => Outcome::Differs,
-    }
+fn part(mut line: Line<'_>, memory: &[u64]) -> Option<()> {
+    let (from, count) = line.field::<(usize, usize)>()?;
+    let part = memory.get(from..from.checked_add(count)?)?;
+    line.says(&Given(words::sum(part)))
 }
 
 // The stored state of a slot. Words that are none, or not in the memory, differ from any answer.
-fn slot(s: &[u8], at: usize, memory: &[u64]) -> Outcome {
-    let Word::Is(slot, next) = decimal_at(s, at) else {
-        return Outcome::Differs;
-    };
-    let slot = slot as usize;
-    if memory.len() / 1028 <= slot {
-        return Outcome::Differs;
-    }
-    let from = slot * 1028;
-    let to = from + 1028;
-    answers_stored(s, next, state::read::read_state(&memory[from..to]))
+fn slot(mut line: Line<'_>, memory: &[u64]) -> Option<()> {
+    let slot = line.field()?;
+    let stored = read_state(memory.chunks_exact(STATE_WORDS).nth(slot)?).ok()?;
+    line.says(&Given(Envelope(stored)))
 }
 
-pub fn look(s: &[u8], name: Name, session: Session, memory: &[u64]) -> Outcome {
-    let at = name.to;
-    match name.among(
-        s,
-        b"value_at value_at_sample render to_buffer memory words slot ",
-    ) {
-        0 => value_at(s, at, session),
-        1 => value_at_sample(s, at, session),
-        2 => render(s, at, session),
-        3 => to_buffer(s, at, session),
-        4 => answers_word(s, at, words::sum(memory)),
-        5 => part(s, at, memory),
-        6 => slot(s, at, memory),
-        _ => Outcome::Unknown,
-    }
+pub fn look(name: &[u8], mut line: Line<'_>, session: &Session, memory: &[u64]) -> Option<Outcome> {
+    Some(match name {
+        b"value_at" => line.holds(|time| Answer(session.get_value_at(time).map(Found))),
+        b"value_at_sample" => {
+            line.holds(|sample| Answer(session.get_value_at_sample(sample).map(Found)))
+        }
+        b"render" => Outcome::of(render(line, session)),
+        b"to_buffer" => Outcome::of(to_buffer(line, session)),
+        b"memory" => Outcome::of(line.says(&Given(words::sum(memory)))),
+        b"words" => Outcome::of(part(line, memory)),
+        b"slot" => Outcome::of(slot(line, memory)),
+        _ => return None,
+    })
 }

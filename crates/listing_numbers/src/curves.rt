@@ -1,66 +1,42 @@
 // The calls of the curves: `interpolate CODE CP1 CP2 START END T => ok ANSWER`.
 use curve::CurveType;
-use listing::text::{
-    Outcome, Place, Single, Word, after, answers_single, call_among, decimal_at, single_at,
-};
-
-// A curve, and the place after it.
-#[derive(Clone, Copy)]
-pub enum Curve {
-    Bad,
-    Is(CurveType, usize),
-}
-
-pub fn run(s: &[u8], at: usize) -> Outcome {
-    match call_among(s, at, b"interpolate ") {
-        0 => interpolate(s, at),
-        _ => Outcome::Unknown,
-    }
-}
-
-// The Bezier curve of two controls.
-fn bezier_at(s: &[u8], at: usize) -> Curve {
-    let Single::Is(cp1, second) = single_at(s, at) else {
-        return Curve::Bad;
-    };
-    let Single::Is(cp2, next) = single_at(s, second) else {
-        return Curve::Bad;
-    };
-    Curve::Is(CurveType::Bezier(cp1, cp2), next)
-}
+use listing::text::{Field, Line, Outcome, Said};
 
 // A code from 00 to 21 and its controls, `- -` for every code but 05. 06 is none.
-pub fn curve_at(s: &[u8], at: usize) -> Curve {
-    let Word::Is(code, controls) = decimal_at(s, at) else {
-        return Curve::Bad;
-    };
-    if code == 5 {
-        return bezier_at(s, controls);
+#[derive(Clone, Copy)]
+pub struct Curve(pub CurveType);
+
+impl Field for Curve {
+    fn read(line: &mut Line<'_>) -> Option<Curve> {
+        match line.field::<u32>()? {
+            5 => {
+                let (cp1, cp2) = line.field()?;
+                Some(Curve(CurveType::Bezier(cp1, cp2)))
+            }
+            code @ (0..=4 | 7..=21) => {
+                line.past(b" - -")?;
+                Some(Curve(CurveType::from_code(code, 0.0, 0.0)))
+            }
+            _ => None,
+        }
     }
-    if code == 6 {
-        return Curve::Bad;
-    }
-    if 21 < code {
-        return Curve::Bad;
-    }
-    let Place::At(next) = after(s, controls, b" - -") else {
-        return Curve::Bad;
-    };
-    Curve::Is(CurveType::from_code(code as u32, 0.0, 0.0), next)
 }
 
-fn interpolate(s: &[u8], at: usize) -> Outcome {
-    let Curve::Is(curve, first) = curve_at(s, at) else {
-        return Outcome::Differs;
-    };
-    let Single::Is(start, second) = single_at(s, first) else {
-        return Outcome::Differs;
-    };
-    let Single::Is(end, third) = single_at(s, second) else {
-        return Outcome::Differs;
-    };
-    let Single::Is(t, next) = single_at(s, third) else {
-        return Outcome::Differs;
-    };
-    answers_single(s, next, curve.interpolate(start, end, t))
+impl Said for Curve {
+    fn is_said(&self, line: &mut Line<'_>) -> Option<()> {
+        self.0.code().is_said(line)?;
+        match self.0 {
+            CurveType::Bezier(cp1, cp2) => (cp1, cp2).is_said(line),
+            _ => line.past(b" - -"),
+        }
+    }
+}
+
+pub fn run(name: &[u8], line: Line<'_>) -> Option<Outcome> {
+    Some(match name {
+        b"interpolate" => {
+            line.gives(|(Curve(curve), start, (end, t))| curve.interpolate(start, end, t))
+        }
+        _ => return None,
+    })
 }

@@ -1,41 +1,43 @@
-// Our answer held against the line's, which stands after ` => `: `ok ..` or `refuse N`. `at` is the
-// place after the call.
-use listing::text::{Outcome, Place, Word, after, answers_single_as, decimal_after, ended};
-use lookup::Lookup;
-use points::refusal::{Compared, Refusal};
+// Our answer held against the line's, which stands after ` => `: `ok ..` or `refuse N`.
+use listing::text::{Line, Said};
+use points::refusal::Refusal;
 
-pub fn says_refusal(s: &[u8], at: usize, why: Refusal) -> Place {
-    let Word::Is(n, next) = decimal_after(s, at, b" => refuse ") else {
-        return Place::Nowhere;
-    };
-    if n == why.number() as u64 {
-        return Place::At(next);
-    }
-    Place::Nowhere
-}
+#[derive(Clone, Copy)]
+pub struct Refused(pub Refusal);
 
-pub fn answers_refusal(s: &[u8], at: usize, why: Refusal) -> Outcome {
-    ended(s, says_refusal(s, at, why))
-}
-
-pub fn answers_truth(s: &[u8], at: usize, truth: bool) -> Outcome {
-    if truth {
-        return ended(s, after(s, at, b" => ok 1"));
-    }
-    ended(s, after(s, at, b" => ok 0"))
-}
-
-pub fn answers_compared(s: &[u8], at: usize, answer: Compared) -> Outcome {
-    match answer {
-        Compared::Is(truth) => answers_truth(s, at, truth),
-        Compared::Refused(why) => answers_refusal(s, at, why),
+impl Said for Refused {
+    fn is_said(&self, line: &mut Line<'_>) -> Option<()> {
+        line.past(b" => refuse")?;
+        self.0.number().is_said(line)
     }
 }
 
-pub fn answers_lookup(s: &[u8], at: usize, answer: Lookup) -> Outcome {
-    match answer {
-        Lookup::Silent => ended(s, after(s, at, b" => ok none")),
-        Lookup::Value(v) => answers_single_as(s, at, b" => ok some", v),
-        Lookup::Refused(why) => answers_refusal(s, at, why),
+// A value, or a refusal.
+#[derive(Clone, Copy, Drop)]
+pub struct Answer<T>(pub Result<T, Refusal>);
+
+impl<T: Said> Said for Answer<T> {
+    fn is_said(&self, line: &mut Line<'_>) -> Option<()> {
+        match &self.0 {
+            Ok(value) => {
+                line.past(b" => ok")?;
+                value.is_said(line)
+            }
+            Err(why) => Refused(*why).is_said(line),
+        }
+    }
+}
+
+// What a lookup gives: `none`, or `some` and a value.
+#[derive(Clone, Copy)]
+pub struct Found(pub Option<f32>);
+
+impl Said for Found {
+    fn is_said(&self, line: &mut Line<'_>) -> Option<()> {
+        let Some(value) = self.0 else {
+            return line.past(b" none");
+        };
+        line.past(b" some")?;
+        value.is_said(line)
     }
 }

@@ -2,194 +2,155 @@
 // `open TARGET WORDS`, `edit NAME ARGUMENTS`, `commit E E OFFSET`, `back`, `forward`, `show`, `damage SLOT WORD`,
 // or `len WORDS` and one of those, with a step memory of another length. One session is open at a time.
 // The calls that alter nothing are in the crate listing_looks.
-use listing::text::{Name, Outcome, Place, Word, after, decimal_after, decimal_at, ended, find};
-use listing_edits::{EditField, JoinField, edit_at, join_at};
-use listing_envelopes::records::{envelope_at, says_envelope};
-use listing_looks::looks::look;
+use listing::text::{Line, Outcome, Said};
+use listing_edits::{edit, join};
+use listing_envelopes::records::Envelope;
+use listing_looks::looks::{STATE_WORDS, look};
 use listing_looks::words;
-use listing_points::answers::answers_refusal;
-use listing_tickets::commits::commit_at;
-use points::refusal::Answer;
-use session::{Session, SessionAnswer};
-
-// What a line comes to, and the session after it.
-#[derive(Clone, Copy)]
-pub struct Played {
-    pub outcome: Outcome,
-    pub session: Session,
-}
-
-fn stays(session: Session, outcome: Outcome) -> Played {
-    Played { outcome, session }
-}
+use listing_points::answers::Refused;
+use listing_tickets::asks::Three;
+use listing_tickets::commits::commit_twice;
+use points::refusal::Refusal;
+use session::Session;
 
 // The name that stands after a space, up to the next one or the line's end.
-fn name_at(s: &[u8], at: usize) -> Name {
-    let Place::At(from) = after(s, at, b" ") else {
-        return Name { from: at, to: at };
-    };
-    Name {
-        from,
-        to: find(s, from, b' '),
+fn name<'a>(line: &mut Line<'a>) -> &'a [u8] {
+    match line.past(b" ") {
+        Some(()) => line.before(b' '),
+        None => b"",
     }
 }
 
 // ---- answers
 
-fn says_session(s: &[u8], at: usize, session: Session) -> Place {
-    let envelope = session.envelope;
-    let Word::Is(kept, second) = decimal_after(s, at, b" => ok kept ") else {
-        return Place::Nowhere;
-    };
-    let Word::Is(ahead, third) = decimal_after(s, second, b" ahead ") else {
-        return Place::Nowhere;
-    };
-    if (kept == session.kept as u64) & (ahead == session.ahead as u64) {
-        return says_envelope(s, third, envelope);
-    }
-    Place::Nowhere
+// An open session's numbers and envelope.
+fn shows(line: &mut Line<'_>, session: &Session) -> Option<()> {
+    line.past(b" => ok kept")?;
+    session.kept.is_said(line)?;
+    line.past(b" ahead")?;
+    session.ahead.is_said(line)?;
+    line.says(&Envelope(session.envelope))
 }
 
-fn shown(s: &[u8], at: usize, session: Session) -> Played {
-    stays(session, ended(s, says_session(s, at, session)))
-}
-
-fn answered(s: &[u8], at: usize, r: SessionAnswer) -> Played {
-    let answer = r.answer;
-    let session = r.session;
+// What a call answered, and the session that it left.
+fn answers(line: &mut Line<'_>, session: &Session, answer: Result<(), Refusal>) -> Option<()> {
     match answer {
-        Answer::Accepted => shown(s, at, session),
-        Answer::Refused(why) => stays(session, answers_refusal(s, at, why)),
+        Ok(()) => shows(line, session),
+        Err(why) => line.says(&Refused(why)),
     }
 }
 
 // ---- calls; `memory` is what a call is lent
 
-fn open(s: &[u8], at: usize, session: Session, memory: &mut [u64]) -> Played {
-    let Word::Is(target, second) = decimal_at(s, at) else {
-        return stays(session, Outcome::Differs);
-    };
-    let Word::Is(words, next) = decimal_at(s, second) else {
-        return stays(session, Outcome::Differs);
-    };
-    if 4294967295 < target {
-        return stays(session, Outcome::Differs);
-    }
-    let words = words as usize;
+fn open(mut line: Line<'_>, session: &mut Session, memory: &mut [u64]) -> Option<()> {
+    let (target, words) = line.field::<(u32, usize)>()?;
     if memory.len() < words {
-        return stays(session, Outcome::Differs);
+        return None;
     }
-    words::mark(&mut *memory);
-    shown(s, next, Session::open(target as u32, &memory[0..words]))
+    words::mark(memory);
+    *session = Session::open(target, &memory[..words]);
+    shows(&mut line, session)
 }
 
-fn join(s: &[u8], name: Name, at: usize, session: Session, memory: &mut [u64]) -> Played {
-    let given = envelope_at(s, at);
-    let other = given.envelope;
-    let end = given.end;
-    let Place::At(second) = end else {
-        return stays(session, Outcome::Differs);
-    };
-    let JoinField::Is(join, next) = join_at(s, name, second) else {
-        return stays(session, Outcome::Differs);
-    };
-    answered(s, next, session.join(join, other, memory))
-}
-
-// `at` is the place before the edit's name.
-fn edit(s: &[u8], at: usize, session: Session, memory: &mut [u64]) -> Played {
-    let name = name_at(s, at);
-    let next = name.to;
-    let EditField::Is(edit, next) = edit_at(s, name, next) else {
-        return join(s, name, next, session, memory);
-    };
-    answered(s, next, session.edit(edit, memory))
+// An edit, or one with a second envelope.
+fn edited(mut line: Line<'_>, session: &mut Session, memory: &mut [u64]) -> Option<()> {
+    let name = name(&mut line);
+    let mut after = line;
+    if let Some(edit) = edit(name, &mut after) {
+        let answer = session.edit(edit, memory);
+        return answers(&mut after, session, answer);
+    }
+    let Envelope(other) = line.field()?;
+    let join = join(name, &mut line)?;
+    let answer = session.join(join, &other, memory);
+    answers(&mut line, session, answer)
 }
 
 // Made twice; both have to answer the line.
-fn commit(s: &[u8], at: usize, session: Session, memory: &mut [u64]) -> Played {
-    let twice = commit_at(s, at, session, memory);
-    let asked = twice.asked;
-    let made = twice.made;
-    let end = twice.end;
-    let Place::At(next) = end else {
-        return stays(session, Outcome::Differs);
-    };
-    let first = answered(s, next, asked);
-    let outcome = first.outcome;
-    let Outcome::Same = outcome else {
-        return first;
-    };
-    answered(s, next, made)
-}
-
-fn call(s: &[u8], name: Name, session: Session, memory: &mut [u64]) -> Played {
-    let at = name.to;
-    match name.among(s, b"back forward show edit commit ") {
-        0 => answered(s, at, session.back(memory)),
-        1 => answered(s, at, session.forward(memory)),
-        2 => shown(s, at, session),
-        3 => edit(s, at, session, memory),
-        4 => commit(s, at, session, memory),
-        _ => stays(session, Outcome::Unknown),
-    }
-}
-
-// A call with the first `words` words.
-fn call_with(s: &[u8], name: Name, session: Session, memory: &mut [u64], words: usize) -> Played {
-    if memory.len() < words {
-        return stays(session, Outcome::Differs);
-    }
-    call(s, name, session, &mut memory[0..words])
-}
-
-// A number of words, and a call with so many.
-fn call_with_length(s: &[u8], at: usize, session: Session, memory: &mut [u64]) -> Played {
-    let Word::Is(words, next) = decimal_at(s, at) else {
-        return stays(session, Outcome::Differs);
-    };
-    call_with(s, name_at(s, next), session, memory, words as usize)
+fn commit(mut line: Line<'_>, session: &mut Session, memory: &mut [u64]) -> Option<()> {
+    let Three(ticket) = line.field()?;
+    let (asked, made) = commit_twice(session, &ticket, memory)?;
+    let mut again = line;
+    *session = asked.session;
+    answers(&mut line, session, asked.answer)?;
+    *session = made.session;
+    answers(&mut again, session, made.answer)
 }
 
 // Sets all bits of a word of a stored state.
-fn damage(s: &[u8], at: usize, session: Session, memory: &mut [u64]) -> Played {
-    let Word::Is(slot, second) = decimal_at(s, at) else {
-        return stays(session, Outcome::Differs);
-    };
-    let Word::Is(word, next) = decimal_at(s, second) else {
-        return stays(session, Outcome::Differs);
-    };
-    if 1027 < word {
-        return stays(session, Outcome::Differs);
-    }
-    if memory.len() as u64 / 1028 <= slot {
-        return stays(session, Outcome::Differs);
-    }
-    let place = slot as usize * 1028 + word as usize;
-    memory[place] = u64::MAX;
-    shown(s, next, session)
+fn damage(mut line: Line<'_>, session: &Session, memory: &mut [u64]) -> Option<()> {
+    let (slot, word) = line.field::<(usize, usize)>()?;
+    *memory
+        .chunks_exact_mut(STATE_WORDS)
+        .nth(slot)?
+        .get_mut(word)? = u64::MAX;
+    shows(&mut line, session)
 }
 
-// A call with as many words as at the opening, or one that alters nothing.
-fn plain(s: &[u8], name: Name, session: Session, memory: &mut [u64]) -> Played {
-    let outcome = look(s, name, session, &*memory);
-    let Outcome::Unknown = outcome else {
-        return stays(session, outcome);
-    };
-    call_with(s, name, session, memory, session.length)
+fn call(
+    name: &[u8],
+    mut line: Line<'_>,
+    session: &mut Session,
+    memory: &mut [u64],
+) -> Option<Outcome> {
+    Some(Outcome::of(match name {
+        b"back" => {
+            let answer = session.back(memory);
+            answers(&mut line, session, answer)
+        }
+        b"forward" => {
+            let answer = session.forward(memory);
+            answers(&mut line, session, answer)
+        }
+        b"show" => shows(&mut line, session),
+        b"edit" => edited(line, session, memory),
+        b"commit" => commit(line, session, memory),
+        _ => return None,
+    }))
 }
 
-// The line of the open session.
-pub fn run(s: &[u8], session: Session, memory: &mut [u64]) -> Played {
-    let Place::At(start) = after(s, 0, b"session s") else {
-        return stays(session, Outcome::Unknown);
+// A call with the first `words` words.
+fn call_with(
+    name: &[u8],
+    line: Line<'_>,
+    session: &mut Session,
+    memory: &mut [u64],
+    words: usize,
+) -> Option<Outcome> {
+    if memory.len() < words {
+        return Some(Outcome::Differs);
+    }
+    call(name, line, session, &mut memory[..words])
+}
+
+// A number of words, and a call with so many.
+fn call_with_length(
+    mut line: Line<'_>,
+    session: &mut Session,
+    memory: &mut [u64],
+) -> Option<Outcome> {
+    let Some(words) = line.field() else {
+        return Some(Outcome::Differs);
     };
-    let name = name_at(s, start);
-    let at = name.to;
-    match name.among(s, b"open damage len ") {
-        0 => open(s, at, session, memory),
-        1 => damage(s, at, session, memory),
-        2 => call_with_length(s, at, session, memory),
-        _ => plain(s, name, session, memory),
+    let name = name(&mut line);
+    call_with(name, line, session, memory, words)
+}
+
+// A line `session s ..` of the open session; `line` is what comes after `session`.
+pub fn run(mut line: Line<'_>, session: &mut Session, memory: &mut [u64]) -> Option<Outcome> {
+    line.past(b" s")?;
+    let name = name(&mut line);
+    match name {
+        b"open" => Some(Outcome::of(open(line, session, memory))),
+        b"damage" => Some(Outcome::of(damage(line, session, memory))),
+        b"len" => call_with_length(line, session, memory),
+        // with as many words as at the opening
+        _ => look(name, line, session, memory).or_else(|| call_with(
+            name,
+            line,
+            session,
+            memory,
+            session.length,
+        )),
     }
 }

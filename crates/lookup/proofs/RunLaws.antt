@@ -1,12 +1,14 @@
--- A run of values: how long it is, cut in two, as a loop writes it over a list, and runs of functions that agree. Assumes nothing.
+-- A run of values: how long it is, cut in two, and as a loop writes it, place by place. Assumes nothing.
 use Prim.Native.Nat.{ℕ, zero, suc, ◌+◌, ◌-◌, ◌≤◌, ◌<◌, suc-le-suc, zero-le}
 use mathlib.Core.Path.{◌≡◌, refl, sym, ap, ap₂, ◌∙◌}
-use mathlib.Core.List.{List, [], ◌∷◌, ◌++◌, append_assoc, append-nil}
+use mathlib.Core.List.{List, [], ◌∷◌, ◌++◌}
+use mathlib.Core.Logic.{◌⊎◌, inl, inr}
+use Rattle.std.proofs.Common.{get_or-set_same, get_or-set_other}
 use native.Mathlib.Numerals.{add-one}
-use native.Mathlib.Nat.{add-suc, suc-add, add-zero, zero-add, le_of_suc-le-suc, not-suc-le-zero}
+use native.Mathlib.Nat.{add-suc, suc-add, add-zero, zero-add, le_of_suc-le-suc, not-suc-le-zero, eq-or-lt_of_le}
 use native.Mathlib.Omega.{arith}
-use lib.ListN.{length, get_or, take, drop, set, replicate, length-append, length-drop, drop_of_length-le}
-use lib.Seq.{drop-length, take_all, length-take-le, drop-cons, drop-drop, drop_at, take_at, set_at, append_snoc}
+use lib.ListN.{length, get_or, take, drop, set, replicate, length-drop}
+use lib.Seq.{length-take-le}
 use Rattle.lookup.specs.Runs.{run}
 
 module _ {A : Type 0} (f : ℕ → A) where
@@ -34,56 +36,29 @@ module _ {A : Type 0} (f : ℕ → A) where
   unfolding run
   run_one a = refl
 
-  -- written over a list's start, it leaves the list's length
-  pub run_over : (a i : ℕ) (o : List A) → i ≤ length o → length (run f a i ++ drop i o) ≡ length o
-  run_over a i o h = simp (length-append, length-drop) (omega (arith, run_long a i))
-
-  -- a turn of a loop that writes a run from a list's start
-  pub run_turn : (a i : ℕ) (o out : List A) (x : A) → i < length o → out ≡ run f a i ++ drop i o → x ≡ f (a + i)
-      → set out i x ≡ run f a (i + 1) ++ drop (i + 1) o
-  run_turn a i o out x h e w =
-      ap (λ (l : List A). set l i x) (e ∙ ap (λ (l : List A). run f a i ++ l) (drop-cons o i x h))
-      ∙ set_at (run f a i) _ (drop (suc i) o) x i (run_long a i)
-      ∙ ap (λ (y : A). run f a i ++ (y ∷ drop (suc i) o)) w
-      ∙ sym (append_snoc (run f a i) (f (a + i)) (drop (suc i) o))
-      ∙ ap₂ (λ (l : List A) (k : ℕ). l ++ drop k o) (sym (run_cut a i 1 ∙ ap (λ (l : List A). run f a i ++ l) (run_one (a + i)))) (sym (add-one i))
-
-  -- and of one that lends the places from i on to a writer of its next m values
-  pub run_part : (a i m : ℕ) (o out new : List A) → i ≤ length o → out ≡ run f a i ++ drop i o → new ≡ run f (a + i) m ++ drop m (take (length o - i) (drop i out))
-      → take i out ++ (new ++ drop (length o - i) (drop i out)) ≡ run f a (i + m) ++ drop (i + m) o
-  run_part a i m o out new h e w =
-      let long : length (drop i o) ≡ length o - i = length-drop i o in
-      let front : take i out ≡ run f a i = ap (take i) e ∙ take_at (run f a i) (drop i o) i (run_long a i) in
-      let rest : drop i out ≡ drop i o = ap (drop i) e ∙ drop_at (run f a i) (drop i o) i (run_long a i) in
-      let all : take (length o - i) (drop i out) ≡ drop i o = ap (take (length o - i)) rest ∙ take_all (length o - i) (drop i o) (omega arith) in
-      let none : drop (length o - i) (drop i out) ≡ [] = ap (drop (length o - i)) rest ∙ drop_of_length-le (drop i o) {i = length o - i} (omega arith) in
-      ap₂ (λ (l r : List A). l ++ (new ++ r)) front none
-      ∙ ap (λ (l : List A). run f a i ++ l) (append-nil new ∙ w ∙ ap (λ (l : List A). run f (a + i) m ++ drop m l) all)
-      ∙ ap (λ (l : List A). run f a i ++ (run f (a + i) m ++ l)) (drop-drop m i o)
-      ∙ sym (append_assoc (run f a i) (run f (a + i) m) (drop (i + m) o))
-      ∙ ap (λ (l : List A). l ++ drop (i + m) o) (sym (run_cut a i m))
-
-  -- where such a loop ends
-  pub run_end : (a i : ℕ) (o : List A) → i ≡ length o → run f a i ++ drop i o ≡ run f a (length o)
-  run_end a i o e = ap (λ (n : ℕ). run f a n ++ drop n o) e ∙ ap (λ (l : List A). run f a (length o) ++ l) (drop-length o) ∙ append-nil (run f a (length o))
-
-  -- values that are the same one by one
-  pub run_same : (g : ℕ → A) (a b n : ℕ) → ((i : ℕ) → i < n → f (a + i) ≡ g (b + i)) → run f a n ≡ run g b n
+  -- a list with each value at its place is the run
+  pub run_places : (a : ℕ) (l : List A) → ((k : ℕ) (d : A) → k < length l → get_or l k d ≡ f (a + k)) → l ≡ run f a (length l)
   unfolding run
-  run_same g a b zero h = refl
-  run_same g a b (suc n) h =
-      ap₂ (λ (x : A) (l : List A). x ∷ l)
-      (ap f (sym (add-zero a)) ∙ h zero (suc-le-suc zero-le) ∙ ap g (add-zero b))
-      (run_same g (suc a) (suc b) n (λ i s. ap f (suc-add a i ∙ sym (add-suc a i)) ∙ h (suc i) (suc-le-suc s) ∙ ap g (sym (suc-add b i ∙ sym (add-suc b i)))))
+  run_places a [] h = refl
+  run_places a (x ∷ l) h =
+      ap₂ (λ (y : A) (m : List A). y ∷ m)
+      (h zero x (suc-le-suc zero-le) ∙ ap f (add-zero a))
+      (run_places (suc a) l (λ k d s. h (suc k) d (suc-le-suc s) ∙ ap f (add-suc a k ∙ sym (suc-add a k))))
 
-pub run_constant : {A : Type 0} (v : A) (a n : ℕ) → run (λ i. v) a n ≡ replicate n v
-unfolding run
-run_constant v a zero = refl
-run_constant v a (suc n) = ap (λ (l : List _). v ∷ l) (run_constant v (suc a) n)
+  -- as a loop writes them: one more
+  pub place_next : (a : ℕ) (l : List A) (i : ℕ) (x : A) → i < length l → x ≡ f (a + i) → ((k : ℕ) (d : A) → k < i → get_or l k d ≡ f (a + k))
+      → (k : ℕ) (d : A) → k < i + 1 → get_or (set l i x) k d ≡ f (a + k)
+  place_next a l i x h e written k d s = go (eq-or-lt_of_le (le_of_suc-le-suc (rw add-one at s)))
+    where
+      go : (k ≡ i) ⊎ (k < i) → get_or (set l i x) k d ≡ f (a + k)
+      go (inl q) = rw q (get_or-set_same l i x d h ∙ e)
+      go (inr q) = get_or-set_other l i k x d (λ m. omega arith) ∙ written k d q
 
--- how long such a part is
-pub part_long : {A : Type 0} (i n : ℕ) (out : List A) → length out ≡ n → i ≤ n → length (take (n - i) (drop i out)) ≡ n - i
-part_long i n out e h = length-take-le (n - i) (drop i out) (simp length-drop (omega arith))
+  -- the same value everywhere
+  pub run_everywhere : (v : A) → ((k : ℕ) → f k ≡ v) → (a n : ℕ) → run f a n ≡ replicate n v
+  unfolding run
+  run_everywhere v h a zero = refl
+  run_everywhere v h a (suc n) = ap₂ (λ (y : A) (m : List A). y ∷ m) (h a) (run_everywhere v h (suc a) n)
 
 -- a part of n from a place on, as a call is lent it
 pub part_count : {A : Type 0} (at n : ℕ) (l : List A) → at + n ≤ length l → length (take (at + n - at) (drop at l)) ≡ n

@@ -1,6 +1,5 @@
 -- 01, "Lookup": by time, and by sample.
-use Rattle.std.specs.Prelude.{ℕ, ◌-◌, Bool, true, false, cond, List, [], ◌∷◌, length, get_or, ltb, leb, eqb, pos, Float}
-use Rattle.std.proofs.Math.Option.{Option, none, some, map}
+use Rattle.std.specs.Prelude.{ℕ, ◌-◌, Bool, true, false, cond, List, [], ◌∷◌, length, get_or, ltb, leb, eqb, pos, Float, Option, None, Some, option_map, unwrap_or}
 use Rattle.std.specs.Float.{binary32, binary64}
 use Rattle.std.specs.Float.Ieee.{sub, mul, div, lt, le, of_int, to_unsigned, of_bits}
 use Rattle.numbers.specs.Bounds.{zero64}
@@ -10,16 +9,12 @@ use Rattle.curve.specs.Curve.{interpolated}
 use Rattle.points.specs.Point.{any_point}
 use Rattle.points.specs.Points.{list_of, rising_by, time_key}
 use Rattle.points.specs.Search.{place_by}
-use Rattle.points.specs.Refusal.{Said, refuses, gives, number}
+use Rattle.points.specs.Refusal.{Said, refuses, gives}
 use Rattle.points.specs.declared.AutomationPoint.{AutomationPoint}
 use Rattle.points.specs.declared.Points.{Points}
-use Rattle.points.specs.declared.SamplePosition.{SamplePosition}
-use Rattle.points.specs.declared.SamplePosition.TheVariants as position
 use Rattle.limits.specs.Limits.{constrained}
 use Rattle.lookup.specs.Valid.{valid}
 use Rattle.limits.specs.declared.Limits.{Limits}
-use Rattle.lookup.specs.declared.Lookup.{Lookup}
-use Rattle.lookup.specs.declared.Lookup.TheVariants.{Silent, Value, Refused}
 
 -- the point at a place
 abbrev pub point_at : List AutomationPoint → ℕ → AutomationPoint
@@ -32,7 +27,7 @@ last_point l = point_at l (length l - 1)
 -- a search for the key k among n points ended at i, p being the point before and q the one at it: "at an inner point's own time .. both ends are that point";
 -- before the first and past the last there is none
 abbrev pub around : {A : Type 0} → (AutomationPoint → ℕ) → ℕ → (AutomationPoint → AutomationPoint → A) → ℕ → ℕ → AutomationPoint → AutomationPoint → Option A
-around key k give n i p q = cond (ltb i n) (cond (eqb (key q) k) (some (give q q)) (cond (ltb 0 i) (some (give p q)) none)) none
+around key k give n i p q = cond (ltb i n) (cond (eqb (key q) k) (Some (give q q)) (cond (ltb 0 i) (Some (give p q)) None)) None
 
 -- 000's search for the surrounding points, over any key
 unfoldable pub surrounded : {A : Type 0} → (AutomationPoint → ℕ) → ℕ → (AutomationPoint → AutomationPoint → A) → List AutomationPoint → Option A
@@ -42,11 +37,11 @@ surrounded key k give l = let i = place_by key k l in around key k give (length 
 -- both lookups, where `end` is what a point gives by itself: "empty is silent; one point gives its value"; of more points the first where `early` holds of it,
 -- the last where `late` does, else what is found between
 abbrev pub found : {A : Type 0} → (AutomationPoint → A) → (AutomationPoint → Bool) → (AutomationPoint → Bool) → Option A → List AutomationPoint → Option A
-found end early late inner [] = none
-found end early late inner (p ∷ []) = some (end p)
+found end early late inner [] = None
+found end early late inner (p ∷ []) = Some (end p)
 found end early late inner (p ∷ (q ∷ l)) =
     let last = last_point (q ∷ l) in
-    cond (early p) (some (end p)) (cond (late last) (some (end last)) inner)
+    cond (early p) (Some (end p)) (cond (late last) (Some (end last)) inner)
 
 -- a point's own value
 abbrev pub ended : AutomationPoint → Float
@@ -76,14 +71,9 @@ raw_at l time = found_at ended between l time
 
 -- ---- by sample
 
--- a position, or another number where there is none
-abbrev pub key_from : SamplePosition → ℕ → ℕ
-key_from position.None other = other
-key_from (position.At n) other = n
-
 -- "a point's key is its position, else time times 48000 cut to u64"
 abbrev pub sample_key : AutomationPoint → ℕ
-sample_key p = key_from p.sample_position (to_unsigned 64 (mul binary64 p.time (of_bits binary64 0x40E7_7000_0000_0000)))
+sample_key p = unwrap_or p.sample_position (to_unsigned 64 (mul binary64 p.time (of_bits binary64 0x40E7_7000_0000_0000)))
 
 -- "t is the quotient of two differences, each rounded to f32"
 unfoldable pub sample_fraction : ℕ → ℕ → ℕ → Float
@@ -99,7 +89,7 @@ between_samples sample p q = interpolated p.curve p.value q.value (sample_fracti
 -- "The start test takes 0 for a first point without a position, the search takes its key; samples between the two are silent."
 unfoldable pub found_at_sample : {A : Type 0} → (AutomationPoint → A) → (ℕ → AutomationPoint → AutomationPoint → A) → List AutomationPoint → ℕ → Option A
 unfolding surrounded
-found_at_sample end way l sample = found end (λ p. leb sample (key_from p.sample_position 0)) (λ p. leb (sample_key p) sample) (surrounded sample_key sample (way sample) l) l
+found_at_sample end way l sample = found end (λ p. leb sample (unwrap_or p.sample_position 0)) (λ p. leb (sample_key p) sample) (surrounded sample_key sample (way sample) l) l
 
 -- the lookup by sample before the constraints
 abbrev pub raw_at_sample : List AutomationPoint → ℕ → Option Float
@@ -109,8 +99,8 @@ raw_at_sample l sample = found_at_sample ended between_samples l sample
 
 -- "disabled .. is silent", and what is heard is constrained
 abbrev pub heard : Bool → Limits → Option Float → Option Float
-heard false limits raw = none
-heard true limits raw = map (constrained limits) raw
+heard false limits raw = None
+heard true limits raw = option_map (constrained limits) raw
 
 -- the lookup by time of a valid envelope
 abbrev pub value_at : Points → Bool → Limits → Float → Option Float
@@ -134,15 +124,3 @@ get_value_at_sample points enabled limits sample =
     cond (valid points limits)
     (cond (keys_rise points enabled) (gives (value_at_sample points enabled limits sample)) (refuses 7))
     (refuses 1)
-
--- a lookup's answer in 01's terms
-abbrev pub told : Lookup → Said (Option Float)
-told Silent = gives none
-told (Value v) = gives (some v)
-told (Refused r) = refuses (number r)
-
--- "Then constraints": an answer with its value constrained
-abbrev pub constrained_answer : Limits → Lookup → Lookup
-constrained_answer limits Silent = Silent
-constrained_answer limits (Value v) = Value (constrained limits v)
-constrained_answer limits (Refused r) = Refused r

@@ -1,60 +1,61 @@
 -- What is read, with the first bytes written for it. Assumes nothing.
+use Rattle.std.specs.Prelude.{Err, Ok}
 use Prim.Native.Nat.{ℕ, ◌≤◌, ◌<◌}
 use mathlib.Core.Path.{◌≡◌, refl, sym, ap, subst, ◌∙◌}
 use mathlib.Core.List.{List}
 use native.Mathlib.Omega.{arith}
+use native.Mathlib.Nat.{zero-add}
 use borrow.Author.Tests.{le-leb, lt-leb}
 use lib.ListN.{length}
-use Rattle.numbers.specs.Bounds.{zero64}
 use Rattle.points.specs.Refusal.{number}
-use Rattle.points.specs.declared.refusal.Refusal.{Refusal}
+use Rattle.points.specs.declared.refusal.Refusal.TheVariants.{TooManySamples}
 use Rattle.render.specs.Render.{sample_count, most_samples}
-use Rattle.envelope.specs.Envelope.{new}
 use Rattle.envelope.specs.declared.AutomationEnvelope.{AutomationEnvelope}
-use Rattle.sheet.specs.Sheet.{Input, declined, input, play_input}
-use Rattle.fields.specs.Told.{Put, Fitted}
-use Rattle.sheet.specs.Told.{input_by, told_input}
-use Rattle.sheet.specs.declared.read.SheetAnswer.{SheetAnswer}
-use Rattle.sheet.specs.declared.read.SheetAnswer.TheVariants.{Accepted, Refused}
+use Rattle.lines.specs.declared.SheetRefusal.{SheetRefusal}
 use Rattle.lines.specs.declared.block.Block.{Block}
-use Rattle.sheet.specs.declared.play.PlayInput.{PlayInput}
-use Rattle.fields.proofs.Stores.{put_fits}
+use Rattle.sheet.specs.Sheet.{Input, declined, input}
+use Rattle.fields.specs.Told.{Put, Fitted}
+use Rattle.fields.proofs.Stores.{put_fits, put_all}
 use Rattle.play.specs.Play.{sample_names, refusal_text, counted}
-use Rattle.play.specs.Blocks.{first_text, first_play, Opens}
-use Rattle.play.specs.declared.Opened.{Opened}
-use Rattle.play.proofs.Texts.{refusal_length, opens}
+use Rattle.play.specs.Blocks.{first_text, first_play, Leaves, Opens}
+use Rattle.play.specs.declared.Play.{Play}
+use Rattle.play.proofs.Texts.{refusal_length}
 
--- a refusal
-pub refused_opens : (n k : ℕ) {e : AutomationEnvelope} {out m : List ℕ} {b : ℕ} → e ≡ new 0 → Put out 0 (refusal_text n k) m b → 35 ≤ length out
-    → Opens (declined n k) out (record { bytes = b; play = record { envelope = e; rate = zero64; count = 0; next = 0 } }) m
-unfolding first_text first_play
-refused_opens n k {e} q p h =
-    opens (declined n k) p (omega (arith, refusal_length n k)) refl (ap (λ (d : AutomationEnvelope). record { envelope = d; rate = zero64; count = 0; next = 0 }) q)
+-- ---- what is to be played: the input's refusal, too many samples, or as many as it counts
 
-module _ (l : List ℕ) (r : PlayInput) (told : told_input r ≡ play_input l) where
-  block : Block
-  block = record { rate = r.rate; duration = r.duration }
+module _ (i : Input) where
+  pub refused_leaves : (e : SheetRefusal) → declined (number e.refusal) e.line ≡ i → Leaves (counted i) (Err e)
+  unfolding counted
+  refused_leaves e q = rw (← q) (refl, refl)
 
-  by : (a : SheetAnswer) → r.answer ≡ a → play_input l ≡ input_by a r.envelope block
-  unfolding told_input block
-  by a q = sym told ∙ ap (λ (x : SheetAnswer). input_by x r.envelope block) q
-
-  module _ {out m : List ℕ} where
-    -- a line of the input is refused
-    pub refused_is : {n : Refusal} {k : ℕ} {x : Opened} → r.answer ≡ Refused n k → Opens (declined (number n) k) out x m → Opens (counted (play_input l)) out x m
+  module _ (e : AutomationEnvelope) (b : Block) (q : input e b ≡ i) (n : ℕ) (s : n ≡ sample_count b.rate b.duration) where
+    pub many_leaves : most_samples < n → Leaves (counted i) (Err (record { refusal = TooManySamples; line = 0 }))
     unfolding counted
-    refused_is {n} {k} {x} q o = subst (λ (i : Input). Opens (counted i) out x m) (sym (by (Refused n k) q)) o
+    many_leaves h = let t = lt-leb (sample_count b.rate b.duration) most_samples (rw s at h) in rw (← q, t) (refl, refl)
 
-    module _ (a : r.answer ≡ Accepted) (n : ℕ) (e : n ≡ sample_count r.rate r.duration) where
-      -- too many samples
-      pub many_opens : {x : Opened} → most_samples < n → Opens (declined 13 0) out x m → Opens (counted (play_input l)) out x m
-      unfolding counted block
-      many_opens {x} h o = subst (λ (i : Input). Opens (counted i) out x m) (sym (by Accepted a)) (rw (lt-leb (sample_count r.rate r.duration) most_samples (omega arith)) o)
+    pub few_leaves : n ≤ most_samples → Leaves (counted i) (Ok (record { envelope = e; rate = b.rate; count = n; next = 0 }))
+    unfolding counted first_play
+    few_leaves h = let t = le-leb (sample_count b.rate b.duration) most_samples (rw s at h) in rw (← q, t, s)
 
-      pub few_opens : {b : ℕ} → n ≤ most_samples → Fitted out 0 sample_names m b → 13 ≤ length out
-          → Opens (counted (play_input l)) out (record { bytes = b; play = record { envelope = r.envelope; rate = r.rate; count = n; next = 0 } }) m
-      unfolding counted block first_text first_play
-      few_opens {b} h f k =
-          subst (λ (i : Input). Opens (counted i) out (record { bytes = b; play = record { envelope = r.envelope; rate = r.rate; count = n; next = 0 } }) m) (sym (by Accepted a))
-          (rw (le-leb (sample_count r.rate r.duration) most_samples (omega arith))
-          (opens (input r.envelope block) (put_fits f (omega arith)) (omega arith) refl (ap (λ (j : ℕ). record { envelope = r.envelope; rate = r.rate; count = j; next = 0 }) e)))
+-- ---- the first bytes
+
+module _ {out m : List ℕ} {n : ℕ} where
+  pub names_open : (i : Input) (p : Play) → Leaves i (Ok p) → Fitted out 0 sample_names m n → 13 ≤ length out → Opens i out (record { bytes = n; play = Ok p }) m
+  unfolding first_text
+  names_open (declined k l) p h f r = absurd h
+  names_open (input e b) p h f r =
+      let q = put_fits f (omega arith) in
+      record { bytes = q.next ∙ zero-add (length sample_names); play = h; lent = put_all out sample_names m n q (omega arith) }
+
+  pub refusal_opens : (i : Input) (e : SheetRefusal) → Leaves i (Err e) → Put out 0 (refusal_text (number e.refusal) e.line) m n → 35 ≤ length out
+      → Opens i out (record { bytes = n; play = Err e }) m
+  unfolding first_text
+  refusal_opens (declined k l) e h q r =
+      let t = refusal_text (number e.refusal) e.line in
+      let same : t ≡ refusal_text k l = rw (h.0, h.1) in
+      record {
+        bytes = q.next ∙ zero-add (length t) ∙ ap length same;
+        play = h;
+        lent = rw same at (put_all out t m n q (omega (arith, refusal_length (number e.refusal) e.line)));
+      }
+  refusal_opens (input a b) e h q r = cc

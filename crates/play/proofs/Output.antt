@@ -65,7 +65,7 @@ blocks_are_left (suc n) p out h e = on (ltb p.next p.count) refl (λ q. blocks_a
 
 -- an empty play
 nothing : (n k : ℕ) → Playable (first_play (declined n k))
-unfolding first_play new valid_points every rising_by finite of_bits code
+unfolding first_play new valid_points rising_by finite of_bits code
 nothing n k = record { valid = refl; rated = refl; few = omega arith; begun = omega arith }
 
 -- what is read can be played

@@ -7,7 +7,6 @@ use native.Mathlib.Nat.{add-zero, sub-zero, add-suc, suc-add}
 use native.Mathlib.Omega.{arith}
 use lib.ListN.{length, drop}
 use lib.Ieee.{Float, binary64, of_bits}
-use Rattle.lines.proofs.Reading.{no_line}
 use Rattle.numbers.specs.Bounds.{finite}
 use Rattle.points.specs.Refusal.{gives}
 use Rattle.lookup.specs.Runs.{run}
@@ -88,11 +87,11 @@ rate_finite l b rest = on (block_form l)
     meaning : (r : RawBlock) (m : List ℕ) (s : Bool) → finite (of_bits binary64 r.rate) ≡ s → (t : Bool)
         → meant m (check s 3 (check t 3 (gives (record { rate = of_bits binary64 r.rate; duration = of_bits binary64 r.duration })))) ≡ line b rest → finite b.rate ≡ true
     meaning r m true e true q = let k : b ≡ record { rate = of_bits binary64 r.rate; duration = of_bits binary64 r.duration } = cc in rw k e
-    meaning r m true e false q = no_line q
-    meaning r m false e t q = no_line q
+    meaning r m true e false q = cc
+    meaning r m false e t q = cc
 
     on : (x : Got RawBlock) → line_of block_meaning x ≡ line b rest → finite b.rate ≡ true
-    on bad q = no_line q
+    on bad q = cc
     on (got r m) q = meaning r m (finite (of_bits binary64 r.rate)) refl (finite (of_bits binary64 r.duration)) q
 
 -- what is read is a valid envelope and a finite rate

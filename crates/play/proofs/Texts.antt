@@ -3,21 +3,16 @@ use Prim.Native.Nat.{ℕ, suc, ◌+◌, ◌*◌, ◌≤◌, ◌<◌}
 use mathlib.Core.Path.{◌≡◌, ap, ◌∙◌}
 use mathlib.Core.List.{List, [], ◌∷◌, ◌++◌, append-nil}
 use native.Mathlib.Numerals.{add-one}
-use native.Mathlib.Nat.{zero-add}
 use native.Mathlib.Omega.{arith}
 use lib.Ieee.{Float, binary32, to_bits}
 use lib.ListN.{length, take, get_or, length-append}
 use lib.Seq.{take-suc, length-take-le}
 use Rattle.fields.specs.Text.{places_of, number_text, decimal_text}
-use Rattle.sheet.specs.Sheet.{Input, declined, input}
 use Rattle.fields.specs.Told.{Put, Fitted}
 use Rattle.fields.proofs.Stores.{length-number, put_length, put_then, put_fits}
 use Rattle.fields.proofs.Places.{places_le}
-use Rattle.fields.proofs.Stores.{put_all}
 use Rattle.play.specs.Play.{sample_line, sample_lines, refusal_names, refusal_text}
-use Rattle.play.specs.Blocks.{first_text, first_play, Opens}
 use Rattle.play.proofs.OutputLaws.{lines_append}
-use Rattle.play.specs.declared.Opened.{Opened}
 
 -- ---- lengths
 
@@ -77,19 +72,8 @@ module _ (first i : ℕ) (xs : List Float) (d : Float) (h : i < length xs) where
       ∙ ap (λ (l : List ℕ). sample_lines first (take i xs) ++ l) (lines_one (first + i) (get_or xs i d))
 
   module _ {l b : List ℕ} {at : ℕ} (p : Put l 0 (sample_lines first (take i xs)) b at) where
-    pub line_room : (n : ℕ) → i < n → 20 * n ≤ length l → at + 20 ≤ length b
-    line_room n k e = omega (arith, p.next, put_length p, lines_length first (take i xs), taken)
+    pub line_room : 20 * length xs ≤ length l → at + 20 ≤ length b
+    line_room e = omega (arith, p.next, put_length p, lines_length first (take i xs), taken)
 
     pub line_put : {c : List ℕ} {m : ℕ} → Put b at (sample_line (first + i) (get_or xs i d)) c m → Put l 0 (sample_lines first (take (i + 1) xs)) c m
     line_put q = rw lines_more (put_then p q)
-
--- ---- the first bytes
-
-pub opens : (i : Input) {out m : List ℕ} {n : ℕ} {r : Opened} → Put out 0 (first_text i) m n → length (first_text i) ≤ length out → r.bytes ≡ n → r.play ≡ first_play i
-    → Opens i out r m
-opens i {out} {m} {n} p h b q = record { bytes = b ∙ p.next ∙ zero-add (length (first_text i)); play = q; lent = put_all out (first_text i) m n p h }
-
-pub first_length : (i : Input) → length (first_text i) ≤ 35
-unfolding first_text
-first_length (declined n k) = refusal_length n k
-first_length (input e b) = omega arith

@@ -1,11 +1,12 @@
 -- The output in blocks: first the names or the refusal, then lines of samples, so many at a time.
-use Rattle.std.specs.Prelude.{ℕ, zero, suc, ◌+◌, ◌-◌, min, ◌≡◌, cond, List, [], ◌++◌, ltb, leb, length, take, drop}
+use Rattle.std.specs.Prelude.{ℕ, zero, suc, ◌+◌, ◌-◌, min, ◌≡◌, cond, List, [], ◌++◌, ltb, leb, length, take, drop, Result, Ok, IsErrAnd}
 use Rattle.numbers.specs.Bounds.{zero64, finite}
-use Rattle.points.specs.Refusal.{Said, refuses, gives}
+use Rattle.points.specs.Refusal.{number, Said, refuses, gives}
 use Rattle.lookup.specs.Runs.{run}
 use Rattle.render.specs.Render.{sample_count, most_samples}
 use Rattle.envelope.specs.Envelope.{new, valid_envelope}
 use Rattle.envelope.specs.Calls.{samples_of}
+use Rattle.lines.specs.declared.SheetRefusal.{SheetRefusal}
 use Rattle.sheet.specs.Sheet.{Input, declined, input}
 use Rattle.play.specs.Play.{sample_names, refusal_text, sample_lines}
 use Rattle.play.specs.declared.Play.{Play}
@@ -27,10 +28,15 @@ unfoldable pub first_play : Input → Play
 first_play (declined n k) = record { envelope = new 0; rate = zero64; count = 0; next = 0 }
 first_play (input e b) = record { envelope = e; rate = b.rate; count = sample_count b.rate b.duration; next = 0 }
 
+-- what a call gives to be played: the refusal, or what is left after the names
+abbrev pub Leaves : Input → Result Play SheetRefusal → Type 0
+Leaves (declined n k) r = IsErrAnd r (λ e. (number e.refusal ≡ n) × (e.line ≡ k))
+Leaves (input e b) r = r ≡ Ok (first_play (input e b))
+
 -- an opened play, and the lent bytes after it
 pub record Opens (i : Input) (out : List ℕ) (r : Opened) (m : List ℕ) : Type 0 where
   pub bytes : r.bytes ≡ length (first_text i)
-  pub play : r.play ≡ first_play i
+  pub play : Leaves i r.play
   pub lent : m ≡ over (first_text i) out
 
 -- the bytes that opening writes

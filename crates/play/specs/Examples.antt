@@ -1,5 +1,4 @@
 -- 01's example of "The sheet", played, and refusals printed.
-use Rattle.std.specs.Float.{round_with}
 use Rattle.std.specs.Prelude.{ℕ, ◌≡◌, refl, List, [], ◌∷◌, ◌++◌, map}
 use Prim.Native.String.{String}
 use Rattle.std.specs.Float.Ieee.{of_bits, to_bits, to_unsigned, of_int, round, add, sub, mul, div, lt, le, is_nan}
@@ -14,11 +13,12 @@ use Rattle.limits.specs.Limits.{constrained}
 use Rattle.lookup.specs.Lookup.{surrounded, fraction, found_at}
 use Rattle.lookup.specs.Runs.{run}
 use Rattle.fields.specs.Form.{text, starts_with, next_is, read_digits, number_form, optional_form, decimals, next_digit, target_form}
-use Rattle.lines.specs.Lines.{settings_form, limit_of, finite_bits, settings_meaning, settings_line, controls_form, point_form, position_of, point_meaning, point_line, block_form, block_meaning, block_line}
+use Rattle.lines.specs.Lines.{settings_form, limit_of, finite_bits, settings_meaning, settings_line, controls_form, point_form, point_meaning, point_line, block_form, block_meaning, block_line}
 use Rattle.lines.specs.PointLines.{is_empty, points_end, point_lines}
 use Rattle.sheet.specs.Sheet.{sheet_lines, play_input}
 use Rattle.fields.specs.Text.{digit_byte, digits_of, places_of}
 use Rattle.play.specs.Play.{sample_line, sample_lines, refusal_text, counted, printed, output}
+use Rattle.std.specs.Float.{round_with}
 
 -- 01's input, "01's example gains a 0" (F-1), with a line of rate and duration
 abbrev sheet : List ℕ
@@ -50,5 +50,5 @@ cases =
     ∷ []
 
 pub cases_hold : map (λ c. output c.0) cases ≡ map (λ c. c.1) cases
-unfolding output printed counted refusal_text sample_lines sample_line digit_byte digits_of places_of run play_input sheet_lines point_lines points_end is_empty starts_with next_is read_digits number_form optional_form decimals next_digit target_form settings_form limit_of finite_bits settings_meaning settings_line controls_form point_form position_of point_meaning point_line block_form block_meaning block_line finite of_bits to_bits order_key rising_by curve_of valid_points every found_at surrounded place_by fraction constrained min_num round_with finite_controls controls code narrow interpolated eased to_unsigned of_int round add sub mul div lt le is_nan
+unfolding output printed counted refusal_text sample_lines sample_line digit_byte digits_of places_of run play_input sheet_lines point_lines points_end is_empty starts_with next_is read_digits number_form optional_form decimals next_digit target_form settings_form limit_of finite_bits settings_meaning settings_line controls_form point_form point_meaning point_line block_form block_meaning block_line finite of_bits to_bits order_key rising_by curve_of valid_points found_at surrounded place_by fraction constrained min_num round_with finite_controls controls code narrow interpolated eased to_unsigned of_int round add sub mul div lt le is_nan
 cases_hold = refl

@@ -1,45 +1,18 @@
 // Reads a sheet and a block of rate and duration from standard input, and prints the samples.
 #![tactic(auto)]
 
-ghost use Rattle.std.specs.Prelude.{◌≡◌, ◌+◌, true, ◌<◌, ◌≤◌, length, take};
+ghost use Rattle.std.specs.Prelude.{◌≡◌, true, ◌<◌, ◌≤◌, length};
 
 use play::Play;
-use sheet::write::Written;
 use std::io;
 
-// Whether to go on, and what is left to play.
-#[derive(Clone, Copy)]
-struct Turn {
-    on: bool,
-    play: Play,
-}
-
-// Room for the input: no more than this is read, and its first 16,543 bytes decide every answer.
-fn room() -> [u8; 16640]
-    ensures { 16640 ≡ length result }
-{
-    [0; 16640]
-}
-
-// One read, to the buffer's places from `held` on; how many bytes came. A read that failed gives none.
-fn read_after(input: &mut impl io::Read, buf: &mut [u8], held: usize) -> usize
-    requires { held ≤ length buf.old }
-    ensures { held + result ≤ length buf.new }
-{
-    match input.read(&mut buf[held..]) {
-        Ok(n) => n,
-        Err(_) => 0,
-    }
-}
-
-// Reads until the buffer is full, the input ends or a read fails; how many bytes it holds then.
+// Reads until the buffer is full, the input ends or a read fails; how many bytes it holds then. A `while`: a read gives any number of bytes.
 fn read_full(input: &mut impl io::Read, buf: &mut [u8]) -> usize
-    ensures in_bounds { result ≤ length buf.new }
-    ensures prefix { result ≡ length (take result buf.new) }
+    ensures { result ≤ length buf.new }
 {
-    let mut held: usize = 0;
+    let mut held = 0;
     while held < buf.len() {
-        let n = read_after(input, buf, held);
+        let n = input.read(&mut buf[held..]).unwrap_or(0);
         if n == 0 {
             break;
         }
@@ -48,57 +21,46 @@ fn read_full(input: &mut impl io::Read, buf: &mut [u8]) -> usize
     held
 }
 
-// Whether the output took the first n bytes.
-fn print(to: &impl Print, out: &mut [u8], n: usize) -> bool
-    requires { n ≤ length out.old }
-{
-    to.write_all(&out[..n]).is_ok()
+// Whether the output took the bytes.
+fn print(to: &impl Print, bytes: &[u8]) -> bool {
+    to.write_all(bytes).is_ok()
 }
 
-// Prints the next block of samples.
-fn print_block(to: &impl Print, play: Play, out: &mut [u8; 20480]) -> Turn
-    ensures { result.on ≡ true → play.next < play.count → (result.play.count ≡ play.count) × (play.next < result.play.next) }
+// Prints the next block of samples; whether to go on.
+#[tactic(auto, using(play::proofs::Blocks::moved, play::proofs::Blocks::moves_on))]
+fn print_block(to: &impl Print, play: &mut Play, out: &mut [u8; 20480]) -> bool
+    ensures { result ≡ true → play.old.next < play.old.count → (play.new.count ≡ play.old.count) × (play.old.next < play.new.next) }
 {
-    let piece = play::next_block(play, &mut *out);
-    let left = piece.play;
-    let written = piece.written;
-    match written {
-        Written::Refused(_) => Turn {
-            on: false,
-            play: left,
-        },
-        Written::Bytes(n) => Turn {
-            on: print(to, &mut *out, n),
-            play: left,
-        },
+    match play::next_block(play, out) {
+        Ok(n) => print(to, &out[..n]),
+        Err(_) => false,
     }
 }
 
-// Prints block after block, until all is played or the output takes no more.
-fn print_blocks(to: &impl Print, play: Play, out: &mut [u8; 20480]) {
-    let mut left = play;
-    while left.next < left.count {
-        let turn = print_block(to, left, &mut *out);
-        if !turn.on {
+// Prints block after block, until all is played or the output takes no more. A `while`: what is left to play says when it ends.
+fn print_blocks(to: &impl Print, mut play: Play, out: &mut [u8; 20480]) {
+    while play.next < play.count {
+        if !print_block(to, &mut play, out) {
             return;
         }
-        let next = turn.play;
-        left = next;
     }
 }
 
 // Prints all that the input gives.
 fn print_play(to: &impl Print, s: &[u8], out: &mut [u8; 20480]) {
-    let opened = play::open(s, &mut *out);
-    let play = opened.play;
-    if print(to, &mut *out, opened.bytes) {
-        print_blocks(to, play, &mut *out);
+    let opened = play::open(s, out);
+    if !print(to, &out[..opened.bytes]) {
+        return;
+    }
+    if let Ok(play) = opened.play {
+        print_blocks(to, play, out);
     }
 }
 
 fn main(rt: HostRuntime) {
-    let mut input = room();
+    // no more is read, and the first 16,543 bytes decide every answer
+    let mut input = [0; 16640];
     let n = read_full(&mut rt.stdin(), &mut input);
-    let mut out = [0u8; 20480];
+    let mut out = [0; 20480];
     print_play(&rt.stdout(), &input[..n], &mut out);
 }

@@ -24,7 +24,6 @@ abbrev pub time_fits : AutomationPoint → Bool
 time_fits p = fits binary64 p.time
 
 each_fits : (xs : List AutomationPoint) (us : List Val) → shadow (each the_row.Denot the_row.own_val xs us) → every time_fits xs ≡ true
-unfolding every
 each_fits [] us s = refl
 each_fits (x ∷ xs) [] s = absurd s
 each_fits (x ∷ xs) (u ∷ us) s = and_both s.0.1.1.0.1 (each_fits xs us s.1)
@@ -36,8 +35,3 @@ module _ (ps : Points) (vs : List Val) (g : Is (row the_type) ps vs) where
   -- those of the points
   pub times_fit : every time_fits (list_of ps) ≡ true
   times_fit = every_take time_fits ps.count ps.places places_fit
-
-  -- that of any place, and of one past the end
-  pub time-fits : (j : ℕ) → T (fits binary64 (get_or ps.places j any_point).time)
-  unfolding fits
-  time-fits j = yes (every_get_d time_fits ps.places j any_point refl places_fit)

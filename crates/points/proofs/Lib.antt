@@ -8,6 +8,9 @@ pub mod Laws
 pub mod ValidLaws
 pub mod FloatLaws
 pub mod SearchLaws
+pub mod SliceLaws
 pub mod MiddleLaws
+pub mod WindowLaws
+pub mod BuildLaws
 -- What the proofs of several functions cite.
 pub mod Floats

@@ -1,42 +1,32 @@
 -- What validity tells of points, and which lists give valid ones. Assumes nothing.
-use Prim.Native.Nat.{ℕ, zero, suc, ◌-◌, ◌≤◌, ◌+◌, ◌<◌}
+use Rattle.std.specs.Prelude.{None, Option, Some, is_none}
+use Prim.Native.Nat.{ℕ, min, ◌-◌, ◌≤◌, ◌+◌, ◌<◌}
 use mathlib.Core.Path.{◌≡◌, refl, sym, ap, ◌∙◌}
 use mathlib.Core.Bool.{Bool, true, false, ◌&&◌, false≢true, and-true}
 use mathlib.Core.List.{List, [], ◌∷◌, ◌++◌}
 use native.Mathlib.Omega.{arith}
-use borrow.Author.Tests.{leb-true}
-use lib.Dec.{leb, eqb-suc-zero}
-use lib.IntN.{pos, negsuc}
-use lib.Ieee.{Float, nan, inf, fin, binary32, binary64, of_bits}
+use borrow.Author.Tests.{leb-true, ltb-true, ltb-false, le-ltb}
+use lib.Dec.{leb, ltb}
+use lib.Ieee.{binary32, binary64, of_bits}
 use lib.ListN.{length, replicate, length-drop, take-append-drop, set, length-append, length-take}
-use lib.Seq.{take-append_seam, drop-append_seam, length-take-le}
+use lib.Seq.{take-append_seam, drop-append_seam, length-take-le, take_all, take-append-le}
 use Rattle.numbers.proofs.BitLaws.{zero_bits}
 use Rattle.numbers.proofs.Tests.{and_left, and_right}
 use Rattle.numbers.specs.Bounds.{finite}
 use Rattle.curve.specs.Curve.{is_linear, code, controls, finite_controls}
 use Rattle.curve.proofs.Laws.{linear_is}
+use Rattle.points.proofs.Floats.{zero_is}
 use Rattle.points.proofs.Laws.{every_replicate, set_next}
-use Rattle.points.specs.Point.{unused, is_plus_zero, is_none, is_unused, finite_point}
-use Rattle.points.specs.Points.{list_of, rest_of, holding, every, rising, valid_points}
-use Rattle.points.specs.declared.SamplePosition.{SamplePosition}
-use Rattle.points.specs.declared.SamplePosition.TheVariants as position
+use Rattle.points.specs.Point.{unused, is_plus_zero, is_unused, finite_point}
+use Rattle.points.specs.Points.{list_of, rest_of, holding, fitting, with_more, every, rising, valid_points}
 use Rattle.points.specs.declared.AutomationPoint.{AutomationPoint}
 use Rattle.points.specs.declared.Points.{Points}
 
 -- ---- a place that passes the test for an unused one is the unused one
 
-zero_is : (x : Float) → is_plus_zero x ≡ true → x ≡ fin false 0 (pos 0)
-zero_is nan h = absurd (false≢true h)
-zero_is (inf s) h = absurd (false≢true h)
-zero_is (fin true m e) h = absurd (false≢true h)
-zero_is (fin false zero (pos zero)) h = refl
-zero_is (fin false zero (pos (suc k))) h = absurd (false≢true (sym (eqb-suc-zero k) ∙ h))
-zero_is (fin false zero (negsuc k)) h = absurd (false≢true h)
-zero_is (fin false (suc m) e) h = absurd (false≢true (sym (eqb-suc-zero m) ∙ and_left _ _ h))
-
-none_is : (x : SamplePosition) → is_none x ≡ true → x ≡ position.None
-none_is position.None h = refl
-none_is (position.At n) h = absurd (false≢true h)
+none_is : (x : Option ℕ) → is_none x ≡ true → x ≡ None
+none_is None h = refl
+none_is (Some n) h = absurd (false≢true h)
 
 unused_is : (p : AutomationPoint) → is_unused p ≡ true → p ≡ unused
 unused_is p h =
@@ -50,7 +40,6 @@ unused_is p h =
     }
 
 every_unused : (l : List AutomationPoint) → every is_unused l ≡ true → l ≡ replicate (length l) unused
-unfolding every
 every_unused [] h = refl
 every_unused (p ∷ l) h = λ i. unused_is p (and_left (is_unused p) (every is_unused l) h) i ∷ every_unused l (and_right (is_unused p) (every is_unused l) h) i
 
@@ -133,10 +122,6 @@ holding_valid l =
     ∙ ap (λ (b : Bool). every finite_point l && rising l && b) (ap (every is_unused) (rest_of_holding l) ∙ unused_every (256 - length l))
     ∙ and-true (every finite_point l && rising l))
 
--- no more points than there are places
-pub list_of_few : (ps : Points) → length ps.places ≡ 256 → length (list_of ps) ≤ 256
-list_of_few ps len = omega (arith, length-take ps.count ps.places)
-
 -- a loop that builds points anew: one more
 pub pushed : (out : Points) (l : List AutomationPoint) (p : AutomationPoint) → length l < 256 → out ≡ holding l
     → ◌≡◌ {A = Points} (record { count = out.count + 1; places = set out.places out.count p }) (holding (l ++ (p ∷ [])))
@@ -144,3 +129,36 @@ pushed out l p h o =
     let n : length l + 1 ≡ length (l ++ (p ∷ [])) = sym (length-append l (p ∷ [])) in
     ap (λ (x : Points). record { count = x.count + 1; places = set x.places x.count p }) o
     ∙ (λ i. record { count = n i; places = set_next l unused p (256 - length l) (256 - length (l ++ (p ∷ []))) (omega arith) i })
+
+-- ---- a list, as far as there are places for it
+
+-- there are for all of it
+pub fitting_all : (l : List AutomationPoint) → length l ≤ 256 → fitting l ≡ l
+unfolding fitting
+fitting_all l h = take_all 256 l h
+
+-- there are for no more
+fitting_front : (l m : List AutomationPoint) → 256 ≤ length l → fitting (l ++ m) ≡ fitting l
+unfolding fitting
+fitting_front l m h = take-append-le 256 l m h
+
+fitting_length : (l : List AutomationPoint) → length (fitting l) ≡ min 256 (length l)
+unfolding fitting
+fitting_length l = length-take 256 l
+
+-- one more behind what fits
+pub more_fitting : (l : List AutomationPoint) (p : AutomationPoint) → with_more (holding (fitting l)) p ≡ holding (fitting (l ++ (p ∷ [])))
+more_fitting l p = go (ltb (length l) 256) refl
+  where
+    go : (b : Bool) → ltb (length l) 256 ≡ b → with_more (holding (fitting l)) p ≡ holding (fitting (l ++ (p ∷ [])))
+    go true h =
+        let few = ltb-true (length l) 256 h in
+        rw (fitting_all l (omega arith), fitting_all (l ++ (p ∷ [])) (omega (arith, length-append l (p ∷ []))), h) (pushed (holding l) l p few refl)
+    go false h =
+        let many = ltb-false (length l) 256 h in
+        let full : ltb (length (fitting l)) 256 ≡ false = le-ltb _ _ (omega (arith, fitting_length l)) in
+        rw (fitting_front l (p ∷ []) many, full)
+
+-- valid points have a place each
+pub held_few : (ps : Points) → valid_points ps ≡ true → holding (list_of ps) ≡ ps → length (list_of ps) ≤ 256
+held_few ps v h = omega (arith, valid_count ps v, ap (λ (x : Points). x.count) h)

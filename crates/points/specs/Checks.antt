@@ -1,9 +1,6 @@
 -- 01, "What the player declines", its order: checks in a row, of which the first that fails refuses.
-use Rattle.std.specs.Prelude.{Bool, cond, List, [], ◌∷◌}
-use Rattle.std.proofs.Math.Option.{Option, none, some}
+use Rattle.std.specs.Prelude.{Bool, cond, List, [], ◌∷◌, Err, None, Ok, Option, Result, Some}
 use Rattle.points.specs.declared.refusal.Refusal.{Refusal}
-use Rattle.points.specs.declared.refusal.Answer.{Answer}
-use Rattle.points.specs.declared.refusal.Answer.TheVariants.{Accepted, Refused}
 
 -- a test, and the refusal that it gives where it fails
 pub record Check : Type 0 where
@@ -16,19 +13,19 @@ or_else b r = record { holds = b; refusal = r }
 
 -- the refusal of the first check that fails
 unfoldable pub first_failing : List Check → Option Refusal
-first_failing [] = none
-first_failing (c ∷ cs) = cond c.holds (first_failing cs) (some c.refusal)
+first_failing [] = None
+first_failing (c ∷ cs) = cond c.holds (first_failing cs) (Some c.refusal)
 
 -- a refusal, or else what a call makes
 abbrev pub unless_refused : {A : Type 0} → Option Refusal → (Refusal → A) → A → A
-unless_refused none refuse own = own
-unless_refused (some r) refuse own = refuse r
+unless_refused None refuse own = own
+unless_refused (Some r) refuse own = refuse r
 
 -- what a call makes behind these checks
 abbrev pub gate : {A : Type 0} → List Check → (Refusal → A) → A → A
 gate cs refuse own = unless_refused (first_failing cs) refuse own
 
--- an `Answer` as the refusal that it names
-abbrev pub refusal_of : Answer → Option Refusal
-refusal_of Accepted = none
-refusal_of (Refused r) = some r
+-- what a test that gives nothing else says, as the refusal that it names
+abbrev pub refusal_of : Result (Unit {0}) Refusal → Option Refusal
+refusal_of (Ok tt) = None
+refusal_of (Err r) = Some r

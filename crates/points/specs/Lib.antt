@@ -3,5 +3,6 @@ pub mod Refusal
 pub mod Checks
 pub mod Point
 pub mod Points
+pub mod Fitted
 pub mod Search
 pub mod Middles

@@ -1,5 +1,5 @@
 -- The point: 01, "Points and search", and the equalities of 000.
-use Rattle.std.specs.Prelude.{Bool, true, false, cond, not, ◌&&◌, eqb, ℤ, pos, negsuc, Float}
+use Rattle.std.specs.Prelude.{Bool, false, cond, not, ◌&&◌, eqb, ℤ, pos, negsuc, Float, None, is_none}
 use Rattle.std.specs.Float.{nan, inf, fin, binary32, binary64}
 use Rattle.std.specs.Float.Ieee.{sub, lt, of_bits}
 use Rattle.numbers.specs.Bounds.{zero64, finite}
@@ -8,8 +8,6 @@ use Rattle.curve.specs.Curve.{is_linear, finite_controls, same_curve}
 use Rattle.curve.specs.declared.CurveType.{CurveType}
 use Rattle.curve.specs.declared.CurveType.TheVariants.{Linear}
 use Rattle.points.specs.Refusal.{Said, refuses, gives}
-use Rattle.points.specs.declared.SamplePosition.{SamplePosition}
-use Rattle.points.specs.declared.SamplePosition.TheVariants as position
 use Rattle.points.specs.declared.AutomationPoint.{AutomationPoint}
 
 -- "all times, values, controls .. are finite"
@@ -18,15 +16,15 @@ finite_point p = finite p.time && finite p.value && finite_controls p.curve
 
 -- "places past the count hold time 0, no position, value 0, Linear"
 abbrev pub unused : AutomationPoint
-unused = record { time = zero64; sample_position = position.None; value = f0; curve = Linear }
+unused = record { time = zero64; sample_position = None; value = f0; curve = Linear }
 
 -- 000's `AutomationPoint::with_curve`
 abbrev pub point_with : Float → Float → CurveType → AutomationPoint
-point_with time value c = record { time = time; sample_position = position.None; value = value; curve = c }
+point_with time value c = record { time = time; sample_position = None; value = value; curve = c }
 
 -- what a place that does not exist would hold: no answer turns on it
 abbrev pub any_point : AutomationPoint
-any_point = record { time = nan; sample_position = position.None; value = nan; curve = Linear }
+any_point = record { time = nan; sample_position = None; value = nan; curve = Linear }
 
 -- a point's time
 abbrev pub time_of : AutomationPoint → Float
@@ -42,11 +40,6 @@ abbrev pub is_plus_zero : Float → Bool
 is_plus_zero nan = false
 is_plus_zero (inf s) = false
 is_plus_zero (fin s m e) = not s && eqb m 0 && is_zero_exponent e
-
--- "no position"
-abbrev pub is_none : SamplePosition → Bool
-is_none position.None = true
-is_none (position.At n) = false
 
 -- the test for such a place
 abbrev pub is_unused : AutomationPoint → Bool

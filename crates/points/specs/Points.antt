@@ -1,5 +1,6 @@
 -- The points of an envelope, as a list: 01, "Kept, and written anew" and "Points and search".
-use Rattle.std.specs.Prelude.{ℕ, ◌-◌, Bool, true, false, ◌&&◌, List, [], ◌∷◌, ◌++◌, length, take, drop, replicate, ltb, leb}
+use Rattle.std.specs.Prelude.{ℕ, ◌+◌, ◌-◌, Bool, true, false, cond, ◌&&◌, List, [], ◌∷◌, ◌++◌, length, take, drop, set, replicate, ltb, leb}
+use Rattle.std.specs.List.{list_all}
 use Rattle.numbers.specs.Order.{order_key}
 use Rattle.points.specs.Point.{finite_point, unused, is_unused}
 use Rattle.points.specs.declared.AutomationPoint.{AutomationPoint}
@@ -17,10 +18,17 @@ rest_of ps = drop ps.count ps.places
 abbrev pub holding : List AutomationPoint → Points
 holding l = record { count = length l; places = l ++ replicate (256 - length l) unused }
 
+-- as much of a list as there are places for
+unfoldable pub fitting : List AutomationPoint → List AutomationPoint
+fitting l = take 256 l
+
+-- one more behind them, where there is a place left
+abbrev pub with_more : Points → AutomationPoint → Points
+with_more ps p = cond (ltb ps.count 256) (record { count = ps.count + 1; places = set ps.places ps.count p }) ps
+
 -- a test of each element
-unfoldable pub every : {A : Type 0} → (A → Bool) → List A → Bool
-every q [] = true
-every q (x ∷ l) = q x && every q l
+abbrev pub every : {A : Type 0} → (A → Bool) → List A → Bool
+every = list_all
 
 -- each element's key is below the next one's
 unfoldable pub rising_by : {A : Type 0} → (A → ℕ) → List A → Bool

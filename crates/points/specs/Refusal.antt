@@ -1,12 +1,8 @@
 -- 01, "What the player declines": the refusals by their numbers, and an answer in 01's terms.
-use Rattle.std.specs.Prelude.{ℕ, Bool}
+use Rattle.std.specs.Prelude.{ℕ, Err, Ok, Result}
 use Rattle.points.specs.declared.refusal.Refusal.{Refusal}
 use Rattle.points.specs.declared.refusal.Refusal.TheVariants.{NotValid, SheetCurve, NotFinite, BoundsCross, TooManyPoints, TimesDontRise, KeysDontRise, NoRoom, SheetForm, NoStep}
 use Rattle.points.specs.declared.refusal.Refusal.TheVariants.{MemoryLength, StoredState, TooManySamples, OtherEnvelope}
-use Rattle.points.specs.declared.refusal.Answer.{Answer}
-use Rattle.points.specs.declared.refusal.Answer.TheVariants.{Accepted, Refused}
-use Rattle.points.specs.declared.refusal.Compared.{Compared}
-use Rattle.points.specs.declared.refusal.Compared.TheVariants as equality
 
 -- the table's first column; "01's table" takes 14 by F-3, "and each later one" with its request
 abbrev pub number : Refusal → ℕ
@@ -30,12 +26,7 @@ pub data Said (A : Type 0) : Type 0 where
   refuses : ℕ → Said A
   gives : A → Said A
 
--- an `Answer` in these terms: an accepted call that gives nothing beside what it left changed
-abbrev pub said : Answer → Said (Unit {0})
-said Accepted = gives tt
-said (Refused r) = refuses (number r)
-
--- an equality's answer in these terms
-abbrev pub compared : Compared → Said Bool
-compared (equality.Is b) = gives b
-compared (equality.Refused r) = refuses (number r)
+-- an answer in these terms: what an accepted call gives is nothing, `()`, where all that it does is what it left changed
+abbrev pub said : {A : Type 0} → Result A Refusal → Said A
+said (Ok a) = gives a
+said (Err r) = refuses (number r)

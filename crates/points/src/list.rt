@@ -1,92 +1,104 @@
 // The list of points: 256 places and a count.
-ghost use Rattle.std.specs.Prelude.{◌≡◌, [], min};
-ghost use Rattle.points.specs.Point.{finite_point, matching};
-ghost use Rattle.points.specs.Points.{list_of, holding, every, every_pair, rising, valid_points};
+ghost use Rattle.std.specs.Prelude.{◌≡◌, [], length, min, true, if◌then◌else◌};
+ghost use Rattle.points.specs.declared.refusal.Refusal.TheVariants.{NotValid};
+ghost use Rattle.points.specs.Point.{finite_point, is_unused, matching};
+ghost use Rattle.points.specs.Points.{list_of, rest_of, holding, with_more, every, every_pair, rising, valid_points};
 
+use crate::refusal::Refusal;
 use crate::{AutomationPoint, Points};
 
 // No points.
 pub fn none() -> Points
     ensures { result ≡ holding [] }
 {
-    let unused = crate::point::unused();
     Points {
         count: 0,
-        places: [unused; 256],
+        places: [crate::point::unused(); 256],
     }
 }
 
 impl Points {
+    // One more behind the others, where there is a place left.
+    pub fn push(&mut self, p: AutomationPoint)
+        ensures { self.new ≡ with_more self.old p }
+    {
+        if self.count < 256 {
+            self.places[self.count] = p;
+            self.count += 1;
+        }
+    }
+
     // How many places hold points.
-    pub fn used(self) -> usize
-        ensures { result ≡ min self.count 256 }
+    pub fn used(&self) -> usize
+        ensures { result ≡ min self.now.count 256 }
     {
-        if self.count < 256 { self.count } else { 256 }
+        self.count.min(256)
     }
 
-    pub fn all_finite(self) -> bool
-        ensures { result ≡ every finite_point (list_of self) }
+    // The places that hold points.
+    pub fn as_slice(&self) -> &[AutomationPoint]
+        ensures { result.now ≡ list_of self.now }
     {
-        let n = self.used();
-        let mut ok = true;
-        let mut i: usize = 0;
-        while i < n {
-            let p = self.places[i];
-            ok = ok & p.is_finite();
-            i += 1;
+        &self.places[..self.used()]
+    }
+
+    // The places past the count.
+    pub fn rest(&self) -> &[AutomationPoint]
+        ensures { result.now ≡ rest_of self.now }
+    {
+        &self.places[self.used()..]
+    }
+
+    pub fn all_finite(&self) -> bool
+        ensures { result ≡ every finite_point (list_of self.now) }
+    {
+        self.as_slice().iter().all(|p| p.is_finite())
+    }
+
+    #[tactic(auto, using(crate::proofs::SliceLaws::rises_by))]
+    pub fn times_rise(&self) -> bool
+        ensures { result ≡ rising (list_of self.now) }
+    {
+        self.as_slice().is_sorted_by(|p, q| p.key() < q.key())
+    }
+
+    // Whether the places past the count are as new ones.
+    pub fn rest_unused(&self) -> bool
+        ensures { result ≡ every is_unused (rest_of self.now) }
+    {
+        self.rest().iter().all(|p| p.is_unused())
+    }
+
+    #[tactic(auto, unfolding(crate::specs::Points::valid_points))]
+    pub fn is_valid(&self) -> bool
+        ensures { result ≡ valid_points self.now }
+    {
+        (self.count <= 256) & (self.all_finite() & self.times_rise() & self.rest_unused())
+    }
+
+    // 1 unless the points are valid. Valid ones are what holds their list.
+    #[tactic(auto, using(crate::proofs::ValidLaws::holding_list_of))]
+    pub fn check(&self) -> Result<(), Refusal>
+        ensures answer { result ≡ (if valid_points self.now then Ok tt else Err NotValid) }
+        ensures held { valid_points self.now ≡ true → holding (list_of self.now) ≡ self.now }
+    {
+        if self.is_valid() {
+            Ok(())
+        } else {
+            Err(Refusal::NotValid)
         }
-        ok
     }
 
-    pub fn times_rise(self) -> bool
-        ensures { result ≡ rising (list_of self) }
+    // As many points, and each like the other's. `exact` is a flag as in specs/ and in 000's two names; a closure in its place would ask for a contract of its own.
+    #[tactic(auto, using(crate::proofs::SliceLaws::pairs_uneven))]
+    pub fn same(&self, other: &Points, exact: bool) -> bool
+        ensures { result ≡ every_pair (matching exact) (list_of self.now) (list_of other.now) }
     {
-        let n = self.used();
-        let mut ok = true;
-        let mut i: usize = 1;
-        while i < n {
-            let p = self.places[i - 1];
-            let q = self.places[i];
-            ok = ok & (numbers::order::order_key(p.time) < numbers::order::order_key(q.time));
-            i += 1;
-        }
-        ok
-    }
-
-    // The three loops stand in one body: a method of its own for each would copy the places.
-    pub fn is_valid(self) -> bool
-        ensures { result ≡ valid_points self }
-    {
-        let n = self.count;
-        if n > 256 {
+        let (points, others) = (self.as_slice(), other.as_slice());
+        if points.len() != others.len() {
             return false;
         }
-        let mut finite = true;
-        let mut i: usize = 0;
-        while i < n {
-            let p = self.places[i];
-            finite = finite & p.is_finite();
-            i += 1;
-        }
-        let first = self.places[0];
-        let mut last = numbers::order::order_key(first.time);
-        let mut rise = true;
-        let mut j: usize = 1;
-        while j < n {
-            let p = self.places[j];
-            let key = numbers::order::order_key(p.time);
-            rise = rise & (last < key);
-            last = key;
-            j += 1;
-        }
-        let mut unused = true;
-        let mut k: usize = n;
-        while k < 256 {
-            let p = self.places[k];
-            unused = unused & p.is_unused();
-            k += 1;
-        }
-        finite & rise & unused
+        all_match(points, others, exact)
     }
 }
 
@@ -97,23 +109,14 @@ fn match_points(p: AutomationPoint, q: AutomationPoint, exact: bool) -> bool
     if exact { p.same_exact(q) } else { p.same(q) }
 }
 
-impl Points {
-    // As many points, and each like the other's.
-    pub fn same(self, other: Points, exact: bool) -> bool
-        ensures { result ≡ every_pair (matching exact) (list_of self) (list_of other) }
-    {
-        let n = self.used();
-        if n != other.used() {
-            return false;
-        }
-        let mut ok = true;
-        let mut i: usize = 0;
-        while i < n {
-            let p = self.places[i];
-            let q = other.places[i];
-            ok = ok & match_points(p, q, exact);
-            i += 1;
-        }
-        ok
-    }
+// Of as many points: whether each is like the other's.
+#[tactic(auto, using(crate::proofs::SliceLaws::pairs_all))]
+fn all_match(points: &[AutomationPoint], others: &[AutomationPoint], exact: bool) -> bool
+    requires { length points.now ≡ length others.now }
+    ensures { result ≡ every_pair (matching exact) points.now others.now }
+{
+    points
+        .iter()
+        .zip(others)
+        .all(|(p, q)| match_points(*p, *q, exact))
 }

@@ -1,44 +1,13 @@
 // One point: its tests, and 000's two equalities.
 ghost use Rattle.std.specs.Prelude.{◌≡◌};
-ghost use Rattle.points.specs.Point.{finite_point, is_none, is_plus_zero, is_unused, unused, point_with, same_point, same_point_exact, points_equal};
-ghost use Rattle.points.specs.Refusal.{compared};
+ghost use Rattle.points.specs.Refusal.{said};
+ghost use Rattle.points.specs.Point.{finite_point, is_unused, unused, point_with, same_point, same_point_exact, points_equal};
+ghost use Rattle.points.specs.Points.{time_key};
 ghost use Rattle.curve.specs.declared.CurveType.TheVariants.{Linear};
 
-use crate::refusal::{Compared, Refusal};
-use crate::{AutomationPoint, SamplePosition};
+use crate::AutomationPoint;
+use crate::refusal::Refusal;
 use curve::CurveType;
-
-impl SamplePosition {
-    pub fn is_none(self) -> bool
-        ensures { result ≡ is_none self }
-    {
-        match self {
-            SamplePosition::None => true,
-            SamplePosition::At(_) => false,
-        }
-    }
-}
-
-// 0.0, and not -0.0.
-fn plus_zero(x: f64) -> bool
-    ensures { result ≡ is_plus_zero x }
-{
-    if x == 0.0 {
-        f64::to_bits(x) == 0
-    } else {
-        false
-    }
-}
-
-fn plus_zerof(x: f32) -> bool
-    ensures { result ≡ is_plus_zero x }
-{
-    if x == 0.0 {
-        f32::to_bits(x) == 0
-    } else {
-        false
-    }
-}
 
 // What a place past the count holds.
 pub fn unused() -> AutomationPoint
@@ -46,7 +15,7 @@ pub fn unused() -> AutomationPoint
 {
     AutomationPoint {
         time: 0.0,
-        sample_position: SamplePosition::None,
+        sample_position: None,
         value: 0.0,
         curve: CurveType::Linear,
     }
@@ -59,7 +28,7 @@ impl AutomationPoint {
     {
         AutomationPoint {
             time,
-            sample_position: SamplePosition::None,
+            sample_position: None,
             value,
             curve,
         }
@@ -71,30 +40,37 @@ impl AutomationPoint {
         AutomationPoint::with_curve(time, value, CurveType::Linear)
     }
 
+    // Where it stands in the order of times.
+    pub fn key(self) -> u64
+        ensures { result ≡ time_key self }
+    {
+        numbers::order::order_key(self.time)
+    }
+
     pub fn is_finite(self) -> bool
         ensures { result ≡ finite_point self }
     {
-        let c = self.curve;
-        self.time.is_finite() & self.value.is_finite() & c.is_finite()
+        self.time.is_finite() & self.value.is_finite() & self.curve.is_finite()
     }
 
+    // +0.0 alone has the pattern 0.
+    #[tactic(auto, using(crate::proofs::Floats::pattern_zero))]
     pub fn is_unused(self) -> bool
         ensures { result ≡ is_unused self }
     {
-        let c = self.curve;
-        let position = self.sample_position;
-        plus_zero(self.time) & position.is_none() & plus_zerof(self.value) & c.is_linear()
+        (std::num::f64_to_bits_with_nan(self.time) == 0)
+            & self.sample_position.is_none()
+            & (std::num::f32_to_bits_with_nan(self.value) == 0)
+            & self.curve.is_linear()
     }
 
     // The same time and value, nearly.
+    #[tactic(auto, using(crate::proofs::FloatLaws::abs_is))]
     pub(crate) fn same(self, other: AutomationPoint) -> bool
         ensures { result ≡ same_point self other }
     {
-        let d = self.time - other.time;
-        let v = self.value - other.value;
-        (d < 2.220446049250313e-16)
-            & (-2.220446049250313e-16 < d)
-            & ((v < 1.1920929e-7) & (-1.1920929e-7 < v))
+        ((self.time - other.time).abs() < f64::EPSILON)
+            & ((self.value - other.value).abs() < f32::EPSILON)
     }
 
     // The same curve too.
@@ -102,29 +78,27 @@ impl AutomationPoint {
     pub(crate) fn same_exact(self, other: AutomationPoint) -> bool
         ensures { result ≡ same_point_exact self other }
     {
-        let c = self.curve;
-        let d = other.curve;
-        self.same(other) & (c == d)
+        self.same(other) & (self.curve == other.curve)
     }
 
-    // 000's PartialEq: the curve aside.
-    pub fn eq(self, other: AutomationPoint) -> Compared
-        ensures { compared result ≡ points_equal same_point self other }
+    // 000's PartialEq: the curve aside. No PartialEq here, since it refuses what is not finite; and two, since 000 has both by name.
+    pub fn eq(self, other: AutomationPoint) -> Result<bool, Refusal>
+        ensures { said result ≡ points_equal same_point self other }
     {
         if self.is_finite() & other.is_finite() {
-            Compared::Is(self.same(other))
+            Ok(self.same(other))
         } else {
-            Compared::Refused(Refusal::NotFinite)
+            Err(Refusal::NotFinite)
         }
     }
 
-    pub fn eq_exact(self, other: AutomationPoint) -> Compared
-        ensures { compared result ≡ points_equal same_point_exact self other }
+    pub fn eq_exact(self, other: AutomationPoint) -> Result<bool, Refusal>
+        ensures { said result ≡ points_equal same_point_exact self other }
     {
         if self.is_finite() & other.is_finite() {
-            Compared::Is(self.same_exact(other))
+            Ok(self.same_exact(other))
         } else {
-            Compared::Refused(Refusal::NotFinite)
+            Err(Refusal::NotFinite)
         }
     }
 }

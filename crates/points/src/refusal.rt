@@ -2,36 +2,22 @@
 ghost use Rattle.std.specs.Prelude.{◌≡◌};
 ghost use Rattle.points.specs.Refusal.{number};
 
-#[derive(Clone, Copy)]
+#[derive(Clone, Copy, Debug, PartialEq, Eq)]
 pub enum Refusal {
-    NotValid,
-    SheetCurve,
-    NotFinite,
-    BoundsCross,
-    TooManyPoints,
-    TimesDontRise,
-    KeysDontRise,
-    NoRoom,
-    SheetForm,
-    NoStep,
-    MemoryLength,
-    StoredState,
-    TooManySamples,
-    OtherEnvelope,
-}
-
-// What a call says that leaves its result elsewhere.
-#[derive(Clone, Copy)]
-pub enum Answer {
-    Accepted,
-    Refused(Refusal),
-}
-
-// What an equality says.
-#[derive(Clone, Copy)]
-pub enum Compared {
-    Is(bool),
-    Refused(Refusal),
+    NotValid = 1,
+    SheetCurve = 2,
+    NotFinite = 3,
+    BoundsCross = 4,
+    TooManyPoints = 5,
+    TimesDontRise = 6,
+    KeysDontRise = 7,
+    NoRoom = 8,
+    SheetForm = 9,
+    NoStep = 10,
+    MemoryLength = 11,
+    StoredState = 12,
+    TooManySamples = 13,
+    OtherEnvelope = 14,
 }
 
 impl Refusal {
@@ -39,21 +25,6 @@ impl Refusal {
     pub fn number(self) -> u32
         ensures { result ≡ number self }
     {
-        match self {
-            Refusal::NotValid => 1,
-            Refusal::SheetCurve => 2,
-            Refusal::NotFinite => 3,
-            Refusal::BoundsCross => 4,
-            Refusal::TooManyPoints => 5,
-            Refusal::TimesDontRise => 6,
-            Refusal::KeysDontRise => 7,
-            Refusal::NoRoom => 8,
-            Refusal::SheetForm => 9,
-            Refusal::NoStep => 10,
-            Refusal::MemoryLength => 11,
-            Refusal::StoredState => 12,
-            Refusal::TooManySamples => 13,
-            Refusal::OtherEnvelope => 14,
-        }
+        self as u32
     }
 }

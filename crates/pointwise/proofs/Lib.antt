@@ -1,4 +1,2 @@
+pub mod Values
 pub mod Mapped
-pub mod Times
-pub mod Fades
-pub mod Clamped

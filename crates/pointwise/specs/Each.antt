@@ -1,6 +1,5 @@
 -- The edits that change each point by itself, as 000 has them, operation by operation.
-use Rattle.std.specs.Prelude.{true, false, cond, not, ◌&&◌, Float}
-use mathlib.Core.List.{List, [], ◌∷◌, map, foldl}
+use Rattle.std.specs.Prelude.{true, false, cond, not, ◌&&◌, List, [], ◌∷◌, map, fold, Result, Float}
 use Rattle.std.specs.Float.{inf, binary32, binary64}
 use Rattle.std.specs.Float.Ieee.{add, sub, mul, div, lt, le, of_bits}
 use Rattle.numbers.specs.Narrow.{narrow}
@@ -12,8 +11,8 @@ use Rattle.curve.specs.declared.CurveType.{CurveType}
 use Rattle.points.specs.Points.{list_of, valid_points}
 use Rattle.points.specs.declared.AutomationPoint.{AutomationPoint}
 use Rattle.points.specs.declared.Points.{Points}
+use Rattle.points.specs.declared.refusal.Refusal.{Refusal}
 use Rattle.settle.specs.Settle.{Proposal, judged}
-use Rattle.settle.specs.declared.EditedPoints.{EditedPoints}
 use Rattle.pointwise.specs.declared.Change.{Change}
 use Rattle.pointwise.specs.declared.Change.TheVariants.{Shift, ScaleTime, Reflect, Quantize, Invert, Normalize, Scale, Offset, Clamp, FadeIn, FadeOut, Gate, Compress}
 
@@ -23,11 +22,11 @@ one64 = of_bits binary64 0x3FF0_0000_0000_0000
 
 -- the point at another time
 abbrev pub with_time : AutomationPoint → Float → AutomationPoint
-with_time p t = record { time = t; sample_position = p.sample_position; value = p.value; curve = p.curve }
+with_time p t = record p { time = t }
 
 -- the point with another value
 abbrev pub with_value : AutomationPoint → Float → AutomationPoint
-with_value p v = record { time = p.time; sample_position = p.sample_position; value = v; curve = p.curve }
+with_value p v = record p { value = v }
 
 -- the fraction of a fade at a time: clamped in f64, then narrowed
 unfoldable pub fade_fraction : Float → Float → Float → Float
@@ -73,11 +72,11 @@ changed (Compress threshold ratio) p = with_value p (compressed threshold ratio 
 
 -- normalize: the least and the greatest value, from the infinities
 abbrev pub lowest_value : List AutomationPoint → Float
-lowest_value l = foldl (λ v p. min_num v p.value) (inf false) l
+lowest_value l = fold (λ v p. min_num v p.value) (inf false) l
 
 -- the greatest
 abbrev pub highest_value : List AutomationPoint → Float
-highest_value l = foldl (λ v p. max_num v p.value) (inf true) l
+highest_value l = fold (λ v p. max_num v p.value) (inf true) l
 
 -- "Where 000 returns early (grid, factor or duration at most 0) the edit is accepted and changes nothing"
 abbrev pub scaled_time : Float → List AutomationPoint → List AutomationPoint
@@ -114,6 +113,6 @@ abbrev pub clamping : Float → Float → List AutomationPoint → Proposal
 clamping min max l = record { finite_arguments = finite min && finite max; bounds_in_order = not (lt max min); list = map (changed (Clamp min max)) l }
 
 -- of the points
-unfoldable pub clamped_edit : Points → Float → Float → EditedPoints
+unfoldable pub clamped_edit : Points → Float → Float → Result Points Refusal
 unfolding judged
-clamped_edit ps min max = judged ps (valid_points ps) (clamping min max (list_of ps))
+clamped_edit ps min max = judged (valid_points ps) (clamping min max (list_of ps))

@@ -1,23 +1,21 @@
 // The edits of 000 that change each point by itself. Source: envelope.rs (000).
 #![tactic(auto)]
 
-ghost use Rattle.std.specs.Prelude.{◌≡◌, ◌&&◌, map};
+ghost use Rattle.std.specs.Prelude.{◌≡◌, ◌≤◌, ◌&&◌, ◌++◌, length, map, take, drop};
 ghost use Rattle.numbers.specs.Bounds.{finite, clamped_to};
 ghost use Rattle.curve.specs.Curve.{finite_controls};
-ghost use Rattle.points.specs.Point.{finite_point};
-ghost use Rattle.points.specs.Points.{every, rising, list_of};
+ghost use Rattle.points.specs.Points.{list_of};
 ghost use Rattle.settle.specs.Settle.{edit_points};
-ghost use Rattle.settle.specs.Finish.{finished};
-ghost use Rattle.pointwise.specs.Places.{mapped_in, faded_in_places};
+ghost use Rattle.pointwise.specs.Places.{mapped_in, faded_in_places, faded_out_places};
 ghost use Rattle.pointwise.specs.Each.{with_time, with_value, fade_fraction, faded_in, faded_out, gated, compressed, changed, scaled_time, lowest_value, highest_value, normalized, first_time, last_time, faded_in_all, faded_out_all, clamped_edit};
 ghost use Rattle.pointwise.specs.declared.Change.TheVariants.{Shift, Invert, Scale, Offset, Gate, Compress};
 
 use curve::CurveType;
-use points::refusal::{Answer, Refusal};
+use points::refusal::Refusal;
 use points::{AutomationPoint, Points};
-use settle::{EditedPoints, finish, refuse};
+use settle::{finish, keep};
 
-// What 000's loops do to a point.
+// What 000's loops do to a point. As data, since specs/ names each change by it; a closure's contract would speak of every function that it computes, and ask for a `requires`.
 #[derive(Clone, Copy)]
 pub enum Change {
     Shift(f64),
@@ -38,30 +36,16 @@ pub enum Change {
 fn with_time(p: AutomationPoint, time: f64) -> AutomationPoint
     ensures { result ≡ with_time p time }
 {
-    let sample_position = p.sample_position;
-    let curve = p.curve;
-    AutomationPoint {
-        time,
-        sample_position,
-        value: p.value,
-        curve,
-    }
+    AutomationPoint { time, ..p }
 }
 
 fn with_value(p: AutomationPoint, value: f32) -> AutomationPoint
     ensures { result ≡ with_value p value }
 {
-    let sample_position = p.sample_position;
-    let curve = p.curve;
-    AutomationPoint {
-        time: p.time,
-        sample_position,
-        value,
-        curve,
-    }
+    AutomationPoint { value, ..p }
 }
 
-// Rust's f32::clamp.
+// The library's `clamp` asks that the bounds do not cross; these may, where a refusal comes later.
 fn clampf(low: f32, high: f32, x: f32) -> f32
     ensures { result ≡ clamped_to low high x }
 {
@@ -74,25 +58,16 @@ fn clampf(low: f32, high: f32, x: f32) -> f32
     x
 }
 
-// Rust's f64::clamp.
-fn clamp(low: f64, high: f64, t: f64) -> f64
-    ensures { result ≡ clamped_to low high t }
-{
-    if t < low {
-        return low;
-    }
-    if t > high {
-        return high;
-    }
-    t
-}
-
+#[tactic(auto, unfolding(crate::specs::Each::fade_fraction))]
 fn fade_fraction(start: f64, duration: f64, time: f64) -> f32
     ensures { result ≡ fade_fraction start duration time }
 {
-    numbers::convert::f64_to_f32(clamp(0.0, 1.0, (time - start) / duration))
+    let fraction = (time - start) / duration;
+    numbers::convert::f64_to_f32(fraction.clamp(0.0, 1.0))
 }
 
+// The two fades are two rules of 01: they differ in the comparison, in the place and in what t counts from.
+#[tactic(auto, unfolding(crate::specs::Each::faded_in))]
 fn faded_in(start: f64, duration: f64, c: CurveType, p: AutomationPoint) -> f32
     ensures { result ≡ faded_in start duration c p }
 {
@@ -103,6 +78,7 @@ fn faded_in(start: f64, duration: f64, c: CurveType, p: AutomationPoint) -> f32
     }
 }
 
+#[tactic(auto, unfolding(crate::specs::Each::faded_out))]
 fn faded_out(start: f64, duration: f64, c: CurveType, p: AutomationPoint) -> f32
     ensures { result ≡ faded_out start duration c p }
 {
@@ -113,12 +89,14 @@ fn faded_out(start: f64, duration: f64, c: CurveType, p: AutomationPoint) -> f32
     }
 }
 
+#[tactic(auto, unfolding(crate::specs::Each::gated))]
 fn gated(threshold: f32, v: f32) -> f32
     ensures { result ≡ gated threshold v }
 {
     if v < threshold { 0.0 } else { v }
 }
 
+#[tactic(auto, unfolding(crate::specs::Each::compressed))]
 fn compressed(threshold: f32, ratio: f32, v: f32) -> f32
     ensures { result ≡ compressed threshold ratio v }
 {
@@ -156,97 +134,42 @@ impl Change {
     }
 }
 
-// The points after a change, and what the tests of them say.
-#[derive(Clone, Copy)]
-struct Tested {
-    finite: bool,
-    rise: bool,
-    points: Points,
-}
-
-// Each point changed in its place, and tested.
-fn map_tested(mut points: Points, change: Change) -> Tested
-    ensures { (result.points ≡ mapped_in (changed change) points) × (result.finite ≡ every finite_point (list_of result.points)) × (result.rise ≡ rising (list_of result.points)) }
+// The first n points changed in their places. It takes n, since over `&mut out.places[..n]` the goal of `map_points` did not close.
+fn change_first(places: &mut [AutomationPoint], n: usize, change: Change)
+    requires { n ≤ length places.old }
+    ensures { places.new ≡ map (changed change) (take n places.old) ++ drop n places.old }
 {
-    let n = points.used();
-    let mut finite = true;
-    let mut rise = true;
-    let mut last: u64 = 0;
-    let mut i: usize = 0;
-    while i < n {
-        let p = points.places[i];
-        let q = change.apply(p);
-        let key = numbers::order::order_key(q.time);
-        finite = finite & q.is_finite();
-        rise = rise & ((i == 0) | (last < key));
-        last = key;
-        points.places[i] = q;
-        i += 1;
-    }
-    Tested {
-        finite,
-        rise,
-        points,
+    for p in places[..n].iter_mut() {
+        *p = change.apply(*p);
     }
 }
 
 // Each point changed in its place.
-pub fn map_points(points: Points, change: Change) -> Points
-    ensures { result ≡ mapped_in (changed change) points }
+#[tactic(auto, unfolding(crate::specs::Places::mapped_in))]
+pub fn map_points(points: &Points, change: Change) -> Points
+    ensures { result ≡ mapped_in (changed change) points.now }
 {
-    let made = map_tested(points, change);
-    made.points
+    let mut out = *points;
+    change_first(&mut out.places, points.used(), change);
+    out
 }
 
-// An edit that makes of the points what a change makes of `base`.
-fn edit_from(points: Points, ok: bool, base: Points, change: Change) -> EditedPoints
-    ensures { result ≡ finished points ok (mapped_in (changed change) base) }
+#[tactic(auto, using(crate::proofs::Mapped::mapped_held))]
+fn edit_each(points: &Points, ok: bool, change: Change) -> Result<Points, Refusal>
+    ensures { result ≡ edit_points points.now ok (map (changed change) (list_of points.now)) }
 {
-    if points.is_valid() {
-        if ok {
-            let made = map_tested(base, change);
-            if made.finite {
-                if made.rise {
-                    let new = made.points;
-                    EditedPoints {
-                        answer: Answer::Accepted,
-                        points: new,
-                    }
-                } else {
-                    refuse(points, Refusal::TimesDontRise)
-                }
-            } else {
-                refuse(points, Refusal::NotFinite)
-            }
-        } else {
-            refuse(points, Refusal::NotFinite)
-        }
-    } else {
-        refuse(points, Refusal::NotValid)
-    }
+    finish(points, ok, map_points(points, change))
 }
 
-fn edit_each(points: Points, ok: bool, change: Change) -> EditedPoints
-    ensures { result ≡ edit_points points ok (map (changed change) (list_of points)) }
+pub fn shift_points(points: &Points, offset: f64) -> Result<Points, Refusal>
+    ensures { result ≡ edit_points points.now (finite offset) (map (changed (Shift offset)) (list_of points.now)) }
 {
-    edit_from(points, ok, points, change)
+    let ok = offset.is_finite();
+    edit_each(points, ok, Change::Shift(offset))
 }
 
-// An edit that leaves the points as they are; it has the refusals of every edit.
-fn keep(points: Points, ok: bool) -> EditedPoints
-    ensures { result ≡ edit_points points ok (list_of points) }
-{
-    finish(points, ok, points)
-}
-
-pub fn shift_points(points: Points, offset: f64) -> EditedPoints
-    ensures { result ≡ edit_points points (finite offset) (map (changed (Shift offset)) (list_of points)) }
-{
-    edit_each(points, offset.is_finite(), Change::Shift(offset))
-}
-
-pub fn scale_time(points: Points, factor: f64) -> EditedPoints
-    ensures { result ≡ edit_points points (finite factor) (scaled_time factor (list_of points)) }
+pub fn scale_time(points: &Points, factor: f64) -> Result<Points, Refusal>
+    ensures { result ≡ edit_points points.now (finite factor) (scaled_time factor (list_of points.now)) }
 {
     let ok = factor.is_finite();
     if factor > 0.0 {
@@ -256,174 +179,153 @@ pub fn scale_time(points: Points, factor: f64) -> EditedPoints
     }
 }
 
-pub fn invert_values(points: Points, min: f32, max: f32) -> EditedPoints
-    ensures { result ≡ edit_points points (finite min && finite max) (map (changed (Invert min max)) (list_of points)) }
+pub fn invert_values(points: &Points, min: f32, max: f32) -> Result<Points, Refusal>
+    ensures { result ≡ edit_points points.now (finite min && finite max) (map (changed (Invert min max)) (list_of points.now)) }
 {
     let ok = min.is_finite() & max.is_finite();
     edit_each(points, ok, Change::Invert(min, max))
 }
 
-// The least and the greatest value.
-#[derive(Clone, Copy)]
-struct ValueRange {
-    low: f32,
-    high: f32,
-}
-
-fn value_range(points: Points) -> ValueRange
-    ensures { (result.low ≡ lowest_value (list_of points)) × (result.high ≡ highest_value (list_of points)) }
+// The least value and the greatest, two folds of 01: one over a closure would have a contract of what that computes.
+#[tactic(auto, using(crate::proofs::Values::infinity_is))]
+fn lowest_value(points: &Points) -> f32
+    ensures { result ≡ lowest_value (list_of points.now) }
 {
-    let n = points.used();
-    let mut low: f32 = 1.0 / 0.0;
-    let mut high: f32 = -1.0 / 0.0;
-    let mut i: usize = 0;
-    while i < n {
-        let p = points.places[i];
-        low = numbers::order::min(low, p.value);
-        high = numbers::order::max(high, p.value);
-        i += 1;
-    }
-    ValueRange { low, high }
+    points
+        .as_slice()
+        .iter()
+        .copied()
+        .fold(f32::INFINITY, |v, p| numbers::order::min(v, p.value))
 }
 
-pub fn normalize(points: Points, new_min: f32, new_max: f32) -> EditedPoints
-    ensures { result ≡ edit_points points (finite new_min && finite new_max) (normalized new_min new_max (list_of points)) }
+#[tactic(auto, using(crate::proofs::Values::neg_infinity_is))]
+fn highest_value(points: &Points) -> f32
+    ensures { result ≡ highest_value (list_of points.now) }
+{
+    points
+        .as_slice()
+        .iter()
+        .copied()
+        .fold(f32::NEG_INFINITY, |v, p| numbers::order::max(v, p.value))
+}
+
+pub fn normalize(points: &Points, new_min: f32, new_max: f32) -> Result<Points, Refusal>
+    ensures { result ≡ edit_points points.now (finite new_min && finite new_max) (normalized new_min new_max (list_of points.now)) }
 {
     let ok = new_min.is_finite() & new_max.is_finite();
-    let found = value_range(points);
-    let range = found.high - found.low;
+    let low = lowest_value(points);
+    let range = highest_value(points) - low;
     if range > 0.0 {
         edit_each(
             points,
             ok,
-            Change::Normalize(found.low, range, new_min, new_max - new_min),
+            Change::Normalize(low, range, new_min, new_max - new_min),
         )
     } else {
         keep(points, ok)
     }
 }
 
-pub fn scale(points: Points, factor: f32) -> EditedPoints
-    ensures { result ≡ edit_points points (finite factor) (map (changed (Scale factor)) (list_of points)) }
+pub fn scale(points: &Points, factor: f32) -> Result<Points, Refusal>
+    ensures { result ≡ edit_points points.now (finite factor) (map (changed (Scale factor)) (list_of points.now)) }
 {
-    edit_each(points, factor.is_finite(), Change::Scale(factor))
+    let ok = factor.is_finite();
+    edit_each(points, ok, Change::Scale(factor))
 }
 
-pub fn offset(points: Points, amount: f32) -> EditedPoints
-    ensures { result ≡ edit_points points (finite amount) (map (changed (Offset amount)) (list_of points)) }
+pub fn offset(points: &Points, amount: f32) -> Result<Points, Refusal>
+    ensures { result ≡ edit_points points.now (finite amount) (map (changed (Offset amount)) (list_of points.now)) }
 {
-    edit_each(points, amount.is_finite(), Change::Offset(amount))
+    let ok = amount.is_finite();
+    edit_each(points, ok, Change::Offset(amount))
 }
 
-pub fn apply_gate(points: Points, threshold: f32) -> EditedPoints
-    ensures { result ≡ edit_points points (finite threshold) (map (changed (Gate threshold)) (list_of points)) }
+pub fn apply_gate(points: &Points, threshold: f32) -> Result<Points, Refusal>
+    ensures { result ≡ edit_points points.now (finite threshold) (map (changed (Gate threshold)) (list_of points.now)) }
 {
-    edit_each(points, threshold.is_finite(), Change::Gate(threshold))
+    let ok = threshold.is_finite();
+    edit_each(points, ok, Change::Gate(threshold))
 }
 
-pub fn apply_compression(points: Points, threshold: f32, ratio: f32) -> EditedPoints
-    ensures { result ≡ edit_points points (finite threshold && finite ratio) (map (changed (Compress threshold ratio)) (list_of points)) }
+pub fn apply_compression(points: &Points, threshold: f32, ratio: f32) -> Result<Points, Refusal>
+    ensures { result ≡ edit_points points.now (finite threshold && finite ratio) (map (changed (Compress threshold ratio)) (list_of points.now)) }
 {
     let ok = threshold.is_finite() & ratio.is_finite();
     edit_each(points, ok, Change::Compress(threshold, ratio))
 }
 
 // The first time and the last, where there is a point.
-fn first_time(points: Points) -> f64
-    ensures { result ≡ first_time (list_of points) }
+fn first_time(points: &Points) -> f64
+    ensures { result ≡ first_time (list_of points.now) }
 {
-    if points.count == 0 {
-        return 0.0;
-    }
-    let p = points.places[0];
-    p.time
+    points.as_slice().first().map_or(0.0, |p| p.time)
 }
 
-pub fn last_time(points: Points) -> f64
-    ensures { result ≡ last_time (list_of points) }
+#[tactic(auto, using(crate::proofs::Values::last_time_is))]
+pub fn last_time(points: &Points) -> f64
+    ensures { result ≡ last_time (list_of points.now) }
 {
-    let n = points.used();
-    if n == 0 {
-        return 0.0;
-    }
-    let p = points.places[n - 1];
-    p.time
+    points.as_slice().last().map_or(0.0, |p| p.time)
 }
 
-fn faded_in_all(points: Points, duration: f64, curve: CurveType) -> Points
-    ensures { result ≡ faded_in_places duration curve points }
+// The fades over all points, two rules of 01 as the fades of one point are.
+fn faded_in_all(points: &Points, duration: f64, curve: CurveType) -> Points
+    ensures { result ≡ faded_in_places duration curve points.now }
 {
     if duration <= 0.0 {
-        return points;
+        return *points;
     }
     map_points(points, Change::FadeIn(first_time(points), duration, curve))
 }
 
-pub fn apply_fade_in(points: Points, duration: f64, curve: CurveType) -> EditedPoints
-    ensures { result ≡ edit_points points (finite duration && finite_controls curve) (faded_in_all duration curve (list_of points)) }
+fn faded_out_all(points: &Points, duration: f64, curve: CurveType) -> Points
+    ensures { result ≡ faded_out_places duration curve points.now }
 {
-    let ok = duration.is_finite() & curve.is_finite();
     if duration <= 0.0 {
-        keep(points, ok)
-    } else {
-        edit_each(
-            points,
-            ok,
-            Change::FadeIn(first_time(points), duration, curve),
-        )
+        return *points;
     }
+    let start = last_time(points) - duration;
+    map_points(points, Change::FadeOut(start, duration, curve))
 }
 
-pub fn apply_fade_out(points: Points, duration: f64, curve: CurveType) -> EditedPoints
-    ensures { result ≡ edit_points points (finite duration && finite_controls curve) (faded_out_all duration curve (list_of points)) }
+#[tactic(auto, using(crate::proofs::Mapped::faded_in_held))]
+pub fn apply_fade_in(points: &Points, duration: f64, curve: CurveType) -> Result<Points, Refusal>
+    ensures { result ≡ edit_points points.now (finite duration && finite_controls curve) (faded_in_all duration curve (list_of points.now)) }
 {
     let ok = duration.is_finite() & curve.is_finite();
-    if duration <= 0.0 {
-        keep(points, ok)
-    } else {
-        edit_each(
-            points,
-            ok,
-            Change::FadeOut(last_time(points) - duration, duration, curve),
-        )
-    }
+    finish(points, ok, faded_in_all(points, duration, curve))
+}
+
+#[tactic(auto, using(crate::proofs::Mapped::faded_out_held))]
+pub fn apply_fade_out(points: &Points, duration: f64, curve: CurveType) -> Result<Points, Refusal>
+    ensures { result ≡ edit_points points.now (finite duration && finite_controls curve) (faded_out_all duration curve (list_of points.now)) }
+{
+    let ok = duration.is_finite() & curve.is_finite();
+    finish(points, ok, faded_out_all(points, duration, curve))
 }
 
 // The fade out takes the last time after the fade in, which changes no time.
+#[tactic(auto, using(crate::proofs::Mapped::fades_held))]
 pub fn apply_fades(
-    points: Points,
+    points: &Points,
     fade_in_duration: f64,
     fade_out_duration: f64,
     curve: CurveType,
-) -> EditedPoints
-    ensures { result ≡ edit_points points (finite fade_in_duration && finite fade_out_duration && finite_controls curve) (faded_out_all fade_out_duration curve (faded_in_all fade_in_duration curve (list_of points))) }
+) -> Result<Points, Refusal>
+    ensures { result ≡ edit_points points.now (finite fade_in_duration && finite fade_out_duration && finite_controls curve) (faded_out_all fade_out_duration curve (faded_in_all fade_in_duration curve (list_of points.now))) }
 {
     let ok = fade_in_duration.is_finite() & fade_out_duration.is_finite() & curve.is_finite();
     let faded = faded_in_all(points, fade_in_duration, curve);
-    if fade_out_duration <= 0.0 {
-        finish(points, ok, faded)
-    } else {
-        let start = last_time(faded) - fade_out_duration;
-        edit_from(
-            points,
-            ok,
-            faded,
-            Change::FadeOut(start, fade_out_duration, curve),
-        )
-    }
+    finish(points, ok, faded_out_all(&faded, fade_out_duration, curve))
 }
 
-pub fn clamp_values(points: Points, min: f32, max: f32) -> EditedPoints
-    ensures { result ≡ clamped_edit points min max }
+#[tactic(auto, unfolding(crate::specs::Each::clamped_edit, settle::specs::Settle::edit_points, settle::specs::Settle::judged, points::specs::Checks::first_failing))]
+pub fn clamp_values(points: &Points, min: f32, max: f32) -> Result<Points, Refusal>
+    ensures { result ≡ clamped_edit points.now min max }
 {
     let ok = min.is_finite() & max.is_finite();
-    let crossed = min > max;
-    if crossed {
-        if ok {
-            if points.is_valid() {
-                return refuse(points, Refusal::BoundsCross);
-            }
-        }
+    if points.is_valid() & ok & (min > max) {
+        return Err(Refusal::BoundsCross);
     }
     edit_each(points, ok, Change::Clamp(min, max))
 }

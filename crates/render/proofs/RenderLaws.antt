@@ -1,27 +1,24 @@
--- The ways out of a rendering and of the walk, each as a law. Assumes nothing.
+-- What a rendering says and leaves, each way out as a law, and a run in two pieces. Assumes nothing.
 use Prim.Native.Nat.{ℕ, ◌+◌, ◌-◌, ◌≤◌, ◌<◌}
 use mathlib.Core.Path.{◌≡◌, refl, sym, ap, ap₂, ◌∙◌}
-use mathlib.Core.Bool.{Bool, true, false, cond, ◌&&◌}
+use mathlib.Core.Bool.{Bool, true, false, cond}
 use mathlib.Core.List.{List, ◌++◌, append_assoc}
-use mathlib.Core.Option.{none}
 use native.Mathlib.Nat.{add-zero}
 use native.Mathlib.Omega.{arith}
 use lib.Dec.{leb}
 use lib.ListN.{length, get_or, take, drop, take-append-drop, length-append, length-drop}
 use lib.Seq.{length-take-le, take_at, drop-append-add, drop-drop, get_or-append-add}
 use lib.Ieee.{Float}
-use borrow.Author.Tests.{le-leb, lt-leb, lt-ltb, le-ltb, leb-true, leb-false}
+use borrow.Author.Tests.{le-leb, leb-true, leb-false}
 use Rattle.numbers.specs.Bounds.{finite}
 use Rattle.points.proofs.CheckLaws.{never}
-use Rattle.points.specs.Refusal.{Said, refuses, gives}
+use Rattle.points.specs.Refusal.{Said, gives}
 use Rattle.points.specs.declared.Points.{Points}
 use Rattle.lookup.specs.Valid.{valid}
-use Rattle.lookup.specs.Lookup.{value_at, get_value_at}
-use Rattle.render.specs.Render.{value_of_sample, sample_at, written, Rendered, declined, most_samples, run_into, render, sample_count, to_buffer, iter_samples, next_sample}
+use Rattle.render.specs.Render.{sample_at, written, Rendered, declined, most_samples, run_into, render, to_buffer}
 use Rattle.lookup.specs.Runs.{run}
-use Rattle.lookup.proofs.RunLaws.{run_long, run_cut, run_at, part_count}
+use Rattle.lookup.proofs.RunLaws.{run_long, run_cut, run_at}
 use Rattle.limits.specs.declared.Limits.{Limits}
-use Rattle.render.specs.declared.SampleIterator.{SampleIterator}
 
 -- what a function says and leaves, where that is one rendering's and the rendering is another
 pub answers : {s : Said (Unit {0})} {b : List Float} {x y : Rendered} → s ≡ x.said → b ≡ x.buffer → x ≡ y → (s ≡ y.said) × (b ≡ y.buffer)
@@ -29,14 +26,6 @@ answers p q e = (p ∙ ap (λ (r : Rendered). r.said) e, q ∙ ap (λ (r : Rende
 
 -- ---- a run of any samples
 module _ (f : ℕ → Float) (first count place : ℕ) (buffer : List Float) where
-  pub too_many : most_samples < first + count → run_into f first count place buffer ≡ declined 13 buffer
-  unfolding run_into
-  too_many h = rw (lt-leb (first + count) most_samples h)
-
-  pub no_room : first + count ≤ most_samples → length buffer - place < count → run_into f first count place buffer ≡ declined 8 buffer
-  unfolding run_into
-  no_room h k = rw (le-leb (first + count) most_samples h, lt-leb count (length buffer - place) k)
-
   pub accepted : first + count ≤ most_samples → count ≤ length buffer - place
       → run_into f first count place buffer ≡ record { said = gives tt; buffer = written place (run f first count) buffer }
   unfolding run_into
@@ -71,16 +60,6 @@ module _ (f : ℕ → Float) (first count place : ℕ) (buffer : List Float) whe
   pub none_written : count ≡ 0 → written place (run f first count) buffer ≡ buffer
   unfolding run
   none_written e = rw e (ap (λ (n : ℕ). take place buffer ++ drop n buffer) (add-zero place) ∙ take-append-drop place buffer)
-
-  -- the part that is lent to the writer, and the buffer when it is back
-  module _ (room : place + count ≤ length buffer) where
-    pub part_back : (new : List Float) → new ≡ run f first (length (take (place + count - place) (drop place buffer)))
-        → take place buffer ++ (new ++ drop (place + count - place) (drop place buffer)) ≡ written place (run f first count) buffer
-    part_back new w =
-        let e : place + (place + count - place) ≡ place + count = omega arith in
-        ap₂ (λ (l r : List Float). take place buffer ++ (l ++ r)) (w ∙ ap (run f first) (part_count place count buffer room))
-        (drop-drop (place + count - place) place buffer ∙ ap (λ (n : ℕ). drop n buffer) e)
-        ∙ sym written_is
 
 -- ---- a run in two pieces
 module _ (f : ℕ → Float) (first n m place : ℕ) (buffer : List Float) (room : n + m ≤ length buffer - place) where
@@ -128,10 +107,6 @@ module _ (points : Points) (enabled : Bool) (limits : Limits) (rate : Float) whe
     unfolding render
     render_invalid v = rw v
 
-    pub render_infinite : valid points limits ≡ true → finite rate ≡ false → render points enabled limits rate first count place buffer ≡ declined 3 buffer
-    unfolding render
-    render_infinite v h = rw (v, h)
-
     pub render_runs : valid points limits ≡ true → finite rate ≡ true
         → render points enabled limits rate first count place buffer ≡ run_into (sample_at points enabled limits rate) first count place buffer
     unfolding render
@@ -141,67 +116,3 @@ module _ (points : Points) (enabled : Bool) (limits : Limits) (rate : Float) whe
     pub buffer_invalid : valid points limits ≡ false → to_buffer points enabled limits rate duration place buffer ≡ declined 1 buffer
     unfolding to_buffer
     buffer_invalid v = rw v
-
-    pub buffer_infinite : valid points limits ≡ true → (finite rate && finite duration) ≡ false → to_buffer points enabled limits rate duration place buffer ≡ declined 3 buffer
-    unfolding to_buffer
-    buffer_infinite v h = rw (v, h)
-
-    pub buffer_runs : valid points limits ≡ true → (finite rate && finite duration) ≡ true
-        → to_buffer points enabled limits rate duration place buffer ≡ run_into (sample_at points enabled limits rate) 0 (sample_count rate duration) place buffer
-    unfolding to_buffer
-    buffer_runs v h = rw (v, h)
-
--- ---- the walk
-module _ (points : Points) (limits : Limits) (rate duration : Float) where
-  pub open_invalid : valid points limits ≡ false → iter_samples points limits rate duration ≡ refuses 1
-  unfolding iter_samples
-  open_invalid v = rw v
-
-  pub open_infinite : valid points limits ≡ true → (finite rate && finite duration) ≡ false → iter_samples points limits rate duration ≡ refuses 3
-  unfolding iter_samples
-  open_infinite v h = rw (v, h)
-
-  module _ (v : valid points limits ≡ true) (h : (finite rate && finite duration) ≡ true) (n : ℕ) (e : n ≡ sample_count rate duration) where
-    open_count : iter_samples points limits rate duration ≡ cond (leb n most_samples) (gives (record { sample_rate = rate; current_sample = 0; total_samples = n })) (refuses 13)
-    unfolding iter_samples
-    open_count = rw (v, h, e)
-
-    pub open_too_many : most_samples < n → iter_samples points limits rate duration ≡ refuses 13
-    open_too_many k = open_count ∙ rw (lt-leb n most_samples k)
-
-    pub opened : n ≤ most_samples → iter_samples points limits rate duration ≡ gives (record { sample_rate = rate; current_sample = 0; total_samples = n })
-    opened k = open_count ∙ rw (le-leb n most_samples k)
-
--- the lookup of a valid envelope isn't refused
-pub lookup_given : (points : Points) (enabled : Bool) (limits : Limits) (time : Float) → valid points limits ≡ true
-    → get_value_at points enabled limits time ≡ gives (value_at points enabled limits time)
-unfolding get_value_at
-lookup_given points enabled limits time v = rw v
-
-module _ (points : Points) (enabled : Bool) (limits : Limits) (w : SampleIterator) where
-  pub next_invalid : valid points limits ≡ false → next_sample points enabled limits w ≡ record { said = refuses 1; walk = w }
-  unfolding next_sample
-  next_invalid v = rw v
-
-  pub next_infinite : valid points limits ≡ true → finite w.sample_rate ≡ false → next_sample points enabled limits w ≡ record { said = refuses 3; walk = w }
-  unfolding next_sample
-  next_infinite v h = rw (v, h)
-
-  pub next_too_many : valid points limits ≡ true → finite w.sample_rate ≡ true → most_samples < w.total_samples
-      → next_sample points enabled limits w ≡ record { said = refuses 13; walk = w }
-  unfolding next_sample
-  next_too_many v h k = rw (v, h, lt-leb w.total_samples most_samples k)
-
-  module _ (v : valid points limits ≡ true) (h : finite w.sample_rate ≡ true) (k : w.total_samples ≤ most_samples) where
-    pub next_over : w.total_samples ≤ w.current_sample → next_sample points enabled limits w ≡ record { said = gives none; walk = w }
-    unfolding next_sample
-    next_over l = rw (v, h, le-leb w.total_samples most_samples k, le-ltb w.current_sample w.total_samples l)
-
-    pub next-is : w.current_sample < w.total_samples
-        → next_sample points enabled limits w
-        ≡ record {
-          said = gives (value_of_sample points enabled limits w.sample_rate w.current_sample);
-          walk = record { sample_rate = w.sample_rate; current_sample = w.current_sample + 1; total_samples = w.total_samples };
-        }
-    unfolding next_sample
-    next-is l = rw (v, h, le-leb w.total_samples most_samples k, lt-ltb w.current_sample w.total_samples l)

@@ -1,19 +1,15 @@
 -- 01, "Rendering": a run of samples, `to_buffer`, and the walk of `iter_samples`. A run's pieces are in Pieces.antt.
-use Rattle.std.specs.Prelude.{ℕ, ◌+◌, ◌-◌, Bool, cond, ◌&&◌, List, ◌++◌, length, take, drop, ltb, leb, pos, Float}
-use Rattle.std.proofs.Math.Option.{Option, none, get_or}
+use Rattle.std.specs.Prelude.{ℕ, ◌+◌, ◌-◌, Bool, cond, ◌&&◌, List, ◌++◌, length, take, drop, ltb, leb, pos, Float, None, Option, unwrap_or}
 use Rattle.std.specs.Float.{binary32, binary64}
 use Rattle.std.specs.Float.Ieee.{mul, div, of_int, to_unsigned, of_bits}
 use Rattle.numbers.specs.Bounds.{finite}
-use Rattle.points.specs.Refusal.{Said, refuses, gives, number}
+use Rattle.points.specs.Refusal.{Said, refuses, gives}
 use Rattle.points.specs.declared.Points.{Points}
 use Rattle.lookup.specs.Valid.{valid}
-use Rattle.lookup.specs.Lookup.{value_at, told}
+use Rattle.lookup.specs.Lookup.{value_at}
 use Rattle.lookup.specs.Runs.{run}
 use Rattle.limits.specs.declared.Limits.{Limits}
 use Rattle.render.specs.declared.SampleIterator.{SampleIterator}
-use Rattle.render.specs.declared.SampleStep.{SampleStep}
-use Rattle.render.specs.declared.Walk.{Walk}
-use Rattle.render.specs.declared.Walk.TheVariants.{Over, Refused}
 
 -- "i / rate"
 abbrev pub sample_time : Float → ℕ → Float
@@ -25,7 +21,7 @@ value_of_sample points enabled limits rate i = value_at points enabled limits (s
 
 -- the sample's value, or another number where it is silent
 abbrev pub sample_or : Float → Points → Bool → Limits → Float → ℕ → Float
-sample_or silent points enabled limits rate i = get_or (value_of_sample points enabled limits rate i) silent
+sample_or silent points enabled limits rate i = unwrap_or (value_of_sample points enabled limits rate i) silent
 
 -- "0.0 where silent"
 abbrev pub sample_at : Points → Bool → Limits → Float → ℕ → Float
@@ -92,19 +88,10 @@ iter_samples points limits rate duration =
     (refuses 3))
     (refuses 1)
 
--- a `Walk` in 01's terms
-abbrev pub walk_told : Walk → Said SampleIterator
-walk_told (Over w) = gives w
-walk_told (Refused r) = refuses (number r)
-
 -- what a call says, and the walk it leaves
 pub record WalkStep : Type 0 where
   pub said : Said (Option Float)
   pub walk : SampleIterator
-
--- a `SampleStep` in these terms
-abbrev pub step_told : SampleStep → WalkStep
-step_told s = record { said = told s.answer; walk = s.walk }
 
 -- "ends at a silent sample; that call still advances the place"; past the count there is none, and nothing advances
 unfoldable pub next_sample : Points → Bool → Limits → SampleIterator → WalkStep
@@ -117,7 +104,7 @@ next_sample points enabled limits w =
       said = gives (value_of_sample points enabled limits w.sample_rate w.current_sample);
       walk = record { sample_rate = w.sample_rate; current_sample = w.current_sample + 1; total_samples = w.total_samples };
     })
-    (record { said = gives none; walk = w }))
+    (record { said = gives None; walk = w }))
     (record { said = refuses 13; walk = w }))
     (record { said = refuses 3; walk = w }))
     (record { said = refuses 1; walk = w })

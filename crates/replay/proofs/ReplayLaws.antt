@@ -1,198 +1,118 @@
--- The calls of numbers are in range of their types, and each turn of the replay is one more call that ran; so the history theorem speaks of it. Assumes nothing.
-use Prim.Native.Nat.{ℕ, zero, suc, ◌+◌, ◌<◌, ◌≤◌, min}
-use mathlib.Core.Path.{◌≡◌, refl, ap, sym, ◌∙◌}
-use mathlib.Core.Bool.{true, false}
-use mathlib.Core.List.{List, [], ◌∷◌, ◌++◌, map, map-append}
-use mathlib.Core.Logic.{⊎_elim}
-use native.Mathlib.Numerals.{add-one}
-use native.Mathlib.Omega.{arith}
-use borrow.Author.Tests.{ne_eqb}
-use lib.Dec.{eqb}
-use lib.Ieee.{Float, nan, binary32, binary64, fits}
-use lib.ListN.{length, get_or, take, drop, set, length-take, length-set}
-use lib.Seq.{take-suc, take-suc-set, take_all, drop-set-lt, drop-drop}
+-- The calls of commands are in range of their types, and each turn of the replay is one more call that ran; so the history theorem speaks of it. Assumes nothing.
+use Rattle.std.proofs.Common.{◌≡◌, ℕ, ◌+◌, ◌<◌, min, true, List, [], ◌∷◌, ◌++◌, map, length, get_or, take, drop, set, Float, Result, refl, ap, sym, ◌∙◌, arith}
+use Rattle.std.proofs.lemmas.List.{length-take, length-map, get_or-take, take_more_set, take_min, take-map, map_push, map_more, drop-set-lt, drop-drop}
+use Rattle.std.specs.List.{enumerate_from}
+use Rattle.std.proofs.lemmas.List.FromFn.{length-enumerate_from, get_or-enumerate_from}
+use mir.Val.{Val}
+use denote.Laws.{Is}
+use denote.Enum.Declared.{row}
+use Rattle.std.specs.Float.{binary32, binary64}
+use Rattle.std.specs.Float.Ieee.{fits}
 use Rattle.curve.specs.declared.CurveType.TheVariants.{Linear}
-use Rattle.points.proofs.CheckLaws.{number_above}
-use Rattle.points.specs.Refusal.{Said, refuses, said, number}
-use Rattle.points.specs.declared.refusal.Refusal.{Refusal}
-use Rattle.points.specs.declared.refusal.Answer.{Answer}
-use Rattle.points.specs.declared.refusal.Answer.TheVariants.{Refused}
-use Rattle.numbers.proofs.Tests.{yes, and_both as both, either}
+use Rattle.numbers.proofs.Tests.{and_both as both}
+use Rattle.points.specs.Refusal.{Said, said}
 use Rattle.points.specs.Points.{every}
-use Rattle.points.proofs.Laws.{every_append, every_one}
 use Rattle.points.specs.Point.{point_with}
+use Rattle.points.specs.declared.refusal.Refusal.{Refusal}
+use Rattle.points.proofs.Laws.{every_append, every_one}
 use Rattle.envelope.specs.Envelope.{new}
-use Rattle.envelope.specs.Typed.{typed_edit, typed_points_edit}
-use Rattle.envelope.proofs.TypedLists.{linear_typed, point_with-typed}
+use Rattle.envelope.specs.Typed.{typed, typed_point, typed_edit, typed_points_edit}
+use Rattle.envelope.proofs.TypedLists.{linear_typed}
 use Rattle.envelope.proofs.TypedLaws.{new_typed, edit_typed}
-use Rattle.envelope.specs.declared.edit.Join.TheVariants.{Merge}
-use Rattle.envelope.specs.declared.edit.Edit.TheVariants.{OfPoints, SetEnabled}
-use Rattle.envelope.specs.declared.edit.PointsEdit.TheVariants.{AddPoint, ShiftPoints, Scale}
+use Rattle.envelope.specs.declared.edit.Edit.TheVariants.{OfPoints}
+use Rattle.envelope.specs.declared.edit.PointsEdit.TheVariants as of_points
 use Rattle.session.specs.Session.{open_session}
-use Rattle.session.proofs.Slots.{lt_or_le}
-use Rattle.session.specs.Calls.{alone, joined, committed, Call, edit, back, forward, Obeys, Ran, done, call}
+use Rattle.session.specs.Calls.{Call, Obeys, Ran, done, call}
 use Rattle.session.specs.declared.Session.{Session}
-use Rattle.session.specs.declared.SessionAnswer.{SessionAnswer}
 use Rattle.history.specs.After.{typed_call}
 use Rattle.history.proofs.History.{history_new}
-use Rattle.replay.specs.Replay.{other_from, ticket_from, call_from, calls_of, replayed, said_of, AfterReplay}
+use Rattle.replay.specs.Replay.{other_from, ticket_from, call_from, replayed, AfterReplay}
+use Rattle.replay.specs.declared.Command.{Command}
+use Rattle.replay.specs.declared.Command.TheVariants.{Back, Forward, SetEnabled, ShiftPoints, Scale, AddPoint, Merge, Commit}
+use Rattle.replay.specs.contracts.Command.{the_type}
 
--- a refusal's number says it, since it isn't 0
-number_said : (r : Refusal) → said_of (number r) ≡ refuses (number r)
-unfolding said_of
-number_said r = rw (ne_eqb (number r) 0 (omega (arith, number_above r)))
+-- ---- a command's numbers are in range of their types, so its call's are
 
-pub refusal_said : (answer : Answer) (r : Refusal) (n : ℕ) → answer ≡ Refused r → n ≡ number r → said_of n ≡ said answer
-refusal_said answer r n h k = ap said_of k ∙ number_said r ∙ sym (ap said h)
+module _ (x y : Float) (f : fits binary64 x ≡ true) (g : fits binary32 y ≡ true) where
+  one_typed : typed_point (point_with x y Linear) ≡ true
+  one_typed = rw (f, g) linear_typed
 
--- ---- a call's kind
+  other_typed : typed (other_from x y) ≡ true
+  unfolding other_from typed_edit typed_points_edit
+  other_typed = edit_typed (OfPoints (of_points.AddPoint (point_with x y Linear))) (new 0) (new_typed 0 refl) one_typed
 
-module _ (k : ℕ) (x y : Float) where
-  pub is_back : k ≡ 0 → call_from k x y ≡ back
-  unfolding call_from
-  is_back h = rw h
-
-  pub is_forward : k ≡ 1 → call_from k x y ≡ forward
-  unfolding call_from
-  is_forward h = rw h
-
-  pub is_off : k ≡ 2 → call_from k x y ≡ edit (alone (SetEnabled false))
-  unfolding call_from
-  is_off h = rw h
-
-  pub is_on : k ≡ 3 → call_from k x y ≡ edit (alone (SetEnabled true))
-  unfolding call_from
-  is_on h = rw h
-
-  pub is_shift : k ≡ 4 → call_from k x y ≡ edit (alone (OfPoints (ShiftPoints x)))
-  unfolding call_from
-  is_shift h = rw h
-
-  pub is_scale : k ≡ 5 → call_from k x y ≡ edit (alone (OfPoints (Scale y)))
-  unfolding call_from
-  is_scale h = rw h
-
-  pub is_add : (k ≡ 0 → ⊥) → (k ≡ 1 → ⊥) → (k ≡ 2 → ⊥) → (k ≡ 3 → ⊥) → (k ≡ 4 → ⊥) → (k ≡ 5 → ⊥) → (k ≡ 6 → ⊥) → (k ≡ 7 → ⊥)
-      → call_from k x y ≡ edit (alone (OfPoints (AddPoint (point_with x y Linear))))
-  unfolding call_from
-  is_add a b c d e f g h = rw (ne_eqb k 0 a, ne_eqb k 1 b, ne_eqb k 2 c, ne_eqb k 3 d, ne_eqb k 4 e, ne_eqb k 5 f, ne_eqb k 6 g, ne_eqb k 7 h)
-
-  pub is_merge : k ≡ 6 → call_from k x y ≡ edit (joined (Merge x) (other_from x y))
-  unfolding call_from
-  is_merge h = rw h
-
-  pub is_commit : k ≡ 7 → call_from k x y ≡ edit (committed (ticket_from x y))
-  unfolding call_from
-  is_commit h = rw h
-
-  -- a call's numbers are in range of their types if these are
-  pub call_typed : fits binary64 x ≡ true → fits binary32 y ≡ true → typed_call (call_from k x y) ≡ true
-  unfolding call_from other_from ticket_from typed_edit typed_points_edit
-  call_typed f g =
-      let point_typed = point_with-typed x y Linear (yes f) (yes g) linear_typed in
-      let other-typed = edit_typed (OfPoints (AddPoint (point_with x y Linear))) (new 0) (new_typed 0 refl) point_typed in
-      either (λ (c : Call). typed_call c ≡ true) (eqb k 0) (λ h. refl)
-      (either (λ (c : Call). typed_call c ≡ true) (eqb k 1) (λ h. refl)
-      (either (λ (c : Call). typed_call c ≡ true) (eqb k 2) (λ h. refl)
-      (either (λ (c : Call). typed_call c ≡ true) (eqb k 3) (λ h. refl)
-      (either (λ (c : Call). typed_call c ≡ true) (eqb k 4) (λ h. f)
-      (either (λ (c : Call). typed_call c ≡ true) (eqb k 5) (λ h. g)
-      (either (λ (c : Call). typed_call c ≡ true) (eqb k 6) (λ h. other-typed)
-      (either (λ (c : Call). typed_call c ≡ true) (eqb k 7) (λ h. both other-typed other-typed)
-      point_typed)))))))
-
--- ---- their number, and one more of them
-
-length-calls : (ks : List ℕ) (xs ys : List Float) → length (calls_of ks xs ys) ≡ min (length ks) (min (length xs) (length ys))
-unfolding calls_of
-length-calls [] xs ys = omega arith
-length-calls (k ∷ ks) [] ys = omega arith
-length-calls (k ∷ ks) (x ∷ xs) [] = omega arith
-length-calls (k ∷ ks) (x ∷ xs) (y ∷ ys) = omega (arith, length-calls ks xs ys)
-
-call_at : (ks : List ℕ) (xs ys : List Float) (i : ℕ) (d : Call) → i < length ks → i < length xs → i < length ys
-    → get_or (calls_of ks xs ys) i d ≡ call_from (get_or ks i 0) (get_or xs i nan) (get_or ys i nan)
-unfolding calls_of
-call_at [] xs ys i d h k l = absurd (omega arith)
-call_at (k' ∷ ks) [] ys i d h k l = absurd (omega arith)
-call_at (k' ∷ ks) (x ∷ xs) [] i d h k l = absurd (omega arith)
-call_at (k' ∷ ks) (x ∷ xs) (y ∷ ys) zero d h k l = refl
-call_at (k' ∷ ks) (x ∷ xs) (y ∷ ys) (suc i) d h k l = call_at ks xs ys i d (omega arith) (omega arith) (omega arith)
-
-ran_snoc : {s : Session} {m : List ℕ} {cs : List Call} {answers : List (Said (Unit {0}))} {s' : Session} {m' : List ℕ} (c : Call) (a : SessionAnswer) (m'' : List ℕ)
-    → Ran s m cs answers s' m' → Obeys s' m' c a m'' → Ran s m (cs ++ (c ∷ [])) (answers ++ (said a.answer ∷ [])) a.session m''
-ran_snoc c a m'' done ob = call a ob done
-ran_snoc c a m'' (call b o r) ob = call b o (ran_snoc c a m'' r ob)
+pub command_typed : (c : Command) (vs : List Val) → Is (row the_type) c vs → typed_call (call_from c) ≡ true
+unfolding typed_edit typed_points_edit ticket_from
+command_typed Back vs is = refl
+command_typed Forward vs is = refl
+command_typed (SetEnabled on) vs is = refl
+command_typed (ShiftPoints offset) vs is = is.1.1.1.1.0.1
+command_typed (Scale factor) vs is = is.1.1.1.1.0.1
+command_typed (AddPoint x y) vs is = one_typed x y is.1.1.1.1.0.1 is.1.1.1.1.1.0.1
+command_typed (Merge x y) vs is = other_typed x y is.1.1.1.1.0.1 is.1.1.1.1.1.0.1
+command_typed (Commit x y) vs is = let t = other_typed x y is.1.1.1.1.0.1 is.1.1.1.1.1.0.1 in both t t
 
 -- ---- the replay's loop
 
--- i calls have run, and their codes stand in the first i places
-pub record Replaying (target : ℕ) (m₀ kinds : List ℕ) (xs ys : List Float) (codes₀ codes : List ℕ) (i : ℕ) (s : Session) (m : List ℕ) : Type 0 where
-  pub ran : Ran (open_session target m₀) m₀ (take i (calls_of kinds xs ys)) (map said_of (take i codes)) s m
-  pub in_range : every typed_call (take i (calls_of kinds xs ys)) ≡ true
-  pub room : length codes ≡ length codes₀
-  pub rest : drop i codes ≡ drop i codes₀
+ran_snoc : {s : Session} {m : List ℕ} {cs : List Call} {answers : List (Said (Unit {0}))} {s' : Session} {m' : List ℕ} (c : Call) (a : Result (Unit {0}) Refusal) (s'' : Session) (m'' : List ℕ)
+    → Ran s m cs answers s' m' → Obeys s' m' c a s'' m'' → Ran s m (cs ++ (c ∷ [])) (answers ++ (said a ∷ [])) s'' m''
+ran_snoc c a s'' m'' done ob = call a ob done
+ran_snoc c a s'' m'' (call b o r) ob = call b o (ran_snoc c a s'' m'' r ob)
 
-pub begun : (target : ℕ) (m₀ kinds : List ℕ) (xs ys : List Float) (codes : List ℕ) (s : Session) → s ≡ open_session target m₀ → Replaying target m₀ kinds xs ys codes codes 0 s m₀
-unfolding every
-begun target m₀ kinds xs ys codes s e = record { ran = rw e done; in_range = refl; room = refl; rest = refl }
+-- the next command comes with the number of those before it
+pub numbered : {A : Type 0} (n : ℕ) (l : List A) (k : ℕ) (v : ℕ × A) → k < length (enumerate_from 0 (take n l)) → v ≡ get_or (enumerate_from 0 (take n l)) k v
+    → (v.0 ≡ k) × (k < n) × (k < length l) × (v.1 ≡ get_or l k v.1)
+numbered {A = A} n l k v h e =
+    let long : k < min n (length l) = omega (arith, h, length-enumerate_from 0 (take n l), length-take n l) in
+    let at = e ∙ get_or-enumerate_from 0 (take n l) k v (omega (arith, long, length-take n l)) in
+    (omega (arith, ap (λ (w : ℕ × A). w.0) at), omega (arith, long), omega (arith, long), ap (λ (w : ℕ × A). w.1) at ∙ get_or-take n l k v.1 (omega (arith, long)))
 
-module _ (target : ℕ) (m₀ kinds : List ℕ) (xs ys : List Float) (codes₀ codes : List ℕ) (i : ℕ) (s : Session) (m : List ℕ)
-    (v : Replaying target m₀ kinds xs ys codes₀ codes i s m) where
-  module _ (a : SessionAnswer) (m' : List ℕ) (c : ℕ) (hk : i < length kinds) (hx : i < length xs) (hy : i < length ys) (hc : i < length codes)
-      (ob : Obeys s m (call_from (get_or kinds i 0) (get_or xs i nan) (get_or ys i nan)) a m') (ty : typed_call (call_from (get_or kinds i 0) (get_or xs i nan) (get_or ys i nan)) ≡ true)
-      (says : said_of c ≡ said a.answer) where
-    abbrev this : Call
-    this = call_from (get_or kinds i 0) (get_or xs i nan) (get_or ys i nan)
+-- i calls have run, and their answers stand in the first i places
+pub record Replaying (target : ℕ) (m₀ : List ℕ) (commands : List Command) (answers₀ answers : List (Result (Unit {0}) Refusal)) (i : ℕ) (s : Session) (m : List ℕ) : Type 0 where
+  pub ran : Ran (open_session target m₀) m₀ (map call_from (take i commands)) (map said (take i answers)) s m
+  pub in_range : every typed_call (map call_from (take i commands)) ≡ true
+  pub rest : drop i answers ≡ drop i answers₀
 
-    calls_more : take (i + 1) (calls_of kinds xs ys) ≡ take i (calls_of kinds xs ys) ++ (this ∷ [])
-    calls_more =
-        ap (λ (n : ℕ). take n (calls_of kinds xs ys)) (add-one i)
-        ∙ take-suc (calls_of kinds xs ys) i back (omega (arith, length-calls kinds xs ys))
-        ∙ ap (λ (x : Call). take i (calls_of kinds xs ys) ++ (x ∷ [])) (call_at kinds xs ys i back hk hx hy)
+module _ (target : ℕ) (m₀ : List ℕ) (commands : List Command) (answers₀ : List (Result (Unit {0}) Refusal)) where
+  pub begun : (s : Session) → s ≡ open_session target m₀ → Replaying target m₀ commands answers₀ answers₀ 0 s m₀
+  begun s e = record { ran = rw e done; in_range = refl; rest = refl }
 
-    codes_more : map said_of (take (i + 1) (set codes i c)) ≡ map said_of (take i codes) ++ (said a.answer ∷ [])
-    codes_more =
-        ap (λ (n : ℕ). map said_of (take n (set codes i c))) (add-one i)
-        ∙ ap (map said_of) (take-suc-set codes i c hc)
-        ∙ map-append said_of (take i codes) (c ∷ [])
-        ∙ ap (λ (x : Said (Unit {0})). map said_of (take i codes) ++ (x ∷ [])) says
+  module _ (answers : List (Result (Unit {0}) Refusal)) (i : ℕ) (s : Session) (m : List ℕ) (v : Replaying target m₀ commands answers₀ answers i s m) where
+    -- one call more
+    module _ (command : Command) (a : Result (Unit {0}) Refusal) (s' : Session) (m' : List ℕ) (is : command ≡ get_or commands i command) (hc : i < length commands)
+        (ha : i < length answers) (ob : Obeys s m (call_from command) a s' m') (ty : typed_call (call_from command) ≡ true) where
+      calls_more : map call_from (take (i + 1) commands) ≡ map call_from (take i commands) ++ (call_from command ∷ [])
+      calls_more = map_more call_from commands i command hc ∙ ap (λ (c : Command). map call_from (take i commands) ++ (call_from c ∷ [])) (sym is)
 
-    rest_more : drop (i + 1) (set codes i c) ≡ drop (i + 1) codes₀
-    rest_more = drop-set-lt (i + 1) codes i c (omega arith) ∙ sym (drop-drop 1 i codes) ∙ ap (drop 1) v.rest ∙ drop-drop 1 i codes₀
+      answers_more : map said (take (i + 1) (set answers i a)) ≡ map said (take i answers) ++ (said a ∷ [])
+      answers_more = ap (map said) (take_more_set answers i a ha) ∙ map_push said (take i answers) a
 
-    pub again : Replaying target m₀ kinds xs ys codes₀ (set codes i c) (i + 1) a.session m'
-    again =
-        record {
-          ran = rw (calls_more, codes_more) (ran_snoc this a m' v.ran ob);
-          in_range = ap (every typed_call) calls_more ∙ every_append typed_call (take i (calls_of kinds xs ys)) (this ∷ []) ∙ both v.in_range (every_one typed_call this ∙ ty);
-          room = simp length-set v.room;
-          rest = rest_more;
-        }
+      pub again : Replaying target m₀ commands answers₀ (set answers i a) (i + 1) s' m'
+      again =
+          record {
+            ran = rw (calls_more, answers_more) (ran_snoc (call_from command) a s' m' v.ran ob);
+            in_range = ap (every typed_call) calls_more ∙ every_append typed_call (map call_from (take i commands)) _ ∙ both v.in_range (every_one typed_call _ ∙ ty);
+            rest = drop-set-lt (i + 1) answers i a (omega arith) ∙ sym (drop-drop 1 i answers) ∙ ap (drop 1) v.rest ∙ drop-drop 1 i answers₀;
+          }
 
-  module _ (f : target < 0x1_0000_0000) (n : i ≡ min (min (length kinds) (length xs)) (min (length ys) (length codes₀))) where
-    long : length (replayed kinds xs ys codes₀) ≡ i
-    unfolding replayed
-    long = length-take (length codes₀) (calls_of kinds xs ys) ∙ omega (arith, length-calls kinds xs ys)
+    module _ (f : target < 0x1_0000_0000) (n : i ≡ min (length answers₀) (length commands)) where
+      long : length (replayed commands answers₀) ≡ i
+      unfolding replayed
+      long = simp (length-take, length-map) (sym n)
 
-    all_calls : take i (calls_of kinds xs ys) ≡ replayed kinds xs ys codes₀
-    unfolding replayed
-    all_calls =
-        ⊎_elim
-        (λ (l : length codes₀ < length (calls_of kinds xs ys)).
-        let e : i ≡ length codes₀ = omega (arith, length-calls kinds xs ys) in
-        ap (λ (k : ℕ). take k (calls_of kinds xs ys)) e)
-        (λ (l : length (calls_of kinds xs ys) ≤ length codes₀).
-        take_all i (calls_of kinds xs ys) (omega (arith, length-calls kinds xs ys)) ∙ sym (take_all (length codes₀) (calls_of kinds xs ys) l))
-        (lt_or_le (length codes₀) (length (calls_of kinds xs ys)))
+      all_calls : map call_from (take i commands) ≡ replayed commands answers₀
+      unfolding replayed
+      all_calls =
+          ap (λ (k : ℕ). map call_from (take k commands)) n ∙ ap (map call_from) (take_min (length answers₀) commands)
+          ∙ sym (take-map call_from (length answers₀) commands)
 
-    all_ran : Ran (open_session target m₀) m₀ (replayed kinds xs ys codes₀) (map said_of (take (length (replayed kinds xs ys codes₀)) codes)) s m
-    all_ran = rw (long, ← all_calls) v.ran
+      all_ran : Ran (open_session target m₀) m₀ (replayed commands answers₀) (map said (take (length (replayed commands answers₀)) answers)) s m
+      all_ran = rw (long, ← all_calls) v.ran
 
-    pub ended : AfterReplay target m₀ (replayed kinds xs ys codes₀) codes₀ codes s m
-    ended =
-        record {
-          ran = all_ran;
-          after = history_new target f m₀ (replayed kinds xs ys codes₀) (ap (every typed_call) (sym all_calls) ∙ v.in_range) _ s m all_ran;
-          rest = rw long v.rest;
-        }
+      pub ended : AfterReplay target m₀ (replayed commands answers₀) answers₀ answers s m
+      ended =
+          record {
+            ran = all_ran;
+            after = history_new target f m₀ (replayed commands answers₀) (ap (every typed_call) (sym all_calls) ∙ v.in_range) _ s m all_ran;
+            rest = rw long v.rest;
+          }

@@ -1,2 +1,2 @@
--- The calls that lists of numbers stand for, and what holds after their replay.
+-- The calls that the commands of a list stand for, and what holds after their replay.
 pub mod Replay

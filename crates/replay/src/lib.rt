@@ -1,29 +1,44 @@
 // Replays a list of calls on a new session, through the session's own functions: what the history theorem says, said of one function.
 #![tactic(auto)]
 
-ghost use Rattle.std.specs.Prelude.{◌≡◌, true, min};
-ghost use Rattle.points.specs.Refusal.{said};
+ghost use Rattle.std.specs.Prelude.{◌≡◌, true};
 ghost use Rattle.session.specs.Calls.{Obeys};
 ghost use Rattle.history.specs.After.{typed_call};
-ghost use Rattle.replay.specs.Replay.{other_from, ticket_from, call_from, replayed, said_of, AfterReplay};
+ghost use Rattle.replay.specs.Replay.{other_from, ticket_from, call_from, replayed, AfterReplay};
 
 use ask::Ticket;
 use envelope::AutomationEnvelope;
 use envelope::edit::{Edit, Join, PointsEdit};
 use points::AutomationPoint;
-use points::refusal::Answer;
-use session::{Session, SessionAnswer};
+use points::refusal::Refusal;
+use session::Session;
+
+// A call of the list, with what an edit of its kind takes.
+#[derive(Clone, Copy)]
+pub enum Command {
+    Back,
+    Forward,
+    SetEnabled(bool),
+    ShiftPoints(f64),
+    Scale(f32),
+    // the point's time and its value
+    AddPoint(f64, f32),
+    // the offset, which is also the time of the other envelope's one point, and that point's value
+    Merge(f64, f32),
+    Commit(f64, f32),
+}
 
 // The envelope with one point, which a merge takes.
+#[tactic(auto, unfolding(crate::specs::Replay::other_from))]
 fn other(x: f64, y: f32) -> AutomationEnvelope
     ensures { result ≡ other_from x y }
 {
     let empty = AutomationEnvelope::new(0);
-    let r = empty.add_point(AutomationPoint::new(x, y));
-    r.envelope
+    empty.add_point(AutomationPoint::new(x, y)).unwrap_or(empty)
 }
 
 // A ticket whose first is that envelope: it fits a session that has come to be just this.
+#[tactic(auto, unfolding(crate::specs::Replay::ticket_from))]
 fn ticket(x: f64, y: f32) -> Ticket
     ensures { result ≡ ticket_from x y }
 {
@@ -35,67 +50,47 @@ fn ticket(x: f64, y: f32) -> Ticket
     }
 }
 
-// One call, given by a number and what an edit of that number takes.
-fn call(session: Session, kind: u8, x: f64, y: f32, memory: &mut [u64]) -> SessionAnswer
-    ensures obeys { Obeys session memory.old (call_from kind x y) result memory.new }
-    ensures typed { typed_call (call_from kind x y) ≡ true }
-{
-    match kind {
-        0 => session.back(memory),
-        1 => session.forward(memory),
-        2 => session.edit(Edit::SetEnabled(false), memory),
-        3 => session.edit(Edit::SetEnabled(true), memory),
-        4 => session.edit(Edit::OfPoints(PointsEdit::ShiftPoints(x)), memory),
-        5 => session.edit(Edit::OfPoints(PointsEdit::Scale(y)), memory),
-        6 => session.join(Join::Merge(x), other(x, y), memory),
-        7 => commit::commit(session, ticket(x, y), memory),
-        _ => session.edit(
-            Edit::OfPoints(PointsEdit::AddPoint(AutomationPoint::new(x, y))),
-            memory,
-        ),
+impl Command {
+    // The call itself.
+    fn call(self, session: &mut Session, memory: &mut [u64]) -> Result<(), Refusal>
+        ensures obeys { Obeys session.old memory.old (call_from self) result session.new memory.new }
+        ensures typed { typed_call (call_from self) ≡ true }
+    {
+        match self {
+            Command::Back => session.back(memory),
+            Command::Forward => session.forward(memory),
+            Command::SetEnabled(on) => session.edit(Edit::SetEnabled(on), memory),
+            Command::ShiftPoints(offset) => session.edit(
+                Edit::OfPoints(PointsEdit::ShiftPoints(offset)),
+                memory,
+            ),
+            Command::Scale(factor) => session.edit(
+                Edit::OfPoints(PointsEdit::Scale(factor)),
+                memory,
+            ),
+            Command::AddPoint(x, y) => session.edit(
+                Edit::OfPoints(PointsEdit::AddPoint(AutomationPoint::new(x, y))),
+                memory,
+            ),
+            Command::Merge(x, y) => session.join(Join::Merge(x), &other(x, y), memory),
+            Command::Commit(x, y) => commit::commit(session, &ticket(x, y), memory),
+        }
     }
 }
 
-// 0, or the refusal's number.
-fn code(answer: Answer) -> u32
-    ensures { said_of result ≡ said answer }
-{
-    match answer {
-        Answer::Accepted => 0,
-        Answer::Refused(why) => why.number(),
-    }
-}
-
-fn shorter(a: usize, b: usize) -> usize
-    ensures { result ≡ min a b }
-{
-    if a < b { a } else { b }
-}
-
-// As many calls as the shortest of the four has room for.
+// As many calls as there are places for their answers.
 pub fn replay(
     target: u32,
-    kinds: &[u8],
-    xs: &[f64],
-    ys: &[f32],
-    codes: &mut [u32],
+    commands: &[Command],
+    answers: &mut [Result<(), Refusal>],
     memory: &mut [u64],
 ) -> Session
-    ensures { AfterReplay target memory.old (replayed kinds.now xs.now ys.now codes.old) codes.old codes.new result memory.new }
+    ensures { AfterReplay target memory.old (replayed commands.now answers.old) answers.old answers.new result memory.new }
 {
-    let n = shorter(
-        shorter(kinds.len(), xs.len()),
-        shorter(ys.len(), codes.len()),
-    );
     let mut session = Session::open(target, memory);
-    let mut i: usize = 0;
-    while i < n {
-        let a = call(session, kinds[i], xs[i], ys[i], memory);
-        let answer = a.answer;
-        codes[i] = code(answer);
-        let next = a.session;
-        session = next;
-        i += 1;
+    for (i, command) in commands.iter().take(answers.len()).enumerate() {
+        // by place: of what is written through a zip with `iter_mut` a proof knows nothing
+        answers[i] = command.call(&mut session, memory);
     }
     session
 }

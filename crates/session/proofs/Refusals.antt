@@ -1,8 +1,8 @@
 -- "A refusal returns its number .. and changes nothing": `RefusedCallChangesNothing` of specs/Promised, over every call of a session. Assumes nothing.
+use Rattle.std.specs.Prelude.{None, Option, Some}
 use Prim.Native.Nat.{ℕ}
 use mathlib.Core.Path.{◌≡◌, ap, sym, ◌∙◌}
 use mathlib.Core.List.{List}
-use mathlib.Core.Option.{Option, none, some}
 use Rattle.numbers.proofs.Tests.{either}
 use Rattle.points.specs.Checks.{first_failing}
 use Rattle.points.proofs.CheckLaws.{gate_either, never}
@@ -31,8 +31,8 @@ module _ (s : Session) (m : List ℕ) where
   settled_stays (gives u) e = either (Stays s m) (bit_equal s.envelope e) (λ same. accepted_stays _ _) (accepted_stays _ _)
 
   exchanged_stays : (k : ℕ) (to : AutomationEnvelope → Session) (u : Option AutomationEnvelope) → Stays s m (exchanged s m k to u)
-  exchanged_stays k to none = declined_stays 12
-  exchanged_stays k to (some e) = accepted_stays _ _
+  exchanged_stays k to None = declined_stays 12
+  exchanged_stays k to (Some e) = accepted_stays _ _
 
   own_stays : (c : Call) → Stays s m (own_of c s m)
   own_stays (edit x) = settled_stays (made_by x s.envelope).said (made_by x s.envelope).envelope
@@ -46,6 +46,6 @@ module _ (s : Session) (m : List ℕ) where
       (λ h. own_stays c)
 
 pub refused_call : RefusedCallChangesNothing
-refused_call s m c a m' n ob h =
+refused_call s m c a s' m' n ob h =
     let all = ob ∙ call_stays s m c n (ap (λ (x : Called). x.said) (sym ob) ∙ h) in
     (ap (λ (x : Called). x.session) all, ap (λ (x : Called). x.memory) all)

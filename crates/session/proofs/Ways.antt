@@ -1,247 +1,207 @@
 -- The ways out of the session's functions, each as a law over plain variables: the functions' proofs cite these. Assumes nothing.
-use Prim.Native.Nat.{ℕ, ◌+◌, ◌-◌, ◌/◌, ◌≤◌, ◌<◌, min}
-use mathlib.Core.Path.{◌≡◌, refl, ap, sym, ◌∙◌}
-use mathlib.Core.Bool.{Bool, true, false, cond, ◌&&◌, and-true, and-false}
-use mathlib.Core.List.{List, [], ◌++◌, append-nil}
-use mathlib.Core.Option.{Option, none, some}
-use native.Mathlib.Omega.{arith}
-use lib.ListN.{length, drop, drop_of_length-le}
-use lib.Dec.{ltb, leb, eqb}
-use borrow.Author.Tests.{lt-ltb, le-ltb, le-leb, lt-leb, eq-eqb, ne_eqb, leb-true, leb-false, ltb-true, eqb-true}
-use Rattle.numbers.proofs.Tests.{and_left, and_right}
-use Rattle.points.specs.Checks.{first_failing, unless_refused}
-use Rattle.points.proofs.CheckLaws.{first_holds, first_fails, all_hold, passed_over, stopped_at, never}
-use Rattle.points.specs.Refusal.{Said, refuses, said, number}
-use Rattle.points.specs.Points.{every}
-use Rattle.points.specs.declared.refusal.Refusal.{Refusal}
-use Rattle.points.specs.declared.refusal.Refusal.TheVariants.{NotValid, MemoryLength, StoredState}
-use Rattle.points.specs.declared.refusal.Answer.TheVariants.{Accepted, Refused}
-use Rattle.envelope.specs.Envelope.{valid_envelope}
-use Rattle.envelope.specs.Edit.{EditTold, told_edit}
+use Rattle.std.proofs.Common.{◌≡◌, ℕ, ◌+◌, ◌-◌, ◌*◌, ◌/◌, ◌≤◌, ◌<◌, min, max, Bool, true, false, ◌&&◌, leb, ltb, eqb, List, [], ◌∷◌, ◌++◌, length, drop, take, None, Option, Some, refl, ap, sym, ◌∙◌, arith}
+use Rattle.std.proofs.lemmas.Bool.Decides.{nat_tests}
+use Rattle.std.proofs.lemmas.List.{append-nil, length-take, length-drop, drop-drop, drop_all}
+use borrow.Rule.Slice.PartMut.{put_mid}
 use Rattle.envelope.specs.declared.AutomationEnvelope.{AutomationEnvelope}
-use Rattle.envelope.specs.declared.Edited.{Edited}
-use Rattle.equal.specs.Equal.{bit_equal}
-use Rattle.state.specs.State.{state_words, pack, unpacked, read_as, read_state, state_over}
-use Rattle.session.specs.Session.{depth, state_at, stored, slot_after, slot_before, place_below, in_order, valid_session, Called, called, declined, moved_to, counted, settled, exchanged}
-use Rattle.session.specs.Session.{stepped_over, refused_by, moved_by, stayed_by}
-use Rattle.session.specs.Calls.{Entry, made_by, others_valid, fits_ticket, Call, edit, back, forward, admission, admission_of, afterwards, in_turn, tests_of, call_valid, own_of, call_of, behind}
+use Rattle.points.specs.Refusal.{Said, refuses, gives, said, number}
+use Rattle.points.specs.Points.{every}
+use Rattle.points.specs.Checks.{or_else, first_failing, unless_refused}
+use Rattle.points.specs.declared.refusal.Refusal.{Refusal}
+use Rattle.points.specs.declared.refusal.Refusal.TheVariants.{NotValid, NoStep, OtherEnvelope}
+use Rattle.points.proofs.CheckLaws.{first_holds, first_fails, all_hold, passed_over, stopped_at, never}
+use Rattle.envelope.specs.Envelope.{valid_envelope}
+use mathlib.Core.Bool.{and-true, and-false}
+use Rattle.numbers.proofs.Tests.{and_left, and_right}
+use Rattle.envelope.specs.Edit.{edit_of, join_of}
+use Rattle.envelope.specs.declared.edit.Edit.{Edit}
+use Rattle.envelope.specs.declared.edit.Join.{Join}
+use Rattle.envelope.proofs.EditLaws.{edit_one}
+use Rattle.envelope.proofs.JoinLaws.{join_one}
+use Rattle.state.specs.State.{pack, unpacked, read_as, read_state, state_over}
+use Rattle.session.specs.Session.{slot_after, slot_before, place_below, state_at, stored, depth, in_order, valid_session, declined, accepted, moved_to, settled, exchanged, stepped_over}
+use Rattle.session.specs.Calls.{Entry, alone, joined, made_by, back, forward, Tests, step_tests, others_valid, fits_ticket, Call, edit, admission, admission_of, afterwards, in_turn, tests_of, own_of, call_of}
 use Rattle.session.specs.declared.Session.{Session}
-use Rattle.session.specs.declared.SessionAnswer.{SessionAnswer}
+use borrow.Author.Tests.{le-ltb, ltb-true, eqb-true}
 
--- ---- a session in order
+-- the place's test
+pub place_is : (at d : ℕ) → ltb at (max d 1) ≡ place_below at d
+place_is at d = grind (arith, nat_tests)
 
-pub record InOrder (s : Session) : Type 0 where
-  pub room : s.kept + s.ahead ≤ s.length / 1028
-  pub at_most : s.at ≤ s.length / 1028
-  pub below : 0 < s.length / 1028 → s.at < s.length / 1028
+pub order_is : (k a at d : ℕ) → d < 18446744073709551615 → (leb (min (k + a) 18446744073709551615) d && ltb at (max d 1)) ≡ (leb (k + a) d && place_below at d)
+order_is k a at d h = grind (arith, nat_tests)
 
-pub in_order_lem : (s : Session) → in_order s ≡ true → InOrder s
+-- a session in order: its place can be followed, and the part of a slot
+pub order_room : (s : Session) → in_order s ≡ true → s.kept + s.ahead ≤ s.length / 1028
 unfolding in_order
-in_order_lem s h = go (eqb (depth s) 0) refl (and_right (leb (s.kept + s.ahead) (depth s)) (place_below s.at (depth s)) h)
-  where
-    few : s.kept + s.ahead ≤ s.length / 1028
-    few = leb-true _ _ (and_left (leb (s.kept + s.ahead) (depth s)) (place_below s.at (depth s)) h)
+order_room s h = grind (arith, nat_tests)
 
-    go : (b : Bool) → eqb (depth s) 0 ≡ b → cond b (eqb s.at 0) (ltb s.at (depth s)) ≡ true → InOrder s
-    go true z p =
-        let a : s.at ≡ 0 = eqb-true _ _ p in
-        let d : s.length / 1028 ≡ 0 = eqb-true _ _ z in
-        record { room = few; at_most = omega arith; below = λ q. absurd (omega arith) }
-    go false z p =
-        let a : s.at < s.length / 1028 = ltb-true _ _ p in
-        record { room = few; at_most = omega arith; below = λ q. a }
-
--- its test, without a sum that could wrap
-pub room_is : (k a d : ℕ) → k ≤ d → leb a (d - k) ≡ leb (k + a) d
-room_is k a d h = go (leb a (d - k)) refl
-  where
-    go : (b : Bool) → leb a (d - k) ≡ b → b ≡ leb (k + a) d
-    go true p = sym (le-leb (k + a) d (let l : a ≤ d - k = leb-true _ _ p in omega arith))
-    go false p = sym (lt-leb (k + a) d (let l : d - k < a = leb-false _ _ p in omega arith))
-
-pub order_yes : (s : Session) (b : Bool) → s.kept ≤ s.length / 1028 → b ≡ place_below s.at (s.length / 1028)
-    → (leb s.ahead (s.length / 1028 - s.kept) && b) ≡ in_order s
+pub order_at : (s : Session) → in_order s ≡ true → s.at ≤ s.length / 1028
 unfolding in_order
-order_yes s b h p = λ i. room_is s.kept s.ahead (s.length / 1028) h i && p i
+order_at s h = grind (arith, nat_tests)
 
-pub order_no : (s : Session) → s.length / 1028 < s.kept → false ≡ in_order s
+pub order_below : (s : Session) → in_order s ≡ true → 0 < s.length / 1028 → s.at < s.length / 1028
 unfolding in_order
-order_no s h = rw (lt-leb (s.kept + s.ahead) (s.length / 1028) (omega arith))
+order_below s h p = grind (arith, nat_tests)
 
-pub after_yes : (d at : ℕ) → 1 < d - at → at + 1 ≡ slot_after d at
-unfolding slot_after
-after_yes d at h = rw (lt-ltb (at + 1) d (omega arith))
+-- a slot's part of the memory
+part_words : (k : ℕ) → k * 1028 + 1028 - k * 1028 ≡ 1028
+part_words k = omega arith
 
-pub after_no : (d at : ℕ) → at ≤ d → d - at ≤ 1 → 0 ≡ slot_after d at
-unfolding slot_after
-after_no d at l h = rw (le-ltb (at + 1) d (omega arith))
-
-pub before_zero : (d at : ℕ) → at ≡ 0 → d - 1 ≡ slot_before d at
-unfolding slot_before
-before_zero d at h = rw h
-
-pub before_some : (d at : ℕ) → (at ≡ 0 → ⊥) → at - 1 ≡ slot_before d at
-unfolding slot_before
-before_some d at h = rw (ne_eqb at 0 h)
-
--- the slot before one is below D
-pub before_below : (s : Session) (k : ℕ) → InOrder s → 0 < s.kept → k ≡ slot_before (s.length / 1028) s.at → k < s.length / 1028
-unfolding slot_before
-before_below s k o h e = go (eqb s.at 0) refl
-  where
-    go : (b : Bool) → eqb s.at 0 ≡ b → k < s.length / 1028
-    go true z = let f : k ≡ s.length / 1028 - 1 = e ∙ rw z in let r = o.room in omega arith
-    go false z = let f : k ≡ s.at - 1 = e ∙ rw z in let r = o.room in let l : s.at < s.length / 1028 = o.below (omega arith) in omega arith
-
--- ---- a slot's part of the memory
+pub slot_part : (k : ℕ) (m : List ℕ) → take (k * 1028 + 1028 - k * 1028) (drop (k * 1028) m) ≡ state_at m k
+unfolding state_at
+slot_part k m = ap (λ (n : ℕ). take n (drop (k * 1028) m)) (part_words k)
 
 -- a state over 1,028 words is all of them
-pub part_written : (e : AutomationEnvelope) (part new : List ℕ) → length part ≡ 1028 → new ≡ state_over e part → new ≡ pack e
+part_written : (e : AutomationEnvelope) (part : List ℕ) → length part ≡ 1028 → state_over e part ≡ pack e
 unfolding state_over
-part_written e part new h p =
-    let w : state_over e part ≡ pack e ++ drop state_words part = rw (le-ltb (length part) 1028 (omega (arith, h))) in
-    p ∙ w ∙ ap (λ (l : List ℕ). pack e ++ l) (drop_of_length-le part {i = 1028} (omega (arith, h))) ∙ append-nil (pack e)
+part_written e part h = rw (le-ltb (length part) 1028 (omega (arith, h))) (ap (λ (l : List ℕ). pack e ++ l) (drop_all 1028 part (omega (arith, h))) ∙ append-nil (pack e))
 
--- ---- the tests in turn
+pub slot_stored : (k : ℕ) (e : AutomationEnvelope) (m new : List ℕ) → k * 1028 + 1028 ≤ length m → new ≡ state_over e (take (k * 1028 + 1028 - k * 1028) (drop (k * 1028) m))
+    → put_mid (k * 1028) (k * 1028 + 1028 - k * 1028) m new ≡ stored k (pack e) m
+unfolding stored
+slot_stored k e m new h is =
+    (λ j. take (k * 1028) m ++ ((is ∙ part_written e _ (simp (length-take, length-drop) (omega arith))) j ++ drop (part_words k j) (drop (k * 1028) m)))
+    ∙ ap (λ (l : List ℕ). take (k * 1028) m ++ (pack e ++ l)) (drop-drop 1028 (k * 1028) m)
+
+-- ---- a call by its tests
 
 module _ (c : Call) (s : Session) (m : List ℕ) where
-  -- where 1 is behind, the memory's checks and what comes after them decide
-  valid_first : (valid_session s && call_valid c) ≡ true
-      → first_failing (in_turn (tests_of c s m)) ≡ first_failing (admission (admission_of s m) ++ afterwards (tests_of c s m))
-  valid_first h = first_holds (valid_session s && call_valid c) NotValid _ h
-
-  -- the call by what becomes of its tests
-  call_by : (o : Option Refusal) → first_failing (in_turn (tests_of c s m)) ≡ o → unless_refused o (λ r. declined (number r) s m) (own_of c s m) ≡ call_of c s m
+  pub call_refused : {r : Refusal} → first_failing (in_turn (tests_of c s m)) ≡ Some r → call_of c s m ≡ declined (number r) s m
   unfolding call_of
-  call_by o e = ap (λ (p : Option Refusal). unless_refused p (λ r. declined (number r) s m) (own_of c s m)) (sym e)
+  call_refused h = ap (λ (o : Option Refusal). unless_refused o (λ r. declined (number r) s m) (own_of c s m)) h
 
-  pub call_one : (valid_session s && call_valid c) ≡ false → declined 1 s m ≡ call_of c s m
-  call_one h = call_by (some NotValid) (first_fails (valid_session s && call_valid c) NotValid _ h)
+  pub call_passed : first_failing (in_turn (tests_of c s m)) ≡ None → call_of c s m ≡ own_of c s m
+  unfolding call_of
+  call_passed h = ap (λ (o : Option Refusal). unless_refused o (λ r. declined (number r) s m) (own_of c s m)) h
 
-  pub call_refused : (r : Refusal) → (valid_session s && call_valid c) ≡ true → first_failing (admission (admission_of s m)) ≡ some r
-      → declined (number r) s m ≡ call_of c s m
-  call_refused r h e = call_by (some r) (valid_first h ∙ stopped_at (admission (admission_of s m)) (afterwards (tests_of c s m)) r e)
-
-  -- a refusal after 1, where `valid` says whether 1 is behind it
-  pub call_after : (valid : Bool) (r : Refusal) → valid ≡ (valid_session s && call_valid c)
-      → (valid ≡ true → first_failing (admission (admission_of s m) ++ afterwards (tests_of c s m)) ≡ some r)
-      → called (refused_by s (cond valid r NotValid)) m ≡ call_of c s m
-  call_after true r p e = call_by (some r) (valid_first (sym p) ∙ e refl)
-  call_after false r p e = call_one (sym p)
-
-  pub call_behind : (valid_session s && call_valid c) ≡ true → first_failing (admission (admission_of s m)) ≡ none → behind c s m ≡ call_of c s m
-  call_behind h e = call_by (first_failing (afterwards (tests_of c s m))) (valid_first h ∙ passed_over (admission (admission_of s m)) (afterwards (tests_of c s m)) e)
-
--- what is asked of the memory, as the code asks it
-module _ (s : Session) (m : List ℕ) where
-  pub admits : length m ≡ s.length → none ≡ first_failing (admission (admission_of s m))
-  unfolding first_failing
-  admits h = sym (first_holds (eqb (length m) s.length) MemoryLength [] (eq-eqb (length m) s.length h))
-
-  pub admits_not : (length m ≡ s.length → ⊥) → some MemoryLength ≡ first_failing (admission (admission_of s m))
-  admits_not h = sym (first_fails (eqb (length m) s.length) MemoryLength [] (ne_eqb (length m) s.length h))
-
-  pub admitted_length : first_failing (admission (admission_of s m)) ≡ none → length m ≡ s.length
-  unfolding every
-  admitted_length h = eqb-true (length m) s.length (and_left (eqb (length m) s.length) _ (all_hold (admission (admission_of s m)) h))
+first_none : first_failing [] ≡ None
+unfolding first_failing
+first_none = refl
 
 -- ---- an edit: its own 1 is the session's too, so the envelope's validity is tested once
-
-and_in : (v i o : Bool) → i ≡ true → ((v && i) && o) ≡ (v && o)
-and_in v i o h = ap (λ (b : Bool). (v && b) && o) h ∙ ap (λ (b : Bool). b && o) (and-true v)
-
-and_out : (v i o : Bool) → i ≡ false → ((v && i) && o) ≡ false
-and_out v i o h = ap (λ (b : Bool). (v && b) && o) h ∙ ap (λ (b : Bool). b && o) (and-false v)
 
 module _ (x : Entry) (s : Session) (m : List ℕ) where
   -- the validity of both envelopes
   abbrev both_valid : Bool
   both_valid = valid_envelope s.envelope && others_valid x
 
-  -- what the edit says and makes of the envelope, settled
-  abbrev settles : Said (Unit {0}) → Called
-  settles y = settled s m y (made_by x s.envelope).envelope
+  valid_is : in_order s ≡ true → (valid_session s && others_valid x) ≡ both_valid
+  valid_is h = ap (λ (b : Bool). (valid_envelope s.envelope && b) && others_valid x) h ∙ ap (λ (b : Bool). b && others_valid x) (and-true (valid_envelope s.envelope))
 
-  in_order_both : in_order s ≡ true → (valid_session s && others_valid x) ≡ both_valid
-  in_order_both h = and_in (valid_envelope s.envelope) (in_order s) (others_valid x) h
+  one : (valid_session s && others_valid x) ≡ false → call_of (edit x) s m ≡ declined 1 s m
+  one h = call_refused (edit x) s m (first_fails (valid_session s && others_valid x) NotValid _ h)
 
-  pub edit_order : in_order s ≡ false → declined 1 s m ≡ call_of (edit x) s m
-  edit_order h = call_one (edit x) s m (and_out (valid_envelope s.envelope) (in_order s) (others_valid x) h)
+  pub edit_order : in_order s ≡ false → call_of (edit x) s m ≡ declined 1 s m
+  edit_order h = one (ap (λ (b : Bool). (valid_envelope s.envelope && b) && others_valid x) h ∙ ap (λ (b : Bool). b && others_valid x) (and-false (valid_envelope s.envelope)))
 
-  pub edit_refused : (valid : Bool) (r : Refusal) → in_order s ≡ true → first_failing (admission (admission_of s m)) ≡ some r → valid ≡ both_valid
-      → called (refused_by s (cond valid r NotValid)) m ≡ call_of (edit x) s m
-  edit_refused valid r h e p =
-      call_after (edit x) s m valid r (p ∙ sym (in_order_both h)) (λ h. stopped_at (admission (admission_of s m)) (afterwards (tests_of (edit x) s m)) r e)
+  -- what the memory gives, but 1 for either envelope first
+  pub edit_refused : {r : Refusal} → in_order s ≡ true → first_failing (admission (admission_of s m)) ≡ Some r → both_valid ≡ true → call_of (edit x) s m ≡ declined (number r) s m
+  edit_refused {r} h e v =
+      call_refused (edit x) s m
+      (first_holds (valid_session s && others_valid x) NotValid _ (valid_is h ∙ v) ∙ stopped_at (admission (admission_of s m)) (afterwards (tests_of (edit x) s m)) r e)
 
-  pub edit_own : fits_ticket x s.envelope ≡ true → (both_valid ≡ false → (made_by x s.envelope).said ≡ refuses 1) → in_order s ≡ true
-      → first_failing (admission (admission_of s m)) ≡ none → settles (made_by x s.envelope).said ≡ call_of (edit x) s m
-  unfolding first_failing
-  edit_own fit one h e = go both_valid refl
+  pub edit_one_first : in_order s ≡ true → both_valid ≡ false → call_of (edit x) s m ≡ declined 1 s m
+  edit_one_first h v = one (valid_is h ∙ v)
+
+  -- else what the edit says and makes
+  edit_own : fits_ticket x s.envelope ≡ true → (both_valid ≡ false → (made_by x s.envelope).said ≡ refuses 1) → in_order s ≡ true
+      → first_failing (admission (admission_of s m)) ≡ None → call_of (edit x) s m ≡ settled s m (made_by x s.envelope).said (made_by x s.envelope).envelope
+  edit_own fit own_one h e = go both_valid refl
     where
-      own : settles (made_by x s.envelope).said ≡ behind (edit x) s m
-      own = rw fit
+      passes : both_valid ≡ true → first_failing (in_turn (tests_of (edit x) s m)) ≡ None
+      passes p =
+          first_holds (valid_session s && others_valid x) NotValid (admission (admission_of s m) ++ afterwards (tests_of (edit x) s m)) (valid_is h ∙ p)
+          ∙ passed_over (admission (admission_of s m)) (afterwards (tests_of (edit x) s m)) e
+          ∙ first_holds (fits_ticket x s.envelope) OtherEnvelope (or_else true NoStep ∷ []) fit
+          ∙ first_holds true NoStep [] refl
+          ∙ first_none
 
-      go : (b : Bool) → both_valid ≡ b → settles (made_by x s.envelope).said ≡ call_of (edit x) s m
-      go true p = own ∙ call_behind (edit x) s m (in_order_both h ∙ p) e
-      go false p = ap settles (one p) ∙ call_one (edit x) s m (in_order_both h ∙ p)
+      go : (b : Bool) → both_valid ≡ b → call_of (edit x) s m ≡ settled s m (made_by x s.envelope).said (made_by x s.envelope).envelope
+      go true p = call_passed (edit x) s m (passes p)
+      go false p = one (valid_is h ∙ p) ∙ ap (λ (y : Said (Unit {0})). settled s m y (made_by x s.envelope).envelope) (sym (own_one p))
 
--- what an edit's result makes of the session
-module _ (s : Session) (m : List ℕ) (r : Edited) (a : SessionAnswer) where
-  pub settle_refused : (x : Refusal) → a ≡ refused_by s x → r.answer ≡ Refused x → called a m ≡ settled s m (said r.answer) r.envelope
-  settle_refused x is h = ap (λ (y : SessionAnswer). called y m) is ∙ rw h
+module _ (s : Session) (m : List ℕ) (h : in_order s ≡ true) (e : first_failing (admission (admission_of s m)) ≡ None) where
+  pub edit_alone : (d : Edit) → call_of (edit (alone d)) s m ≡ settled s m (edit_of d s.envelope).said (edit_of d s.envelope).envelope
+  edit_alone d = edit_own (alone d) s m refl (λ p. edit_one d s.envelope (sym (and-true (valid_envelope s.envelope)) ∙ p)) h e
 
-  pub settle_idle : a ≡ stayed_by s → r.answer ≡ Accepted → bit_equal s.envelope r.envelope ≡ true → called a m ≡ settled s m (said r.answer) r.envelope
-  settle_idle is h same = ap (λ (y : SessionAnswer). called y m) is ∙ rw (h, same)
+  pub edit_joined : (j : Join) (other : AutomationEnvelope) → call_of (edit (joined j other)) s m ≡ settled s m (join_of j s.envelope other).said (join_of j s.envelope other).envelope
+  edit_joined j other = edit_own (joined j other) s m refl (join_one j s.envelope other) h e
 
-  pub settle_counted : (m' : List ℕ) → called a m' ≡ counted s m r.envelope → r.answer ≡ Accepted → bit_equal s.envelope r.envelope ≡ false
-      → called a m' ≡ settled s m (said r.answer) r.envelope
-  settle_counted m' is h altered = is ∙ rw (h, altered)
-
--- an edit that counts
-module _ (s : Session) (m : List ℕ) (e : AutomationEnvelope) (a : SessionAnswer) (at kept : ℕ) (m' : List ℕ) (is : a ≡ moved_by s e at kept 0)
-    (p : at ≡ slot_after (s.length / 1028) s.at) (q : kept ≡ min (s.kept + 1) (s.length / 1028)) where
-  pub count_none : s.length / 1028 ≡ 0 → m' ≡ m → called a m' ≡ counted s m e
-  count_none z k = ap (λ (y : SessionAnswer). called y m') is ∙ rw (p, q, k, eq-eqb (s.length / 1028) 0 z)
-
-  pub count_put : (s.length / 1028 ≡ 0 → ⊥) → m' ≡ stored s.at (pack s.envelope) m → called a m' ≡ counted s m e
-  count_put z k = ap (λ (y : SessionAnswer). called y m') is ∙ rw (p, q, k, ne_eqb (s.length / 1028) 0 z)
+-- a memory of the length at opening
+pub admitted_length : (s : Session) (m : List ℕ) → first_failing (admission (admission_of s m)) ≡ None → length m ≡ s.length
+admitted_length s m h = eqb-true (length m) s.length (and_left (eqb (length m) s.length) _ (all_hold (admission (admission_of s m)) h))
 
 -- ---- a step
 
-module _ (s : Session) (m : List ℕ) (k at kept ahead : ℕ) (r : Edited) where
-  step_done_of : (u : Option AutomationEnvelope) → told_edit r ≡ read_as u → r.answer ≡ Accepted
-      → called (moved_by s r.envelope at kept ahead) (stored k (pack s.envelope) m) ≡ exchanged s m k (λ e. moved_to s e at kept ahead) u
-  step_done_of none p h = never (sym (sym (ap said h) ∙ ap (λ (t : EditTold). t.said) p))
-  step_done_of (some e) p h = ap (λ (t : EditTold). called (moved_by s t.envelope at kept ahead) (stored k (pack s.envelope) m)) p
-
-  step_bad_of : (u : Option AutomationEnvelope) (x : Refusal) → told_edit r ≡ read_as u → r.answer ≡ Refused x
-      → called (refused_by s StoredState) m ≡ exchanged s m k (λ e. moved_to s e at kept ahead) u
-  step_bad_of none x p h = refl
-  step_bad_of (some e) x p h = never (sym (ap said h) ∙ ap (λ (t : EditTold). t.said) p)
-
-  pub step_done : (a : SessionAnswer) (m' : List ℕ) → a ≡ moved_by s r.envelope at kept ahead → told_edit r ≡ read_state (state_at m k) → r.answer ≡ Accepted
-      → m' ≡ stored k (pack s.envelope) m → called a m' ≡ stepped_over s m k at kept ahead
+-- what stands in slot k, as it is read
+module _ (s : Session) (m : List ℕ) (k at kept ahead : ℕ) where
+  pub stepped_bad : (n : ℕ) → read_state (state_at m k) ≡ refuses n → stepped_over s m k at kept ahead ≡ declined n s m
   unfolding read_state
-  step_done a m' is p h e = ap (λ (y : SessionAnswer). called y m') is ∙ rw e (step_done_of (unpacked (state_at m k)) p h)
+  stepped_bad n h = go (unpacked (state_at m k)) h
+    where
+      go : (u : Option AutomationEnvelope) → read_as u ≡ refuses n → exchanged s m k (λ e. moved_to s e at kept ahead) u ≡ declined n s m
+      go None h = let same : 12 ≡ n = cc in ap (λ (n : ℕ). declined n s m) same
+      go (Some e) h = never (sym h)
 
-  pub step_bad : (a : SessionAnswer) (x : Refusal) → a ≡ refused_by s StoredState → told_edit r ≡ read_state (state_at m k) → r.answer ≡ Refused x
-      → called a m ≡ stepped_over s m k at kept ahead
+  pub stepped_done : (e : AutomationEnvelope) → read_state (state_at m k) ≡ gives e → stepped_over s m k at kept ahead ≡ accepted (moved_to s e at kept ahead) (stored k (pack s.envelope) m)
   unfolding read_state
-  step_bad a x is p h = ap (λ (y : SessionAnswer). called y m) is ∙ step_bad_of (unpacked (state_at m k)) x p h
+  stepped_done e h = go (unpacked (state_at m k)) h
+    where
+      go : (u : Option AutomationEnvelope) → read_as u ≡ gives e → exchanged s m k (λ e. moved_to s e at kept ahead) u ≡ accepted (moved_to s e at kept ahead) (stored k (pack s.envelope) m)
+      go None h = never h
+      go (Some f) h = let same : f ≡ e = cc in ap (λ (e : AutomationEnvelope). accepted (moved_to s e at kept ahead) (stored k (pack s.envelope) m)) same
 
-module _ (s : Session) (m : List ℕ) (x : Called) where
-  pub back_none : s.kept ≡ 0 → declined 10 s m ≡ behind back s m
-  unfolding first_failing
-  back_none z = rw (le-ltb 0 s.kept (omega (arith, z)))
+-- a step by its tests
+module _ (s : Session) (m : List ℕ) (n : ℕ) (h : first_failing (in_turn (step_tests s m n)) ≡ None) where
+  parts : every (λ c. c.holds) (in_turn (step_tests s m n)) ≡ true
+  parts = all_hold (in_turn (step_tests s m n)) h
 
-  pub back_over : (k : ℕ) → 0 < s.kept → k ≡ slot_before (s.length / 1028) s.at → x ≡ stepped_over s m k k (s.kept - 1) (s.ahead + 1) → x ≡ behind back s m
-  unfolding first_failing
-  back_over k z p e = e ∙ rw (p, lt-ltb 0 s.kept z)
+  pub step_ordered : in_order s ≡ true
+  step_ordered = and_right (valid_envelope s.envelope) (in_order s) (and_left (valid_session s) _ parts)
 
-  pub forward_none : s.ahead ≡ 0 → declined 10 s m ≡ behind forward s m
-  unfolding first_failing
-  forward_none z = rw (le-ltb 0 s.ahead (omega (arith, z)))
+  step_words : length m ≡ s.length
+  step_words = eqb-true (length m) s.length (and_left (eqb (length m) s.length) _ (and_right (valid_session s) _ parts))
 
-  pub forward_over : (at : ℕ) → 0 < s.ahead → at ≡ slot_after (s.length / 1028) s.at → x ≡ stepped_over s m s.at at (s.kept + 1) (s.ahead - 1) → x ≡ behind forward s m
-  unfolding first_failing
-  forward_over at z p e = e ∙ rw (p, lt-ltb 0 s.ahead z)
+  pub step_stands : 0 < n
+  step_stands = ltb-true 0 n (and_left (ltb 0 n) _ (and_right true _ (and_right (eqb (length m) s.length) _ (and_right (valid_session s) _ parts))))
+
+  pub step_room : (0 < n) × (s.kept + s.ahead ≤ s.length / 1028) × (length m ≡ s.length)
+  step_room = (step_stands, order_room s step_ordered, step_words)
+
+module _ (s : Session) (m : List ℕ) where
+  back_tests : tests_of back s m ≡ step_tests s m s.kept
+  back_tests = λ i. record { valid = and-true (valid_session s) i; admission = admission_of s m; ticket = true; step = ltb 0 s.kept }
+
+  forward_tests : tests_of forward s m ≡ step_tests s m s.ahead
+  forward_tests = λ i. record { valid = and-true (valid_session s) i; admission = admission_of s m; ticket = true; step = ltb 0 s.ahead }
+
+  pub back_refused : {r : Refusal} → first_failing (in_turn (step_tests s m s.kept)) ≡ Some r → call_of back s m ≡ declined (number r) s m
+  back_refused h = call_refused back s m (ap (λ (t : Tests). first_failing (in_turn t)) back_tests ∙ h)
+
+  pub forward_refused : {r : Refusal} → first_failing (in_turn (step_tests s m s.ahead)) ≡ Some r → call_of forward s m ≡ declined (number r) s m
+  forward_refused h = call_refused forward s m (ap (λ (t : Tests). first_failing (in_turn t)) forward_tests ∙ h)
+
+  module _ (h : first_failing (in_turn (step_tests s m s.kept)) ≡ None) where
+    pub back_passed : call_of back s m ≡ stepped_over s m (slot_before (depth s) s.at) (slot_before (depth s) s.at) (s.kept - 1) (s.ahead + 1)
+    back_passed = call_passed back s m (ap (λ (t : Tests). first_failing (in_turn t)) back_tests ∙ h)
+
+    -- its slot lies in the memory
+    pub back_fits : slot_before (depth s) s.at * 1028 + 1028 ≤ length m
+    unfolding slot_before
+    back_fits = let r = step_room s m s.kept h in let a = order_at s (step_ordered s m s.kept h) in let b = order_below s (step_ordered s m s.kept h) in grind (arith, nat_tests)
+
+  module _ (h : first_failing (in_turn (step_tests s m s.ahead)) ≡ None) where
+    pub forward_passed : call_of forward s m ≡ stepped_over s m s.at (slot_after (depth s) s.at) (s.kept + 1) (s.ahead - 1)
+    forward_passed = call_passed forward s m (ap (λ (t : Tests). first_failing (in_turn t)) forward_tests ∙ h)
+
+    pub forward_fits : s.at * 1028 + 1028 ≤ length m
+    forward_fits = let r = step_room s m s.ahead h in let b = order_below s (step_ordered s m s.ahead h) in grind (arith, nat_tests)
+
+-- ---- what the goals of a function ask of these laws
+
+pub ruleset editing = (edit_order, edit_refused, edit_one_first, edit_alone, edit_joined, admitted_length)
+
+pub ruleset stepping_back = (step_room, back_fits, back_refused, back_passed, stepped_bad, stepped_done)
+
+pub ruleset stepping_forward = (step_room, step_ordered, forward_fits, forward_refused, forward_passed, stepped_bad, stepped_done)

@@ -1,8 +1,9 @@
 -- A session's calls as data, the order of their refusals, what each says and leaves, and what it is for calls to have run.
 -- The functions' contracts say `Obeys`, of which the runs of the history theorem are made.
-use Rattle.std.specs.Prelude.{ℕ, ◌+◌, ◌-◌, ◌≡◌, Bool, true, ◌&&◌, List, [], ◌∷◌, ◌++◌, length, ltb, eqb}
+use Rattle.std.specs.Prelude.{ℕ, ◌+◌, ◌-◌, ◌≡◌, Bool, true, ◌&&◌, List, [], ◌∷◌, ◌++◌, length, ltb, eqb, Result}
 use Rattle.points.specs.Checks.{Check, or_else, gate}
 use Rattle.points.specs.Refusal.{Said, said, number}
+use Rattle.points.specs.declared.refusal.Refusal.{Refusal}
 use Rattle.points.specs.declared.refusal.Refusal.TheVariants.{NotValid, NoStep, MemoryLength, OtherEnvelope}
 use Rattle.envelope.specs.Envelope.{valid_envelope}
 use Rattle.envelope.specs.Edit.{EditTold, edit_of, join_of}
@@ -14,7 +15,6 @@ use Rattle.equal.specs.Equal.{bit_equal}
 use Rattle.ask.specs.declared.Ticket.{Ticket}
 use Rattle.session.specs.Session.{depth, slot_after, slot_before, valid_session, Called, called, declined, settled, stepped_over}
 use Rattle.session.specs.declared.Session.{Session}
-use Rattle.session.specs.declared.SessionAnswer.{SessionAnswer}
 
 -- an edit with its arguments: of the envelope alone, with another envelope, or a merge that was asked first (F-3): "Commit takes the ticket and the session."
 pub data Entry : Type 0 where
@@ -117,16 +117,16 @@ own_of forward s m = stepped_over s m s.at (slot_after (depth s) s.at) (s.kept +
 unfoldable pub call_of : Call → Session → List ℕ → Called
 call_of c s m = gate (in_turn (tests_of c s m)) (λ r. declined (number r) s m) (own_of c s m)
 
--- for the code's own use: the same where 1 and 11 are behind it
-abbrev pub behind : Call → Session → List ℕ → Called
-behind c s m = gate (afterwards (tests_of c s m)) (λ r. declined (number r) s m) (own_of c s m)
+-- for the code's own use: the tests of a step, of which so many stand
+abbrev pub step_tests : Session → List ℕ → ℕ → Tests
+step_tests s m steps = record { valid = valid_session s; admission = admission_of s m; ticket = true; step = ltb 0 steps }
 
--- a call on session s and memory m answered a and left the memory m': the functions' contracts
-abbrev pub Obeys : Session → List ℕ → Call → SessionAnswer → List ℕ → Type 0
-Obeys s m c a m' = called a m' ≡ call_of c s m
+-- a call on session s and memory m answered a and left the session s' and the memory m': the functions' contracts
+abbrev pub Obeys : Session → List ℕ → Call → Result (Unit {0}) Refusal → Session → List ℕ → Type 0
+Obeys s m c a s' m' = called a s' m' ≡ call_of c s m
 
 -- "Each call gets the session and step memory as the last left them, and nobody else writes that memory."
 pub data Ran : Session → List ℕ → List Call → List (Said (Unit {0})) → Session → List ℕ → Type 0 where
   done : {s : Session} {m : List ℕ} → Ran s m [] [] s m
-  call : {s : Session} {m : List ℕ} {c : Call} (a : SessionAnswer) {m' : List ℕ} {cs : List Call} {answers : List (Said (Unit {0}))} {s'' : Session} {m'' : List ℕ}
-      → Obeys s m c a m' → Ran a.session m' cs answers s'' m'' → Ran s m (c ∷ cs) (said a.answer ∷ answers) s'' m''
+  call : {s : Session} {m : List ℕ} {c : Call} (a : Result (Unit {0}) Refusal) {s' : Session} {m' : List ℕ} {cs : List Call} {answers : List (Said (Unit {0}))} {s'' : Session} {m'' : List ℕ}
+      → Obeys s m c a s' m' → Ran s' m' cs answers s'' m'' → Ran s m (c ∷ cs) (said a ∷ answers) s'' m''

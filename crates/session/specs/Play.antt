@@ -1,6 +1,5 @@
 -- Lookups and rendering on the session's envelope: 1 where the session isn't valid, else what the envelope's own call says. They alter nothing.
-use Rattle.std.specs.Prelude.{ℕ, ◌+◌, cond, List, [], ◌∷◌, Float}
-use Rattle.std.proofs.Math.Option.{Option}
+use Rattle.std.specs.Prelude.{ℕ, ◌+◌, cond, List, [], ◌∷◌, Float, Option}
 use Rattle.points.specs.Refusal.{Said, refuses}
 use Rattle.render.specs.Render.{Rendered, declined}
 use Rattle.render.specs.Pieces.{Pieces}

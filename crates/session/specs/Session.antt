@@ -1,15 +1,12 @@
 -- 01, "The session": its step memory, opening, its validity, and what an accepted edit and a step leave. `Calls` has the calls, with the order of their refusals.
-use Rattle.std.specs.Prelude.{ℕ, ◌+◌, ◌-◌, ◌*◌, ◌/◌, min, Bool, cond, ◌&&◌, List, ◌++◌, length, take, drop, ltb, leb, eqb}
-use Rattle.std.proofs.Math.Option.{Option, none, some}
+use Rattle.std.specs.Prelude.{ℕ, ◌+◌, ◌-◌, ◌*◌, ◌/◌, min, Bool, cond, ◌&&◌, List, ◌++◌, length, take, drop, ltb, leb, eqb, None, Option, Result, Some}
 use Rattle.points.specs.Refusal.{Said, refuses, gives, said}
 use Rattle.points.specs.declared.refusal.Refusal.{Refusal}
-use Rattle.points.specs.declared.refusal.Answer.TheVariants.{Accepted, Refused}
 use Rattle.envelope.specs.Envelope.{new, valid_envelope}
 use Rattle.envelope.specs.declared.AutomationEnvelope.{AutomationEnvelope}
 use Rattle.equal.specs.Equal.{bit_equal}
 use Rattle.state.specs.State.{state_words, pack, unpacked}
 use Rattle.session.specs.declared.Session.{Session}
-use Rattle.session.specs.declared.SessionAnswer.{SessionAnswer}
 
 -- ---- the step memory
 
@@ -67,11 +64,11 @@ pub record Called : Type 0 where
   pub session : Session
   pub memory : List ℕ
 
--- a `SessionAnswer` in these terms, with the memory at the call's end
-abbrev pub called : SessionAnswer → List ℕ → Called
-called a m = record { said = said a.answer; session = a.session; memory = m }
+-- an answer in these terms, with the session and the memory at the call's end
+abbrev pub called : Result (Unit {0}) Refusal → Session → List ℕ → Called
+called a s m = record { said = said a; session = s; memory = m }
 
--- "a refused call returns the session it got"; it writes no word
+-- "a refused call returns the session it got", which it leaves as it was; it writes no word
 abbrev pub declined : ℕ → Session → List ℕ → Called
 declined n s m = record { said = refuses n; session = s; memory = m }
 
@@ -102,23 +99,9 @@ settled s m (gives x) e = cond (bit_equal s.envelope e) (accepted s m) (counted 
 
 -- over slot k the envelope and the state there change places; 12, "stored state doesn't pack a valid envelope"
 abbrev pub exchanged : Session → List ℕ → ℕ → (AutomationEnvelope → Session) → Option AutomationEnvelope → Called
-exchanged s m k to none = declined 12 s m
-exchanged s m k to (some e) = accepted (to e) (stored k (pack s.envelope) m)
+exchanged s m k to None = declined 12 s m
+exchanged s m k to (Some e) = accepted (to e) (stored k (pack s.envelope) m)
 
 -- a step over slot k that leaves these numbers
 abbrev pub stepped_over : Session → List ℕ → ℕ → ℕ → ℕ → ℕ → Called
 stepped_over s m k at kept ahead = exchanged s m k (λ e. moved_to s e at kept ahead) (unpacked (state_at m k))
-
--- ---- for the code's own use: the same ends as answers
-
--- a refused call's answer
-abbrev pub refused_by : Session → Refusal → SessionAnswer
-refused_by s r = record { answer = Refused r; session = s }
-
--- an accepted call's answer
-abbrev pub moved_by : Session → AutomationEnvelope → ℕ → ℕ → ℕ → SessionAnswer
-moved_by s e at kept ahead = record { answer = Accepted; session = moved_to s e at kept ahead }
-
--- the answer of an accepted call that alters nothing
-abbrev pub stayed_by : Session → SessionAnswer
-stayed_by s = record { answer = Accepted; session = s }

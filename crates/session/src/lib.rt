@@ -1,20 +1,20 @@
 // The session: edits of one envelope, with steps back and forward over a lent step memory. docs/STATE.md says where it keeps what.
 #![tactic(auto)]
 
-ghost use Rattle.std.specs.Prelude.{◌≡◌, true, cond, ◌+◌, ◌*◌, ◌/◌, ◌≤◌, ◌<◌, min, length};
-ghost use Rattle.points.specs.Refusal.{said};
+ghost use Rattle.std.specs.Prelude.{◌≡◌, if◌then◌else◌, is_ok, true, ◌+◌, ◌*◌, ◌^◌, ◌<◌, ◌≤◌, length, Ok};
+ghost use Rattle.points.specs.Refusal.{said, gives};
 ghost use Rattle.points.specs.declared.refusal.Refusal.TheVariants.{NotValid};
-ghost use Rattle.envelope.specs.Edit.{told_edit};
-ghost use Rattle.state.specs.State.{pack, read_state};
-ghost use Rattle.session.specs.Session.{state_at, stored, slot_after, slot_before, open_session, place_below, in_order, valid_session, called, counted, settled, stepped_over, refused_by, moved_by, stayed_by};
 ghost use Rattle.points.specs.Checks.{refusal_of, first_failing};
-ghost use Rattle.session.specs.Calls.{Obeys, alone, joined, edit, back, forward, admission, admission_of, behind};
+ghost use Rattle.state.specs.State.{pack, read_state};
+ghost use Rattle.session.specs.Session.{depth, state_at, stored, slot_after, slot_before, open_session, in_order, valid_session, called, settled};
+ghost use Rattle.session.specs.Calls.{Obeys, alone, joined, edit, back, forward, admission, admission_of, in_turn, step_tests};
 
 pub mod play;
 
+use envelope::AutomationEnvelope;
 use envelope::edit::{Edit, Join};
-use envelope::{AutomationEnvelope, Edited};
-use points::refusal::{Answer, Refusal};
+use points::refusal::Refusal;
+use state::STATE_WORDS;
 
 #[derive(Clone, Copy)]
 pub struct Session {
@@ -27,67 +27,49 @@ pub struct Session {
     pub ahead: usize,
 }
 
-// What a call gives: the session after it, or the one it got with its refusal.
-#[derive(Clone, Copy)]
-pub struct SessionAnswer {
-    pub answer: Answer,
-    pub session: Session,
-}
-
 // ---- the slots of the step memory
 
-fn store(slot: usize, envelope: AutomationEnvelope, memory: &mut [u64])
+#[tactic(auto, using(crate::proofs::Ways::slot_stored))]
+fn store(slot: usize, envelope: &AutomationEnvelope, memory: &mut [u64])
     requires { slot * 1028 + 1028 ≤ length memory.old }
-    ensures { memory.new ≡ stored slot (pack envelope) memory.old }
+    ensures { memory.new ≡ stored slot (pack envelope.now) memory.old }
 {
-    let from = slot * 1028;
-    let to = from + 1028;
-    state::write::fit_state(envelope, &mut memory[from..to]);
+    let from = slot * STATE_WORDS;
+    state::write::fit_state(envelope, &mut memory[from..from + STATE_WORDS]);
 }
 
-fn load(slot: usize, memory: &[u64]) -> Edited
+#[tactic(auto, using(crate::proofs::Ways::slot_part))]
+fn load(slot: usize, memory: &[u64]) -> Result<AutomationEnvelope, Refusal>
     requires { slot * 1028 + 1028 ≤ length memory.now }
-    ensures { told_edit result ≡ read_state (state_at memory.now slot) }
+    ensures { said result ≡ read_state (state_at memory.now slot) }
 {
-    let from = slot * 1028;
-    let to = from + 1028;
-    state::read::read_state(&memory[from..to])
+    let from = slot * STATE_WORDS;
+    state::read::read_state(&memory[from..from + STATE_WORDS])
 }
 
-fn slot_after(depth: usize, at: usize) -> usize
-    requires { at ≤ depth }
-    ensures { result ≡ slot_after depth at }
+// The state in a slot, where the envelope goes in its place.
+fn exchange(
+    slot: usize,
+    envelope: &AutomationEnvelope,
+    memory: &mut [u64],
+) -> Result<AutomationEnvelope, Refusal>
+    requires { slot * 1028 + 1028 ≤ length memory.old }
+    ensures answer { said result ≡ read_state (state_at memory.old slot) }
+    ensures memory_after { memory.new ≡ (if is_ok result then stored slot (pack envelope.now) memory.old else memory.old) }
 {
-    if 1 < depth - at { at + 1 } else { 0 }
-}
-
-fn slot_before(depth: usize, at: usize) -> usize
-    requires { 0 < depth }
-    ensures { result ≡ slot_before depth at }
-{
-    if at == 0 { depth - 1 } else { at - 1 }
-}
-
-fn one_more(kept: usize, depth: usize) -> usize
-    ensures { result ≡ min (kept + 1) depth }
-{
-    if kept < depth { kept + 1 } else { depth }
-}
-
-fn place_below(at: usize, depth: usize) -> bool
-    ensures { result ≡ place_below at depth }
-{
-    if depth == 0 { at == 0 } else { at < depth }
+    let other = load(slot, memory)?;
+    store(slot, envelope, memory);
+    Ok(other)
 }
 
 impl Session {
     // A new session: no edit yet. The memory stays as it is.
+    #[tactic(auto, unfolding(crate::specs::Session::open_session))]
     pub fn open(target: u32, memory: &[u64]) -> Session
         ensures { result ≡ open_session target memory.now }
     {
-        let envelope = AutomationEnvelope::new(target);
         Session {
-            envelope,
+            envelope: AutomationEnvelope::new(target),
             length: memory.len(),
             at: 0,
             kept: 0,
@@ -95,255 +77,168 @@ impl Session {
         }
     }
 
+    // How many states the memory has room for.
+    fn depth(&self) -> usize
+        ensures value { result ≡ depth self.now }
+        ensures small { result < 2 ^ 54 }
+    {
+        self.length / STATE_WORDS
+    }
+
+    // The slot after this one. No `%`, which would divide by 0 where there is none.
+    #[tactic(auto, using(crate::proofs::Ways::order_at), unfolding(crate::specs::Session::slot_after))]
+    fn slot_after(&self) -> usize
+        requires { in_order self.now ≡ true }
+        ensures { result ≡ slot_after (depth self.now) self.now.at }
+    {
+        let depth = self.depth();
+        let next = self.at + 1;
+        if next < depth { next } else { 0 }
+    }
+
+    #[tactic(auto, unfolding(crate::specs::Session::slot_before))]
+    fn slot_before(&self) -> usize
+        requires { 0 < depth self.now }
+        ensures { result ≡ slot_before (depth self.now) self.now.at }
+    {
+        self.at.checked_sub(1).unwrap_or(self.depth() - 1)
+    }
+
     // All of its validity but its envelope's.
-    pub(crate) fn in_order(self) -> bool
-        ensures { result ≡ in_order self }
+    #[tactic(auto, using(crate::proofs::Ways::order_is), unfolding(crate::specs::Session::in_order))]
+    fn in_order(&self) -> bool
+        ensures { result ≡ in_order self.now }
     {
-        let depth = self.length / 1028;
-        let kept = self.kept;
-        if kept <= depth {
-            (self.ahead <= depth - kept) & place_below(self.at, depth)
-        } else {
-            false
+        let depth = self.depth();
+        (self.kept.saturating_add(self.ahead) <= depth) & (self.at < depth.max(1))
+    }
+
+    // 1 where it is out of order.
+    pub(crate) fn check_order(&self) -> Result<(), Refusal>
+        ensures { result ≡ (if in_order self.now then Ok tt else Err NotValid) }
+    {
+        if !self.in_order() {
+            return Err(Refusal::NotValid);
         }
+        Ok(())
     }
 
-    pub fn is_valid(self) -> bool
-        ensures { result ≡ valid_session self }
+    pub fn is_valid(&self) -> bool
+        ensures { result ≡ valid_session self.now }
     {
-        let envelope = self.envelope;
-        envelope.is_valid() & self.in_order()
+        self.envelope.is_valid() & self.in_order()
     }
-
-    // ---- what every call asks, and its ends
 
     // What is asked of the lent memory, by every call.
-    pub fn admit(self, memory: &[u64]) -> Answer
-        ensures { refusal_of result ≡ first_failing (admission (admission_of self memory.now)) }
+    #[tactic(auto, unfolding(points::specs::Checks::first_failing))]
+    pub fn admit(&self, memory: &[u64]) -> Result<(), Refusal>
+        ensures { refusal_of result ≡ first_failing (admission (admission_of self.now memory.now)) }
     {
         if memory.len() == self.length {
-            Answer::Accepted
+            Ok(())
         } else {
-            Answer::Refused(Refusal::MemoryLength)
-        }
-    }
-
-    fn refuse(self, refusal: Refusal) -> SessionAnswer
-        ensures { result ≡ refused_by self refusal }
-    {
-        SessionAnswer {
-            answer: Answer::Refused(refusal),
-            session: self,
-        }
-    }
-
-    // A refusal that comes after 1; `valid` says whether the call's envelopes are valid, so that they give no 1.
-    pub fn refuse_after(self, valid: bool, refusal: Refusal) -> SessionAnswer
-        ensures { result ≡ refused_by self (cond valid refusal NotValid) }
-    {
-        let first = if valid { refusal } else { Refusal::NotValid };
-        self.refuse(first)
-    }
-
-    fn moved(
-        self,
-        envelope: AutomationEnvelope,
-        at: usize,
-        kept: usize,
-        ahead: usize,
-    ) -> SessionAnswer
-        ensures { result ≡ moved_by self envelope at kept ahead }
-    {
-        SessionAnswer {
-            answer: Answer::Accepted,
-            session: Session {
-                envelope,
-                length: self.length,
-                at,
-                kept,
-                ahead,
-            },
-        }
-    }
-
-    // Accepted, with nothing altered.
-    fn stay(self) -> SessionAnswer
-        ensures { result ≡ stayed_by self }
-    {
-        SessionAnswer {
-            answer: Answer::Accepted,
-            session: self,
+            Err(Refusal::MemoryLength)
         }
     }
 
     // ---- edits
 
-    // An edit that counts: the envelope before it goes into its slot, if there is one.
-    fn count(mut self, made: AutomationEnvelope, memory: &mut [u64]) -> SessionAnswer
-        requires sound { in_order self ≡ true }
-        requires memory_fits { length memory.old ≡ self.length }
-        ensures { called result memory.new ≡ counted self memory.old made }
+    // What an accepted edit makes of the session: it counts if it altered a bit, and the envelope before it goes into its slot, if there is one.
+    #[tactic(auto, using(crate::proofs::Ways::order_room, crate::proofs::Ways::order_below, state::proofs::StateLaws::slot_fits))]
+    fn settle(&mut self, made: &AutomationEnvelope, memory: &mut [u64])
+        requires sound { in_order self.old ≡ true }
+        requires memory_fits { length memory.old ≡ self.old.length }
+        ensures { called (Ok tt) self.new memory.new ≡ settled self.old memory.old (gives tt) made.now }
     {
-        let depth = self.length / 1028;
-        let at = self.at;
-        let next = slot_after(depth, at);
-        let kept = one_more(self.kept, depth);
-        if depth == 0 {
-            self.moved(made, next, kept, 0)
-        } else {
-            let old = self.envelope;
-            store(at, old, memory);
-            self.moved(made, next, kept, 0)
+        if equal::bit_equal(&self.envelope, made) {
+            return;
         }
-    }
-
-    // What an edit's result makes of the session. An accepted one counts if it altered a bit.
-    fn settle(mut self, r: Edited, memory: &mut [u64]) -> SessionAnswer
-        requires sound { in_order self ≡ true }
-        requires memory_fits { length memory.old ≡ self.length }
-        ensures { called result memory.new ≡ settled self memory.old (said r.answer) r.envelope }
-    {
-        let answer = r.answer;
-        match answer {
-            Answer::Accepted => {
-                let old = self.envelope;
-                let made = r.envelope;
-                let same = equal::bit_equal(old, made);
-                if same {
-                    self.stay()
-                } else {
-                    self.count(made, memory)
-                }
-            }
-            Answer::Refused(refusal) => self.refuse(refusal),
+        let depth = self.depth();
+        if 0 < depth {
+            store(self.at, &self.envelope, memory);
         }
+        self.at = self.slot_after();
+        self.kept = (self.kept + 1).min(depth);
+        self.ahead = 0;
+        self.envelope = *made;
     }
 
     // Any of 01's edits. Its own test gives the 1 for the envelope.
-    pub fn edit(mut self, e: Edit, memory: &mut [u64]) -> SessionAnswer
-        ensures { Obeys self memory.old (edit (alone e)) result memory.new }
+    #[tactic(auto, using(crate::proofs::Ways::editing))]
+    pub fn edit(&mut self, e: Edit, memory: &mut [u64]) -> Result<(), Refusal>
+        ensures { Obeys self.old memory.old (edit (alone e)) result self.new memory.new }
     {
-        let envelope = self.envelope;
-        if self.in_order() {
-            let admitted = self.admit(memory);
-            match admitted {
-                Answer::Accepted => self.settle(envelope.edit(e), memory),
-                Answer::Refused(refusal) => self.refuse_after(envelope.is_valid(), refusal),
-            }
-        } else {
-            self.refuse(Refusal::NotValid)
+        self.check_order()?;
+        if let Err(refusal) = self.admit(memory) {
+            let valid = self.envelope.is_valid();
+            return Err(if valid { refusal } else { Refusal::NotValid });
         }
+        let made = self.envelope.edit(e)?;
+        self.settle(&made, memory);
+        Ok(())
     }
 
-    // Any of 01's edits that take a second envelope: 1 for either comes first.
+    // Any of 01's edits that take a second envelope: 1 for either comes first. `edit` and this are two: over a closure the contract would speak of all that one computes, and with one function for the refusal after 1 the goal here did not close.
+    #[tactic(auto, using(crate::proofs::Ways::editing))]
     pub fn join(
-        mut self,
+        &mut self,
         join: Join,
-        other: AutomationEnvelope,
+        other: &AutomationEnvelope,
         memory: &mut [u64],
-    ) -> SessionAnswer
-        ensures { Obeys self memory.old (edit (joined join other)) result memory.new }
+    ) -> Result<(), Refusal>
+        ensures { Obeys self.old memory.old (edit (joined join other.now)) result self.new memory.new }
     {
-        let envelope = self.envelope;
-        if self.in_order() {
-            let admitted = self.admit(memory);
-            match admitted {
-                Answer::Accepted => self.settle(envelope.join(join, other), memory),
-                Answer::Refused(refusal) => self.refuse_after(
-                    envelope.is_valid() & other.is_valid(),
-                    refusal,
-                ),
-            }
-        } else {
-            self.refuse(Refusal::NotValid)
+        self.check_order()?;
+        if let Err(refusal) = self.admit(memory) {
+            let valid = self.envelope.is_valid() & other.is_valid();
+            return Err(if valid { refusal } else { Refusal::NotValid });
         }
+        let made = self.envelope.join(join, other)?;
+        self.settle(&made, memory);
+        Ok(())
     }
 
     // ---- steps
 
-    // The envelope and the state in a slot change places.
-    fn step_over(
-        mut self,
-        slot: usize,
-        at: usize,
-        kept: usize,
-        ahead: usize,
-        memory: &mut [u64],
-    ) -> SessionAnswer
-        requires { slot * 1028 + 1028 ≤ length memory.old }
-        ensures { called result memory.new ≡ stepped_over self memory.old slot at kept ahead }
+    // What a step is refused for before its own work: 1, 11, and 10 where no step stands that way.
+    #[tactic(auto, unfolding(points::specs::Checks::first_failing))]
+    fn check_step(&self, steps: usize, memory: &[u64]) -> Result<(), Refusal>
+        ensures { refusal_of result ≡ first_failing (in_turn (step_tests self.now memory.now steps)) }
     {
-        let r = load(slot, memory);
-        let answer = r.answer;
-        match answer {
-            Answer::Accepted => {
-                let old = self.envelope;
-                let new = r.envelope;
-                store(slot, old, memory);
-                self.moved(new, at, kept, ahead)
-            }
-            Answer::Refused(_) => self.refuse(Refusal::StoredState),
+        if !self.is_valid() {
+            return Err(Refusal::NotValid);
         }
+        self.admit(memory)?;
+        if steps == 0 {
+            return Err(Refusal::NoStep);
+        }
+        Ok(())
     }
 
-    // A step back where 1 and 11 are behind it.
-    fn step_back(mut self, memory: &mut [u64]) -> SessionAnswer
-        requires sound { valid_session self ≡ true }
-        requires memory_fits { length memory.old ≡ self.length }
-        ensures { called result memory.new ≡ behind back self memory.old }
+    // Two steps: what they leave differs in each of the numbers.
+    #[tactic(auto, using(crate::proofs::Ways::stepping_back))]
+    pub fn back(&mut self, memory: &mut [u64]) -> Result<(), Refusal>
+        ensures { Obeys self.old memory.old back result self.new memory.new }
     {
-        let kept = self.kept;
-        let none_kept = kept == 0;
-        if none_kept {
-            self.refuse(Refusal::NoStep)
-        } else {
-            let slot = slot_before(self.length / 1028, self.at);
-            self.step_over(slot, slot, kept - 1, self.ahead + 1, memory)
-        }
+        self.check_step(self.kept, memory)?;
+        let slot = self.slot_before();
+        self.envelope = exchange(slot, &self.envelope, memory)?;
+        self.at = slot;
+        self.kept -= 1;
+        self.ahead += 1;
+        Ok(())
     }
 
-    // A step forward where 1 and 11 are behind it.
-    fn step_forward(mut self, memory: &mut [u64]) -> SessionAnswer
-        requires sound { valid_session self ≡ true }
-        requires memory_fits { length memory.old ≡ self.length }
-        ensures { called result memory.new ≡ behind forward self memory.old }
+    #[tactic(auto, using(crate::proofs::Ways::stepping_forward))]
+    pub fn forward(&mut self, memory: &mut [u64]) -> Result<(), Refusal>
+        ensures { Obeys self.old memory.old forward result self.new memory.new }
     {
-        let ahead = self.ahead;
-        let none_ahead = ahead == 0;
-        if none_ahead {
-            self.refuse(Refusal::NoStep)
-        } else {
-            let at = self.at;
-            let next = slot_after(self.length / 1028, at);
-            self.step_over(at, next, self.kept + 1, ahead - 1, memory)
-        }
-    }
-
-    pub fn back(mut self, memory: &mut [u64]) -> SessionAnswer
-        ensures { Obeys self memory.old back result memory.new }
-    {
-        if self.is_valid() {
-            let admitted = self.admit(memory);
-            match admitted {
-                Answer::Accepted => self.step_back(memory),
-                Answer::Refused(refusal) => self.refuse(refusal),
-            }
-        } else {
-            self.refuse(Refusal::NotValid)
-        }
-    }
-
-    pub fn forward(mut self, memory: &mut [u64]) -> SessionAnswer
-        ensures { Obeys self memory.old forward result memory.new }
-    {
-        if self.is_valid() {
-            let admitted = self.admit(memory);
-            match admitted {
-                Answer::Accepted => self.step_forward(memory),
-                Answer::Refused(refusal) => self.refuse(refusal),
-            }
-        } else {
-            self.refuse(Refusal::NotValid)
-        }
+        self.check_step(self.ahead, memory)?;
+        let next = self.slot_after();
+        self.envelope = exchange(self.at, &self.envelope, memory)?;
+        self.at = next;
+        self.kept += 1;
+        self.ahead -= 1;
+        Ok(())
     }
 }

@@ -1,3 +1,2 @@
 pub mod Judging
-pub mod Ends
-pub mod Tested
+pub mod Fitting

@@ -1,5 +1,5 @@
 -- What every edit of the points is held to: 01, "What the player declines", its order as far as an edit's arguments and its list of points decide it.
-use Rattle.std.specs.Prelude.{Bool, true, List, [], ◌∷◌, length, leb}
+use Rattle.std.specs.Prelude.{Bool, true, List, [], ◌∷◌, length, leb, Err, Ok, Result}
 use Rattle.points.specs.Checks.{Check, or_else, first_failing, gate}
 use Rattle.points.specs.Point.{finite_point}
 use Rattle.points.specs.Points.{every, rising, valid_points, holding}
@@ -7,8 +7,6 @@ use Rattle.points.specs.declared.AutomationPoint.{AutomationPoint}
 use Rattle.points.specs.declared.Points.{Points}
 use Rattle.points.specs.declared.refusal.Refusal.{Refusal}
 use Rattle.points.specs.declared.refusal.Refusal.TheVariants.{NotValid, NotFinite, BoundsCross, TooManyPoints, TimesDontRise}
-use Rattle.points.specs.declared.refusal.Answer.TheVariants.{Accepted, Refused}
-use Rattle.settle.specs.declared.EditedPoints.{EditedPoints}
 
 -- what an edit asks of its arguments, and the list of points that it makes
 pub record Proposal : Type 0 where
@@ -31,25 +29,17 @@ causes valid p =
     ∷ (or_else (leb (length p.list) 256) TooManyPoints
     ∷ [])))))
 
--- "A refusal returns its number .. and changes nothing"
-abbrev pub refused : Points → Refusal → EditedPoints
-refused ps r = record { answer = Refused r; points = ps }
-
--- an accepted edit gives new points
-abbrev pub accepted : Points → EditedPoints
-accepted new = record { answer = Accepted; points = new }
-
--- the points with the edit's refusal, or those that hold its list
-unfoldable pub judged : Points → Bool → Proposal → EditedPoints
+-- the edit's refusal, or the points that hold its list; a refusal changes nothing, since the points were only lent
+unfoldable pub judged : Bool → Proposal → Result Points Refusal
 unfolding first_failing
-judged ps valid p = gate (causes valid p) (refused ps) (accepted (holding p.list))
+judged valid p = gate (causes valid p) Err (Ok (holding p.list))
 
 -- an edit that makes the list l of the points ps
-unfoldable pub edit_points : Points → Bool → List AutomationPoint → EditedPoints
+unfoldable pub edit_points : Points → Bool → List AutomationPoint → Result Points Refusal
 unfolding judged
-edit_points ps finite_arguments l = judged ps (valid_points ps) (plain finite_arguments l)
+edit_points ps finite_arguments l = judged (valid_points ps) (plain finite_arguments l)
 
 -- the same of valid points and finite arguments: the result's refusals alone
-unfoldable pub settle : Points → List AutomationPoint → EditedPoints
+unfoldable pub settle : List AutomationPoint → Result Points Refusal
 unfolding judged
-settle ps l = judged ps true (plain true l)
+settle l = judged true (plain true l)

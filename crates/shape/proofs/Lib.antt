@@ -1,2 +1,4 @@
+pub mod CollectLaws
 pub mod Kept
+pub mod Held
 pub mod Quantized

@@ -7,20 +7,20 @@ use native.Mathlib.Nat.{le_trans, le_of_lt}
 use native.Mathlib.Omega.{arith}
 use borrow.Author.Tests.{ltb-true, eqb-true, eqb-false, ne_eqb, lt-ltb}
 use lib.Dec.{T, ltb, eqb}
+use lib.ListN.{length, length-map}
 use lib.Ieee.{Float, le}
 use Rattle.numbers.specs.Bounds.{finite, zero64}
 use Rattle.numbers.proofs.Tests.{yes, and_left, and_right, and_both}
 use Rattle.points.specs.Point.{finite_point}
-use Rattle.points.specs.Points.{every, rising_by, rising, time_key, list_of, holding, valid_points}
-use Rattle.points.proofs.ValidLaws.{valid_finite, valid_rising}
+use Rattle.points.specs.Points.{every, rising_by, rising, time_key, list_of, holding, fitting}
+use Rattle.points.proofs.ValidLaws.{valid_finite, valid_rising, fitting_all, held_few}
 use Rattle.points.specs.declared.AutomationPoint.{AutomationPoint}
 use Rattle.points.specs.declared.Points.{Points}
-use Rattle.settle.specs.Settle.{edit_points}
-use Rattle.settle.specs.Finish.{finished}
-use Rattle.settle.specs.declared.EditedPoints.{EditedPoints}
-use Rattle.settle.proofs.Ends.{ends_valid}
+use Rattle.settle.specs.Finish.{Makes}
+use Rattle.pointwise.specs.Places.{mapped_in}
 use Rattle.pointwise.specs.Each.{changed}
 use Rattle.pointwise.specs.declared.Change.TheVariants.{Quantize}
+use Rattle.pointwise.proofs.Mapped.{mapped_list}
 use Rattle.numbers.proofs.Quantized.{quantized_keeps_order}
 use Rattle.shape.specs.Neighbours.{differing_after, without_repeats}
 use Rattle.shape.specs.Shape.{keep_if, firsts, quantized}
@@ -44,13 +44,12 @@ earlier j k h e = let n = eqb-false j k e in omega arith
 
 kept_cons : (b : Bool) (p q : AutomationPoint) (k l : List AutomationPoint) → (b ≡ true → keep_if (other p) k ≡ k) → (b ≡ false → other p q ≡ true) → keep_if (other p) l ≡ l
     → keep_if (other p) (cond b k (q ∷ l)) ≡ cond b k (q ∷ l)
-unfolding keep_if
 kept_cons true p q k l f g h = f refl
 kept_cons false p q k l f g h = ap (λ (t : Bool). cond t (q ∷ keep_if (other p) l) (keep_if (other p) l)) (g refl) ∙ ap (λ (m : List AutomationPoint). q ∷ m) h
 
 -- after q there is none left at the time of a p that is not after q
 none_left : (p q : AutomationPoint) (l : List AutomationPoint) → time_key p ≤ time_key q → Onward (time_key q) l → keep_if (other p) (differing_after q l) ≡ differing_after q l
-unfolding keep_if differing_after
+unfolding differing_after
 none_left p q [] h o = refl
 none_left p q (r ∷ l) h (next a o) =
     kept_cons (eqb (time_key q) (time_key r)) p r (differing_after q l) (differing_after r l)
@@ -63,7 +62,7 @@ first_cons true q k l m e f = e ∙ sym (f refl)
 first_cons false q k l m e f = ap (λ (t : List AutomationPoint). q ∷ t) e
 
 after_firsts : (p : AutomationPoint) (l : List AutomationPoint) → Onward (time_key p) l → keep_if (other p) (firsts l) ≡ differing_after p l
-unfolding keep_if differing_after firsts
+unfolding differing_after firsts
 after_firsts p [] o = refl
 after_firsts p (q ∷ l) (next a o) =
     first_cons (eqb (time_key p) (time_key q)) q (keep_if (other p) (keep_if (other q) (firsts l))) (differing_after p l) (differing_after q l)
@@ -95,16 +94,14 @@ module _ (grid : Float) (g : finite grid ≡ true) (a : le grid zero64 ≡ false
   to = changed (Quantize grid)
 
   first_finite : (p : AutomationPoint) (l : List AutomationPoint) → every finite_point (p ∷ l) ≡ true → finite p.time ≡ true
-  unfolding every
   first_finite p l f = and_left (finite p.time) _ (and_left (finite p.time && finite p.value) _ (and_left (finite_point p) _ f))
 
   first_fits : (p : AutomationPoint) (l : List AutomationPoint) → every time_fits (p ∷ l) ≡ true → T (time_fits p)
-  unfolding every
   first_fits p l f = yes (and_left (time_fits p) _ f)
 
   onward : (p : AutomationPoint) (l : List AutomationPoint) → every finite_point (p ∷ l) ≡ true → every time_fits (p ∷ l) ≡ true → rising (p ∷ l) ≡ true
       → Onward (time_key (to p)) (map to l)
-  unfolding every rising_by
+  unfolding rising_by
   onward p [] f t r = end
   onward p (q ∷ l) f t r =
       let f₁ = and_right (finite_point p) _ f in
@@ -125,17 +122,30 @@ module _ (grid : Float) (g : finite grid ≡ true) (a : le grid zero64 ≡ false
   firsts_rise [] f t r = refl
   firsts_rise (p ∷ l) f t r = ap (λ (m : List AutomationPoint). rising (to p ∷ m)) (after_firsts (to p) (map to l) (onward p l f t r)) ∙ after_rises (to p) (map to l) (onward p l f t r)
 
--- ---- the edit's end
+-- ---- what the edit makes
 
--- on a grid at most 0 the points stay
-pub quantized_stays : (grid : Float) (l : List AutomationPoint) → le grid zero64 ≡ true → quantized grid l ≡ l
-quantized_stays grid l h = rw h
+-- no more than there were
+after_most : (p : AutomationPoint) (l : List AutomationPoint) → length (differing_after p l) ≤ length l
+unfolding differing_after
+after_most p [] = omega arith
+after_most p (q ∷ l) = go (eqb (time_key p) (time_key q)) (after_most p l) (after_most q l)
+  where
+    go : (b : Bool) → length (differing_after p l) ≤ length l → length (differing_after q l) ≤ length l
+        → length (cond b (differing_after p l) (q ∷ differing_after q l)) ≤ length (q ∷ l)
+    go true h k = omega arith
+    go false h k = omega arith
 
--- on one above it
-pub ends_quantized : {r : EditedPoints} (ps new : Points) (grid : Float) {ok : Bool} → r ≡ finished ps ok new → ok ≡ finite grid → le grid zero64 ≡ false
-    → every time_fits (list_of ps) ≡ true
-    → (valid_points ps ≡ true → new ≡ holding (without_repeats (map (changed (Quantize grid)) (list_of ps))))
-    → r ≡ edit_points ps (finite grid) (firsts (map (changed (Quantize grid)) (list_of ps)))
-ends_quantized ps new grid f o a t made =
-    ends_valid ps new (firsts (map (changed (Quantize grid)) (list_of ps))) f o
-    (λ v g. made v ∙ ap holding (repeats_firsts grid (sym o ∙ g) a (list_of ps) (valid_finite ps v) t (valid_rising ps v)))
+repeats_most : (l : List AutomationPoint) → length (without_repeats l) ≤ length l
+unfolding without_repeats
+repeats_most [] = omega arith
+repeats_most (p ∷ l) = omega (arith, after_most p l)
+
+pub quantized_made : (ps moved new : Points) (grid : Float) → every time_fits (list_of ps) ≡ true → le grid zero64 ≡ false → moved ≡ mapped_in (changed (Quantize grid)) ps
+    → new ≡ holding (fitting (without_repeats (list_of moved))) → Makes ps (finite grid) new (quantized grid (list_of ps))
+quantized_made ps moved new grid t a m n = λ v h g.
+    let l = list_of ps in
+    let to = changed (Quantize grid) in
+    let few : length (without_repeats (map to l)) ≤ 256 = omega (arith, repeats_most (map to l), length-map l to, held_few ps v h) in
+    rw a
+    (n ∙ ap (λ (k : List AutomationPoint). holding (fitting (without_repeats k))) (ap list_of m ∙ mapped_list to ps)
+    ∙ ap holding (fitting_all (without_repeats (map to l)) few ∙ repeats_firsts grid g a l (valid_finite ps v) t (valid_rising ps v)))

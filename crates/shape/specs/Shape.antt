@@ -1,5 +1,5 @@
 -- The edits that change which points there are, as 000 has them.
-use Rattle.std.specs.Prelude.{Bool, cond, not, ◌&&◌, List, [], ◌∷◌, ◌++◌, map, reverse, eqb, Float, length, drop}
+use Rattle.std.specs.Prelude.{Bool, cond, not, ◌&&◌, List, [], ◌∷◌, ◌++◌, filter, map, reverse, eqb, Float, length, drop}
 use Rattle.std.specs.Float.{binary32, binary64}
 use Rattle.std.specs.Float.Ieee.{sub, div, lt, le, of_bits}
 use Rattle.numbers.specs.Bounds.{zero64}
@@ -13,9 +13,8 @@ use Rattle.pointwise.specs.declared.Change.TheVariants.{Reflect, Quantize}
 use Rattle.pointwise.specs.Each.{changed, last_time}
 
 -- the elements that pass a test
-unfoldable pub keep_if : {A : Type 0} → (A → Bool) → List A → List A
-keep_if q [] = []
-keep_if q (x ∷ l) = cond (q x) (x ∷ keep_if q l) (keep_if q l)
+abbrev pub keep_if : {A : Type 0} → (A → Bool) → List A → List A
+keep_if = filter
 
 -- trim: "p.time >= start_time && p.time <= end_time"
 abbrev pub inside : Float → Float → AutomationPoint → Bool

@@ -1,4 +1,3 @@
-pub mod Answers
 pub mod Texts
 pub mod LineForms
 pub mod Meanings

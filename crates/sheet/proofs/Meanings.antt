@@ -1,4 +1,5 @@
 -- A record's numbers mean the record, and the numbers that mean a record are its own. Assumes nothing.
+use Rattle.std.specs.Prelude.{None, Option, Some}
 use Prim.Native.Nat.{ℕ, ◌^◌, ◌<◌}
 use mathlib.Core.Path.{◌≡◌, refl, sym, ap, ◌∙◌}
 use mathlib.Core.Bool.{Bool, true, false, cond, ◌&&◌}
@@ -19,20 +20,14 @@ use Rattle.points.specs.Point.{finite_point}
 use Rattle.points.specs.Refusal.{Said, gives}
 use Rattle.points.specs.declared.AutomationPoint.{AutomationPoint}
 use Rattle.points.specs.declared.Points.{Points}
-use Rattle.points.specs.declared.SamplePosition.{SamplePosition}
-use Rattle.points.specs.declared.SamplePosition.TheVariants as position
 use Rattle.limits.specs.Limits.{finite_limit, finite_limits}
-use Rattle.limits.specs.declared.Limit.{Limit}
-use Rattle.limits.specs.declared.Limit.TheVariants as limit
 use Rattle.envelope.specs.Envelope.{limits_of}
 use Rattle.envelope.specs.Typed.{typed_position, typed_point, typed_limit}
 use Rattle.envelope.specs.declared.AutomationEnvelope.{AutomationEnvelope}
-use Rattle.lines.specs.Lines.{check, limit_of, finite_bits, settings_meaning, position_of, point_meaning}
+use Rattle.lines.specs.Lines.{check, limit_of, finite_bits, settings_meaning, point_meaning}
 use Rattle.sheet.specs.Sheet.{envelope_from}
-use Rattle.sheet.specs.Text.{limit_bits, raw_settings, position_bits, raw_point}
+use Rattle.sheet.specs.Text.{limit_bits, raw_settings, raw_point}
 use Rattle.fields.specs.Told.{Below}
-use Rattle.fields.specs.declared.Optional.{Optional}
-use Rattle.fields.specs.declared.Optional.TheVariants as optional
 use Rattle.lines.specs.declared.settings.RawSettings.{RawSettings}
 use Rattle.lines.specs.declared.settings.Settings.{Settings}
 use Rattle.lines.specs.declared.point.RawPoint.{RawPoint}
@@ -49,29 +44,29 @@ unchecked false n x e f = never e
 
 -- ---- limits
 
-limit_read : (p : Limit) → typed_limit p ≡ true → limit_of (limit_bits p) ≡ p
+limit_read : (p : Option Float) → typed_limit p ≡ true → limit_of (limit_bits p) ≡ p
 unfolding limit_of
-limit_read limit.None t = refl
-limit_read (limit.Number x) t = ap limit.Number (of_bits-to_bits binary32 x (yes t))
+limit_read None t = refl
+limit_read (Some x) t = ap Some (of_bits-to_bits binary32 x (yes t))
 
-limit_finite : (p : Limit) → typed_limit p ≡ true → finite_limit p ≡ true → finite_bits (limit_bits p) ≡ true
+limit_finite : (p : Option Float) → typed_limit p ≡ true → finite_limit p ≡ true → finite_bits (limit_bits p) ≡ true
 unfolding finite_bits
-limit_finite limit.None t f = refl
-limit_finite (limit.Number x) t f = rw (of_bits-to_bits binary32 x (yes t)) f
+limit_finite None t f = refl
+limit_finite (Some x) t f = rw (of_bits-to_bits binary32 x (yes t)) f
 
-limit_lt : (p : Limit) → typed_limit p ≡ true → Below (16 ^ 8) (limit_bits p)
-limit_lt limit.None t = tt
-limit_lt (limit.Number x) t = omega (arith, to_bits-lt binary32 x (yes t))
+limit_lt : (p : Option Float) → typed_limit p ≡ true → Below (16 ^ 8) (limit_bits p)
+limit_lt None t = tt
+limit_lt (Some x) t = omega (arith, to_bits-lt binary32 x (yes t))
 
-limit_back : (o : Optional) → Below (16 ^ 8) o → finite_bits o ≡ true → limit_bits (limit_of o) ≡ o
+limit_back : (o : Option ℕ) → Below (16 ^ 8) o → finite_bits o ≡ true → limit_bits (limit_of o) ≡ o
 unfolding limit_of finite_bits
-limit_back optional.None h f = refl
-limit_back (optional.Bits n) h f = ap optional.Bits (pattern_back binary32 n (omega arith) f)
+limit_back None h f = refl
+limit_back (Some n) h f = ap Some (pattern_back binary32 n (omega arith) f)
 
-back_finite : (o : Optional) → finite_bits o ≡ finite_limit (limit_of o)
+back_finite : (o : Option ℕ) → finite_bits o ≡ finite_limit (limit_of o)
 unfolding limit_of finite_bits
-back_finite optional.None = refl
-back_finite (optional.Bits n) = refl
+back_finite None = refl
+back_finite (Some n) = refl
 
 -- ---- settings
 
@@ -121,7 +116,7 @@ module _ (e : AutomationEnvelope) (t : Parts e) where
       small true = omega arith
       small false = omega arith
 
-raw : ℕ → ℕ → Optional → Optional → Optional → ℕ → RawSettings
+raw : ℕ → ℕ → Option ℕ → Option ℕ → Option ℕ → ℕ → RawSettings
 raw target enabled a b c hard = record { target = target; enabled = enabled; min = a; max = b; step = c; hard = hard }
 
 -- what the numbers of a settings line say that mean settings
@@ -153,28 +148,16 @@ module _ (r : RawSettings) (s : Settings) (ps : Points) (m : settings_meaning r 
       let hard : ℕ = cond (eqb r.hard 1) 1 0 in
       ap (λ (x : Settings). raw_settings (envelope_from x ps)) (sym k.is)
       ∙ ap (λ (n : ℕ). raw r.target n (limit_bits (limit_of r.min)) (limit_bits (limit_of r.max)) (limit_bits (limit_of r.step)) hard) (flag_back r.enabled fine.enabled)
-      ∙ ap (λ (o : Optional). raw r.target r.enabled o (limit_bits (limit_of r.max)) (limit_bits (limit_of r.step)) hard) (limit_back r.min fine.min k.min)
-      ∙ ap (λ (o : Optional). raw r.target r.enabled r.min o (limit_bits (limit_of r.step)) hard) (limit_back r.max fine.max k.max)
-      ∙ ap (λ (o : Optional). raw r.target r.enabled r.min r.max o hard) (limit_back r.step fine.step k.step)
+      ∙ ap (λ (o : Option ℕ). raw r.target r.enabled o (limit_bits (limit_of r.max)) (limit_bits (limit_of r.step)) hard) (limit_back r.min fine.min k.min)
+      ∙ ap (λ (o : Option ℕ). raw r.target r.enabled r.min o (limit_bits (limit_of r.step)) hard) (limit_back r.max fine.max k.max)
+      ∙ ap (λ (o : Option ℕ). raw r.target r.enabled r.min r.max o hard) (limit_back r.step fine.step k.step)
       ∙ ap (λ (n : ℕ). raw r.target r.enabled r.min r.max r.step n) (flag_back r.hard fine.hard)
 
--- ---- positions
-
-position_read : (p : SamplePosition) → position_of (position_bits p) ≡ p
-unfolding position_of
-position_read position.None = refl
-position_read (position.At n) = refl
-
-position_lt : (p : SamplePosition) → typed_position p ≡ true → Below (16 ^ 16) (position_bits p)
-position_lt position.None t = tt
-position_lt (position.At n) t = omega (arith, ltb-true n 0x1_0000_0000_0000_0000 t)
-
-position_back : (o : Optional) → position_bits (position_of o) ≡ o
-unfolding position_of
-position_back optional.None = refl
-position_back (optional.Bits n) = refl
-
 -- ---- points
+
+position_lt : (p : Option ℕ) → typed_position p ≡ true → Below (16 ^ 16) p
+position_lt None t = tt
+position_lt (Some n) t = omega (arith, ltb-true n 0x1_0000_0000_0000_0000 t)
 
 -- the numbers are numbers of their types
 module _ (p : AutomationPoint) (t : typed_point p ≡ true) where
@@ -191,7 +174,6 @@ module _ (p : AutomationPoint) (t : typed_point p ≡ true) where
         code_known p.curve,
         finite_cp1 p f,
         finite_cp2 p f,
-        position_read p.sample_position,
         curve_of-code p.curve,
       )
 
@@ -237,14 +219,14 @@ finite_curve n a b k f g = on (eqb n 5) refl
         let c = plain_controls (curve_of n a b) (λ h. eqb-false n 5 t (sym (code_curve_of n a b k) ∙ h)) in
         ap (λ (k : Controls). finite k.cp1 && finite k.cp2) c
 
-raw_of : ℕ → Optional → ℕ → ℕ → ℕ → ℕ → RawPoint
+raw_of : ℕ → Option ℕ → ℕ → ℕ → ℕ → ℕ → RawPoint
 raw_of time place value curve a b = record { time = time; position = place; value = value; curve = curve; cp1 = a; cp2 = b }
 
 -- what the numbers of a point's line say that mean a point
 record Meant (r : RawPoint) (p : AutomationPoint) : Type 0 where
   is : record {
     time = of_bits binary64 r.time;
-    sample_position = position_of r.position;
+    sample_position = r.position;
     value = of_bits binary32 r.value;
     curve = curve_of r.curve (of_bits binary32 r.cp1) (of_bits binary32 r.cp2);
   }
@@ -282,11 +264,7 @@ module _ (r : RawPoint) (p : AutomationPoint) (m : point_meaning r ≡ gives p) 
       let v = pattern_back binary32 r.value (omega (arith, fine.value)) k.value in
       let cs = controls_back r fine k.curve a b (pattern_back binary32 r.cp1 (omega (arith, fine.cp1)) k.cp1) (pattern_back binary32 r.cp2 (omega (arith, fine.cp2)) k.cp2) in
       ap raw_point (sym k.is)
-      ∙ ap
-      (λ (n : ℕ). raw_of n (position_bits (position_of r.position)) (to_bits binary32 (of_bits binary32 r.value)) (code c) (to_bits binary32 (controls c).cp1)
-      (to_bits binary32 (controls c).cp2)) t
-      ∙ ap (λ (o : Optional). raw_of r.time o (to_bits binary32 (of_bits binary32 r.value)) (code c) (to_bits binary32 (controls c).cp1) (to_bits binary32 (controls c).cp2))
-      (position_back r.position)
+      ∙ ap (λ (n : ℕ). raw_of n r.position (to_bits binary32 (of_bits binary32 r.value)) (code c) (to_bits binary32 (controls c).cp1) (to_bits binary32 (controls c).cp2)) t
       ∙ ap (λ (n : ℕ). raw_of r.time r.position n (code c) (to_bits binary32 (controls c).cp1) (to_bits binary32 (controls c).cp2)) v
       ∙ ap (λ (n : ℕ). raw_of r.time r.position r.value n (to_bits binary32 (controls c).cp1) (to_bits binary32 (controls c).cp2)) (code_curve_of r.curve a b k.curve)
       ∙ ap (λ (n : ℕ). raw_of r.time r.position r.value r.curve n (to_bits binary32 (controls c).cp2)) cs.0

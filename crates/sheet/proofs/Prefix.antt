@@ -1,5 +1,6 @@
 -- The first 16,543 bytes decide what the program reads: bytes after them change no answer. Assumes nothing.
-use Prim.Native.Nat.{ℕ, zero, suc, ◌+◌, ◌*◌, ◌^◌, ◌≤◌}
+use Rattle.std.specs.Prelude.{None, Some}
+use Prim.Native.Nat.{ℕ, zero, suc, ◌+◌, ◌*◌, ◌^◌, ◌≤◌, ◌<◌}
 use mathlib.Core.Path.{◌≡◌, refl, sym, ap, subst, ◌∙◌}
 use mathlib.Core.Bool.{Bool, true, false, cond, ◌&&◌, ◌||◌, and-false}
 use mathlib.Core.List.{List, [], ◌∷◌, ◌++◌}
@@ -8,7 +9,7 @@ use native.Mathlib.Omega.{arith}
 use borrow.Author.Tests.{leb-true, leb-false, ltb-true, lt-ltb, le-ltb, eqb-false}
 use lib.Dec.{ltb, eqb, leb}
 use lib.ListN.{length, take, drop, length-append, length-take, length-drop, take-append-drop}
-use lib.Seq.{take_all, drop-append-le}
+use lib.Seq.{take_all, drop-append-le, drop-cons}
 use Rattle.points.specs.Points.{holding, rising}
 use Rattle.points.specs.Refusal.{Said, refuses, gives}
 use Rattle.points.specs.declared.AutomationPoint.{AutomationPoint}
@@ -20,7 +21,6 @@ use Rattle.lines.specs.Lines.{block_meaning}
 use Rattle.lines.specs.PointLines.{Lines, stop, lines, onward, block_names, is_empty, points_end, cut_short, line_after, point_lines}
 use Rattle.sheet.specs.Sheet.{named, setting_names, point_names, with_settings, sheet_lines, last_line, block_from, play_input, read_from, read_sheet}
 use Rattle.fields.specs.Text.{places_of, decimal_text}
-use Rattle.fields.specs.declared.Optional.TheVariants as optional
 use Rattle.lines.specs.declared.settings.RawSettings.{RawSettings}
 use Rattle.lines.specs.declared.settings.Settings.{Settings}
 use Rattle.lines.specs.declared.point.RawPoint.{RawPoint}
@@ -29,7 +29,6 @@ use Rattle.lines.specs.declared.block.Block.{Block}
 use Rattle.fields.proofs.Stores.{length-number}
 use Rattle.fields.proofs.Places.{places_le}
 use Rattle.fields.proofs.Target.{grows, write_target}
-use Rattle.lines.proofs.Ends.{empty_in}
 
 -- ---- a form that k bytes decide
 
@@ -111,20 +110,20 @@ number_decided : (base w e : ℕ) → Decided (w + 1) (number_form base w e)
 unfolding number_form
 number_decided base w e = both w 1 (read_digits base w 0) (λ v. ended e v) (record { same = digits_same base w 0; left = digits_left base w 0 }) (λ v. ended_decided e v)
 
-some_decided : (w e : ℕ) → Decided (w + 1 + 0) (λ l. then (number_form 16 w e l) (λ v rest. got (optional.Bits v) rest))
-some_decided w e = both (w + 1) 0 (number_form 16 w e) (λ v rest. got (optional.Bits v) rest) (number_decided 16 w e) (found optional.Bits)
+some_decided : (w e : ℕ) → Decided (w + 1 + 0) (λ l. then (number_form 16 w e l) (λ v rest. got (Some v) rest))
+some_decided w e = both (w + 1) 0 (number_form 16 w e) (λ v rest. got (Some v) rest) (number_decided 16 w e) (found Some)
 
 optional_same : (w e : ℕ) → 1 ≤ w → (l m : List ℕ) → w + 1 ≤ length l → optional_form w e (l ++ m) ≡ more m (optional_form w e l)
 unfolding optional_form next_is
 optional_same w e p [] m h = absurd (omega arith)
-optional_same w e p (b ∷ l) m h = pick_same (eqb b 45) m (ended e optional.None l) (then (number_form 16 w e (b ∷ l)) (λ v rest. got (optional.Bits v) rest))
-    (ended_same e optional.None l m (omega arith)) ((some_decided w e).same (b ∷ l) m (omega arith))
+optional_same w e p (b ∷ l) m h = pick_same (eqb b 45) m (ended e None l) (then (number_form 16 w e (b ∷ l)) (λ v rest. got (Some v) rest))
+    (ended_same e None l m (omega arith)) ((some_decided w e).same (b ∷ l) m (omega arith))
 
 optional_left : (w e : ℕ) → 1 ≤ w → (n : ℕ) (l : List ℕ) → n + (w + 1) ≤ length l → Left n (optional_form w e l)
 unfolding optional_form next_is
 optional_left w e p n [] h = absurd (omega arith)
-optional_left w e p n (b ∷ l) h = pick_left (eqb b 45) n (ended e optional.None l) (then (number_form 16 w e (b ∷ l)) (λ v rest. got (optional.Bits v) rest))
-    (ended_left e optional.None n l (omega arith)) ((some_decided w e).left n (b ∷ l) (omega arith))
+optional_left w e p n (b ∷ l) h = pick_left (eqb b 45) n (ended e None l) (then (number_form 16 w e (b ∷ l)) (λ v rest. got (Some v) rest))
+    (ended_left e None n l (omega arith)) ((some_decided w e).left n (b ∷ l) (omega arith))
 
 optional_decided : (w e : ℕ) → 1 ≤ w → Decided (w + 1) (optional_form w e)
 optional_decided w e p = record { same = optional_same w e p; left = optional_left w e p }
@@ -205,7 +204,7 @@ starts_same : (w l m : List ℕ) → length w ≤ length l → starts_with w (l 
 unfolding starts_with
 starts_same [] l m h = refl
 starts_same (b ∷ w) [] m h = absurd (omega arith)
-starts_same (b ∷ w) (c ∷ l) m h = ap (λ (t : Bool). eqb c b && t) (starts_same w l m (omega arith))
+starts_same (b ∷ w) (c ∷ l) m h = ap (λ (t : Bool). eqb b c && t) (starts_same w l m (omega arith))
 
 text_decided : {A : Type 0} (w : List ℕ) (a : A) → Decided (length w) (λ l. cond (starts_with w l) (got a (drop (length w) l)) bad)
 text_decided w a = record {
@@ -309,8 +308,8 @@ end_same false l m h = let e = empty_same l m (omega arith) in e.0 ∙ sym e.1
 
 -- the names that are cut short have 13 bytes, and none after them
 cut_long : (program : Bool) (l : List ℕ) → 14 ≤ length l → cut_short program l ≡ false
-unfolding cut_short
-cut_long program l h = rw (empty_in l 13 (omega arith), and-false (starts_with (text "rate duration") l)) (and-false program)
+unfolding cut_short is_empty
+cut_long program l h = let b : 13 < length l = omega arith in rw (drop-cons l 13 0 b, and-false (starts_with (text "rate duration") l)) (and-false program)
 
 -- the bytes that the block may need are left
 abbrev Enough : ℕ → List ℕ → Type 0

@@ -7,7 +7,7 @@ use native.Mathlib.Omega.{arith}
 use borrow.Author.Tests.{le-leb}
 use lib.ListN.{length, drop, replicate, length-append}
 use lib.Seq.{take-append_seam}
-use Rattle.lines.proofs.Reading.{no_line, lines_next}
+use Rattle.lines.proofs.Reading.{lines_next}
 use Rattle.numbers.proofs.Tests.{and_left, and_right, and_both}
 use Rattle.points.proofs.Laws.{rising_front}
 use Rattle.points.specs.Point.{finite_point, unused}
@@ -21,7 +21,7 @@ use Rattle.envelope.specs.Typed.{typed_point, typed}
 use Rattle.envelope.specs.declared.AutomationEnvelope.{AutomationEnvelope}
 use Rattle.fields.specs.Form.{Got, bad, got, starts_with}
 use Rattle.lines.specs.Lines.{Line, refused, line, meant, line_of, settings_form, settings_meaning, settings_line, point_form, point_meaning, point_line}
-use Rattle.lines.specs.PointLines.{Lines, stop, lines, onward, is_empty, points_end, cut_short, line_after, point_lines}
+use Rattle.lines.specs.PointLines.{Lines, stop, lines, onward, block_names, is_empty, points_end, cut_short, line_after, point_lines}
 use Rattle.sheet.specs.Sheet.{named, setting_names, point_names, envelope_from, with_settings, sheet_lines}
 use Rattle.sheet.specs.Text.{settings_text, point_text, raw_settings, raw_point, point_texts, sheet_text}
 use Rattle.lines.specs.declared.settings.RawSettings.{RawSettings}
@@ -39,12 +39,12 @@ use Rattle.envelope.proofs.TypedParts.{parted, target_lt, places_length}
 -- ---- a line that was read
 
 unmeant : {B C : Type 0} (m : List ℕ) (x : Said B) {b : B} {rest : List ℕ} → meant m x ≡ line b rest → (x ≡ gives b → m ≡ rest → C) → C
-unmeant m (refuses n) e f = no_line e
+unmeant m (refuses n) e f = cc
 unmeant m (gives b) e f = f (cc) (cc)
 
 unline : {A B C : Type 0} (meaning : A → Said B) (x : Got A) {b : B} {rest : List ℕ} → line_of meaning x ≡ line b rest
     → ((a : A) → x ≡ got a rest → meaning a ≡ gives b → C) → C
-unline meaning bad e f = no_line e
+unline meaning bad e f = cc
 unline meaning (got a m) e f = unmeant m (meaning a) e (λ g h. f a (ap (λ (l : List ℕ). got a l) h) g)
 
 module _ (l : List ℕ) (p : AutomationPoint) (rest : List ℕ) (e : point_line l ≡ line p rest) where
@@ -62,9 +62,6 @@ point-line p rest t f = rw (read_point (raw_point p) rest (point_fine p t), poin
 
 -- ---- the point lines that were read
 
-pub no_lines : {A C : Type 0} {n k : ℕ} {a : A} {rest : List ℕ} → stop n k ≡ lines a rest → C
-no_lines e = let z : ◌≡◌ {A = ℕ} 0 1 = cc in absurd (omega arith)
-
 -- the points `ps` after those before
 record PointsRead (program : Bool) (room : ℕ) (before : List AutomationPoint) (l : List ℕ) (all : Points) (rest : List ℕ) : Type 0 where
   ps : List AutomationPoint
@@ -78,7 +75,7 @@ record PointsRead (program : Bool) (room : ℕ) (before : List AutomationPoint) 
 module _ (program : Bool) (all : Points) (rest : List ℕ) where
   none_read : (room : ℕ) (before : List AutomationPoint) (l : List ℕ) → rising before ≡ true → points_end program l ≡ true → lines (holding before) l ≡ lines all rest
       → PointsRead program room before l all rest
-  unfolding every point_texts
+  unfolding point_texts
   none_read room before l r e q =
       let s : holding before ≡ all = cc in
       let m : l ≡ rest = cc in
@@ -94,7 +91,7 @@ module _ (program : Bool) (all : Points) (rest : List ℕ) where
 
   one_read : (room : ℕ) (before : List AutomationPoint) (l : List ℕ) (p : AutomationPoint) (m : List ℕ) → point_line l ≡ line p m
       → PointsRead program room (before ++ (p ∷ [])) m all rest → PointsRead program (suc room) before l all rest
-  unfolding every point_texts
+  unfolding point_texts
   one_read room before l p m e w = record {
     ps = p ∷ w.ps;
     is = w.is ∙ ap holding (append_assoc before (p ∷ []) w.ps);
@@ -113,8 +110,8 @@ module _ (program : Bool) (all : Points) (rest : List ℕ) where
       on : (t : Bool) → points_end program l ≡ t → (u : Bool) → cond t (lines (holding before) l) (cond u (stop 9 (line_after before)) (stop 5 (line_after before))) ≡ lines all rest
           → PointsRead program zero before l all rest
       on true e u q = none_read zero before l r e q
-      on false e true q = no_lines q
-      on false e false q = no_lines q
+      on false e true q = cc
+      on false e false q = cc
   points_read (suc room) before l r q = on (points_end program l) refl (point_line l) refl q (λ p m h. points_read room (before ++ (p ∷ [])) m h)
     where
       next : AutomationPoint → List ℕ → Lines Points
@@ -125,7 +122,7 @@ module _ (program : Bool) (all : Points) (rest : List ℕ) where
           → (rising (before ++ (p ∷ [])) ≡ true → point_lines program room (before ++ (p ∷ [])) m ≡ lines all rest → PointsRead program room (before ++ (p ∷ [])) m all rest)
           → PointsRead program (suc room) before l all rest
       rose p m true t e q f = one_read room before l p m e (f t q)
-      rose p m false t e q f = no_lines q
+      rose p m false t e q f = cc
 
       on : (t : Bool) → points_end program l ≡ t → (x : Line AutomationPoint) → point_line l ≡ x
           → cond t (lines (holding before) l)
@@ -135,7 +132,7 @@ module _ (program : Bool) (all : Points) (rest : List ℕ) where
           → PointsRead program room (before ++ (p ∷ [])) m all rest)
           → PointsRead program (suc room) before l all rest
       on true e x k q f = none_read (suc room) before l r e q
-      on false e (refused n) k q f = no_lines q
+      on false e (refused n) k q f = cc
       on false e (line p m) k q f = rose p m (rising (before ++ (p ∷ []))) refl k q (f p m)
 
 -- ---- a sheet that was read
@@ -151,16 +148,16 @@ unnamed {B} {C} k names l next {b} {rest} e f = on (starts_with names l) refl e
   where
     on : (t : Bool) → starts_with names l ≡ t → cond t (next (drop (length names) l)) (stop 9 k) ≡ lines b rest → C
     on true t q = f (starts_back names l t) q
-    on false t q = no_lines q
+    on false t q = cc
 
 unonward : {A B C : Type 0} (k : ℕ) (x : Line A) (next : A → List ℕ → Lines B) {b : B} {rest : List ℕ} → onward k x next ≡ lines b rest
     → ((a : A) (m : List ℕ) → x ≡ line a m → next a m ≡ lines b rest → C) → C
-unonward k (refused n) next e f = no_lines e
+unonward k (refused n) next e f = cc
 unonward k (line a m) next e f = f a m refl e
 
 unsettled : {C : Type 0} (s : Settings) (x : Lines Points) {e : AutomationEnvelope} {rest : List ℕ} → with_settings s x ≡ lines e rest
     → ((ps : Points) → x ≡ lines ps rest → envelope_from s ps ≡ e → C) → C
-unsettled s (stop n k) q f = no_lines q
+unsettled s (stop n k) q f = cc
 unsettled s (lines ps m) {e} {rest} q f =
     let a : envelope_from s ps ≡ e = cc in
     let b : m ≡ rest = cc in
@@ -195,6 +192,16 @@ sheet_read program l e rest q =
           (sym (take-append_seam w.ps (replicate (256 - length w.ps) unused)));
     }))))))
 
+-- the program's: few enough points to count, and its block's names after them
+pub program_few : (l : List ℕ) (e : AutomationEnvelope) (rest : List ℕ) → lines e rest ≡ sheet_lines true l → e.points.count ≤ 256
+program_few l e rest q = valid_count e.points (points_valid e (sheet_read true l e rest (sym q)).valid)
+
+pub program_names : (l : List ℕ) (e : AutomationEnvelope) (rest : List ℕ) → lines e rest ≡ sheet_lines true l → starts_with block_names rest ≡ true
+unfolding points_end
+program_names l e rest q = (sheet_read true l e rest (sym q)).end
+
+pub ruleset program_read = (program_few, program_names)
+
 -- ---- the lines that were written
 
 not_empty : (l : List ℕ) → 0 < length l → points_end false l ≡ false
@@ -204,7 +211,7 @@ not_empty (b ∷ l) h = refl
 
 pub points_written : (room : ℕ) (before ps : List AutomationPoint) → length ps ≤ room → every typed_point ps ≡ true → every finite_point ps ≡ true → rising (before ++ ps) ≡ true
     → point_lines false room before (point_texts ps) ≡ lines (holding (before ++ ps)) []
-unfolding point_lines point_texts every points_end is_empty
+unfolding point_lines point_texts points_end is_empty
 points_written zero before [] h t f r = ap (λ (l : List AutomationPoint). lines (holding l) []) (sym (append-nil before))
 points_written zero before (p ∷ ps) h t f r = absurd (omega arith)
 points_written (suc room) before [] h t f r = ap (λ (l : List AutomationPoint). lines (holding l) []) (sym (append-nil before))

@@ -1,21 +1,28 @@
 -- How long a sheet's lines are, and the points' lines one after the other. Assumes nothing.
-use Prim.Native.Nat.{ℕ, zero, suc, ◌+◌, ◌*◌, ◌≤◌, ◌<◌}
+use Prim.Native.Nat.{ℕ, ◌+◌, ◌*◌, ◌≤◌, ◌<◌}
 use mathlib.Core.Path.{◌≡◌, refl, sym, ap, ◌∙◌}
 use mathlib.Core.Bool.{Bool, true, false}
-use mathlib.Core.List.{List, [], ◌∷◌, ◌++◌, append_assoc, append-nil}
+use mathlib.Core.List.{List, [], ◌∷◌, ◌++◌, append-nil}
 use native.Mathlib.Numerals.{add-one}
 use native.Mathlib.Omega.{arith}
 use borrow.Author.Tests.{eq-eqb, ne_eqb, eqb-true, eqb-false}
 use lib.Dec.{eqb}
 use lib.ListN.{length, take, get_or, length-append, length-take}
 use lib.Seq.{take-suc}
+use native.Mathlib.Nat.{add-zero}
+use Rattle.std.specs.List.{sum_by}
+use Rattle.std.proofs.lemmas.List.Concat.{flat_map-append, length-flat_map}
+use Rattle.std.proofs.lemmas.List.Folds.{length-flat_map-take}
 use Rattle.points.specs.Points.{list_of}
 use Rattle.points.specs.declared.AutomationPoint.{AutomationPoint}
+use Rattle.points.proofs.ValidLaws.{valid_count}
+use Rattle.envelope.specs.Envelope.{valid_envelope}
 use Rattle.envelope.specs.declared.AutomationEnvelope.{AutomationEnvelope}
+use Rattle.envelope.proofs.ValidParts.{points_valid}
 use Rattle.fields.specs.Text.{number_text, optional_text, places_of, decimal_text}
 use Rattle.fields.specs.Told.{Put, Fitted}
 use Rattle.fields.proofs.Places.{places_le}
-use Rattle.fields.proofs.Stores.{length-number, same_length, length-le, front, back, put_then, room_after, fit_then}
+use Rattle.fields.proofs.Stores.{length-number, same_length, length-le, front, back, put_length, put_then, room_after, fit_then}
 use Rattle.lines.specs.Lines.{dashes}
 use Rattle.lines.specs.declared.settings.RawSettings.{RawSettings}
 use Rattle.lines.specs.declared.point.RawPoint.{RawPoint}
@@ -46,14 +53,6 @@ controls_le code a b = go (eqb code 5) refl
     go true e = omega (arith, five_length code a b (eqb-true code 5 e))
     go false e = omega (arith, other_length code a b (eqb-false code 5 e))
 
--- what they are does not matter
-pub controls_same : (code a b : ℕ) → length (controls_text code a b) ≡ length (controls_text code 0 0)
-controls_same code a b = go (eqb code 5) refl
-  where
-    go : (t : Bool) → eqb code 5 ≡ t → length (controls_text code a b) ≡ length (controls_text code 0 0)
-    go true e = five_length code a b (eqb-true code 5 e) ∙ sym (five_length code 0 0 (eqb-true code 5 e))
-    go false e = other_length code a b (eqb-false code 5 e) ∙ sym (other_length code 0 0 (eqb-false code 5 e))
-
 -- ---- lines
 
 length-five : (a b c d e : List ℕ) → length (a ++ (b ++ (c ++ (d ++ e)))) ≡ length a + length b + length c + length d + length e
@@ -76,7 +75,7 @@ settings_length r =
       length-number 2 1 10 r.hard,
     )
 
-pub point_length : (r : RawPoint) → length (point_text r) ≡ 29 + length (optional_text 16 0 r.position) + length (controls_text r.curve 0 0)
+pub point_length : (r : RawPoint) → length (point_text r) ≡ 29 + length (optional_text 16 0 r.position) + length (controls_text r.curve r.cp1 r.cp2)
 unfolding point_text
 point_length r =
     omega (
@@ -86,14 +85,16 @@ point_length r =
       same_length 16 32 0 r.position,
       length-number 16 8 32 r.value,
       length-number 10 2 32 r.curve,
-      controls_same r.curve r.cp1 r.cp2,
     )
 
 pub point_le : (r : RawPoint) → length (point_text r) ≤ 65
-point_le r = omega (arith, point_length r, length-le 16 0 r.position, controls_le r.curve 0 0)
+point_le r = omega (arith, point_length r, length-le 16 0 r.position, controls_le r.curve r.cp1 r.cp2)
 
 pub settings_le : (r : RawSettings) → length (settings_text r) ≤ 45
 settings_le r = omega (arith, settings_length r, places_le 10 r.target, length-le 8 0 r.min, length-le 8 0 r.max, length-le 8 0 r.step)
+
+-- the lengths of the fields, and of the lines by theirs
+pub ruleset lengths = (length-number, length-le, places_le, five_length, controls_le, settings_length, settings_le, point_length, point_le)
 
 -- ---- the points' lines
 
@@ -102,39 +103,34 @@ unfolding point_texts
 texts_bound [] = omega arith
 texts_bound (p ∷ ps) = omega (arith, length-append (point_text (raw_point p)) (point_texts ps), point_le (raw_point p), texts_bound ps)
 
-pub texts_append : (ps qs : List AutomationPoint) → point_texts (ps ++ qs) ≡ point_texts ps ++ point_texts qs
-unfolding point_texts
-texts_append [] qs = refl
-texts_append (p ∷ ps) qs = ap (λ (l : List ℕ). point_text (raw_point p) ++ l) (texts_append ps qs) ∙ sym (append_assoc (point_text (raw_point p)) (point_texts ps) (point_texts qs))
-
-texts_one : (p : AutomationPoint) → point_texts (p ∷ []) ≡ point_text (raw_point p)
-unfolding point_texts
-texts_one p = append-nil (point_text (raw_point p))
-
+-- the next line
 module _ (l : List AutomationPoint) (i : ℕ) (d : AutomationPoint) (h : i < length l) where
-  pub texts_more : point_texts (take (i + 1) l) ≡ point_texts (take i l) ++ point_text (raw_point (get_or l i d))
+  texts_more : point_texts (take (i + 1) l) ≡ point_texts (take i l) ++ point_text (raw_point (get_or l i d))
+  unfolding point_texts
   texts_more =
+      let f : AutomationPoint → List ℕ = λ p. point_text (raw_point p) in
       ap (λ (n : ℕ). point_texts (take n l)) (add-one i)
       ∙ ap point_texts (take-suc l i d h)
-      ∙ texts_append (take i l) (get_or l i d ∷ [])
-      ∙ ap (λ (t : List ℕ). point_texts (take i l) ++ t) (texts_one (get_or l i d))
+      ∙ flat_map-append f (take i l) (get_or l i d ∷ [])
+      ∙ ap (λ (t : List ℕ). point_texts (take i l) ++ t) (append-nil (f (get_or l i d)))
 
--- as many points or fewer take no more place
-pub texts_le : (l : List AutomationPoint) (i n : ℕ) → i ≤ n → length (point_texts (take i l)) ≤ length (point_texts (take n l))
+  -- it has its place, and stands after those before it
+  module _ {out₀ out : List ℕ} {start at : ℕ} (p : Put out₀ start (point_texts (take i l)) out at) where
+    pub text_fits : start + length (point_texts l) ≤ length out₀ → at + length (point_text (raw_point (get_or l i d))) ≤ length out
+    unfolding point_texts
+    text_fits e = omega (arith, p.next, put_length p, length-flat_map-take (λ q. point_text (raw_point q)) l i d h)
+
+    pub text_put : {out' : List ℕ} {at' : ℕ} → Put out at (point_text (raw_point (get_or l i d))) out' at' → Put out₀ start (point_texts (take (i + 1) l)) out' at'
+    text_put q = rw texts_more (put_then p q)
+
+pub no_texts : (l : List ℕ) (start : ℕ) → Put l start (point_texts []) l start
 unfolding point_texts
-texts_le l zero n h = omega arith
-texts_le [] (suc i) n h = omega arith
-texts_le (p ∷ l) (suc i) zero h = absurd (omega arith)
-texts_le (p ∷ l) (suc i) (suc n) h =
-    omega (arith, length-append (point_text (raw_point p)) (point_texts (take i l)), length-append (point_text (raw_point p)) (point_texts (take n l)), texts_le l i n (omega arith))
+no_texts l start = record { next = sym (add-zero start); bytes = refl }
 
--- the next line has its place, and stands after those before it
-module _ (l : List AutomationPoint) (i : ℕ) (d : AutomationPoint) (inside : i < length l) {out₀ out : List ℕ} {start at : ℕ} (p : Put out₀ start (point_texts (take i l)) out at) where
-  pub text_fits : (n : ℕ) → i < n → start + length (point_texts (take n l)) ≤ length out₀ → at + length (point_text (raw_point (get_or l i d))) ≤ length out
-  text_fits n h e = back p (point_text (raw_point (get_or l i d))) (omega (arith, ap length (texts_more l i d inside), texts_le l (i + 1) n (omega arith)))
-
-  pub text_put : {out' : List ℕ} {at' : ℕ} → Put out at (point_text (raw_point (get_or l i d))) out' at' → Put out₀ start (point_texts (take (i + 1) l)) out' at'
-  text_put q = rw (texts_more l i d inside) (put_then p q)
+-- how long they are together
+pub texts_sum : (ps : List AutomationPoint) → length (point_texts ps) ≡ sum_by (λ p. length (point_text (raw_point p))) ps
+unfolding point_texts
+texts_sum ps = length-flat_map (λ p. point_text (raw_point p)) ps
 
 -- ---- the whole sheet
 
@@ -147,6 +143,9 @@ sheet_length e =
 
 pub texts_few : (e : AutomationEnvelope) → e.points.count ≤ 256 → length (point_texts (list_of e.points)) ≤ 16640
 texts_few e h = omega (arith, texts_bound (list_of e.points), length-take e.points.count e.points.places)
+
+pub few : (e : AutomationEnvelope) → valid_envelope e ≡ true → e.points.count ≤ 256
+few e v = valid_count e.points (points_valid e v)
 
 -- ---- texts put one after another
 

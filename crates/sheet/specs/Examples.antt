@@ -1,5 +1,5 @@
 -- 01's example of "The sheet", read and written, and refusals with their lines.
-use Rattle.std.specs.Prelude.{ℕ, ◌≡◌, refl, Bool, true, false, List, [], ◌∷◌, ◌++◌, map}
+use Rattle.std.specs.Prelude.{ℕ, ◌≡◌, refl, Bool, true, false, List, [], ◌∷◌, ◌++◌, map, None}
 use Prim.Native.String.{String}
 use Rattle.std.specs.Float.Ieee.{of_bits, to_bits}
 use Rattle.std.specs.Float.{binary32, binary64}
@@ -9,11 +9,9 @@ use Rattle.curve.specs.Curve.{code, controls, curve_of}
 use Rattle.curve.specs.declared.CurveType.TheVariants.{Linear}
 use Rattle.points.specs.Points.{holding, rising_by}
 use Rattle.points.specs.declared.AutomationPoint.{AutomationPoint}
-use Rattle.points.specs.declared.SamplePosition.TheVariants as position
-use Rattle.limits.specs.declared.Limit.TheVariants as limit
 use Rattle.envelope.specs.declared.AutomationEnvelope.{AutomationEnvelope}
 use Rattle.fields.specs.Form.{text, starts_with, next_is, read_digits, number_form, optional_form, decimals, next_digit, target_form}
-use Rattle.lines.specs.Lines.{settings_form, limit_of, finite_bits, settings_meaning, settings_line, controls_form, point_form, position_of, point_meaning, point_line, block_form, block_meaning, block_line}
+use Rattle.lines.specs.Lines.{settings_form, limit_of, finite_bits, settings_meaning, settings_line, controls_form, point_form, point_meaning, point_line, block_form, block_meaning, block_line}
 use Rattle.lines.specs.PointLines.{stop, block_names, is_empty, points_end, cut_short, line_after, point_lines}
 use Rattle.sheet.specs.Sheet.{setting_names, point_names, sheet_lines, Read, refusal, sheet, read_sheet, Input, declined, input, play_input}
 use Rattle.fields.specs.Text.{digit_byte, digits_of, optional_text, places_of}
@@ -35,7 +33,7 @@ block = block_names ++ text "3FF0000000000000 4008000000000000\n"
 
 -- a point by the bits of its time and value, Linear
 abbrev linear : ℕ → ℕ → AutomationPoint
-linear time value = record { time = of_bits binary64 time; sample_position = position.None; value = of_bits binary32 value; curve = Linear }
+linear time value = record { time = of_bits binary64 time; sample_position = None; value = of_bits binary32 value; curve = Linear }
 
 -- the settings of line 2, with this hard and these points
 abbrev with_points : Bool → List AutomationPoint → AutomationEnvelope
@@ -43,9 +41,9 @@ with_points hard ps = record {
   target = 0;
   points = holding ps;
   enabled = true;
-  min_value = limit.None;
-  max_value = limit.None;
-  step_size = limit.None;
+  min_value = None;
+  max_value = None;
+  step_size = None;
   hard = hard;
 }
 
@@ -54,12 +52,12 @@ abbrev envelope : AutomationEnvelope
 envelope = with_points false (linear 0 0 ∷ linear 0x4010_0000_0000_0000 0x3F80_0000 ∷ [])
 
 pub example_read : read_sheet (head ++ first ++ second) ≡ sheet envelope
-unfolding starts_with next_is read_digits number_form optional_form decimals next_digit target_form settings_form limit_of finite_bits settings_meaning settings_line controls_form point_form position_of point_meaning point_line is_empty points_end point_lines sheet_lines read_sheet finite of_bits to_bits order_key rising_by curve_of
+unfolding starts_with next_is read_digits number_form optional_form decimals next_digit target_form settings_form limit_of finite_bits settings_meaning settings_line controls_form point_form point_meaning point_line is_empty points_end point_lines sheet_lines read_sheet finite of_bits to_bits order_key rising_by curve_of
 example_read = refl
 
 -- one sample a second, for 3 seconds
 pub example_input : play_input (head ++ first ++ second ++ block) ≡ input envelope (record { rate = of_bits binary64 0x3FF0_0000_0000_0000; duration = of_bits binary64 0x4008_0000_0000_0000 })
-unfolding starts_with next_is read_digits number_form optional_form decimals next_digit target_form settings_form limit_of finite_bits settings_meaning settings_line controls_form point_form position_of point_meaning point_line block_form block_meaning block_line is_empty points_end point_lines sheet_lines play_input finite of_bits to_bits order_key rising_by curve_of
+unfolding starts_with next_is read_digits number_form optional_form decimals next_digit target_form settings_form limit_of finite_bits settings_meaning settings_line controls_form point_form point_meaning point_line block_form block_meaning block_line is_empty points_end point_lines sheet_lines play_input finite of_bits to_bits order_key rising_by curve_of
 example_input = refl
 
 pub example_written : sheet_text envelope ≡ head ++ first ++ second
@@ -132,7 +130,7 @@ cases =
     ∷ []
 
 pub cases_hold : map (λ c. read_sheet c.0) cases ≡ map (λ c. c.1) cases
-unfolding starts_with next_is read_digits number_form optional_form decimals next_digit target_form settings_form limit_of finite_bits settings_meaning settings_line controls_form point_form position_of point_meaning point_line is_empty points_end point_lines sheet_lines read_sheet finite of_bits to_bits order_key rising_by curve_of
+unfolding starts_with next_is read_digits number_form optional_form decimals next_digit target_form settings_form limit_of finite_bits settings_meaning settings_line controls_form point_form point_meaning point_line is_empty points_end point_lines sheet_lines read_sheet finite of_bits to_bits order_key rising_by curve_of
 cases_hold = refl
 
 pub hard_written : sheet_text (with_points true []) ≡ hardened
@@ -151,7 +149,7 @@ inputs =
     ∷ []
 
 pub inputs_hold : map (λ c. play_input c.0) inputs ≡ map (λ c. c.1) inputs
-unfolding starts_with next_is read_digits number_form optional_form decimals next_digit target_form settings_form limit_of finite_bits settings_meaning settings_line controls_form point_form position_of point_meaning point_line block_form block_meaning block_line is_empty points_end point_lines sheet_lines play_input finite of_bits to_bits order_key rising_by curve_of
+unfolding starts_with next_is read_digits number_form optional_form decimals next_digit target_form settings_form limit_of finite_bits settings_meaning settings_line controls_form point_form point_meaning point_line block_form block_meaning block_line is_empty points_end point_lines sheet_lines play_input finite of_bits to_bits order_key rising_by curve_of
 inputs_hold = refl
 
 -- the program's lines after 256 points, whichever they are: no line, the block's names without their 0A, and others

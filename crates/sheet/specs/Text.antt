@@ -1,23 +1,18 @@
 -- 01, "The sheet": what the writer writes.
-use Rattle.std.specs.Prelude.{ℕ, cond, List, [], ◌∷◌, ◌++◌, length, drop, leb, eqb}
+use Rattle.std.specs.Prelude.{ℕ, cond, List, [], ◌∷◌, ◌++◌, length, drop, leb, eqb, Option, option_map, Float}
+use Rattle.std.specs.List.{flat_map}
 use Rattle.std.specs.Float.{binary32, binary64}
 use Rattle.std.specs.Float.Ieee.{to_bits}
 use Rattle.curve.specs.Curve.{code, controls}
 use Rattle.points.specs.Refusal.{Said, refuses, gives}
 use Rattle.points.specs.Points.{list_of}
 use Rattle.points.specs.declared.AutomationPoint.{AutomationPoint}
-use Rattle.points.specs.declared.SamplePosition.{SamplePosition}
-use Rattle.points.specs.declared.SamplePosition.TheVariants as position
-use Rattle.limits.specs.declared.Limit.{Limit}
-use Rattle.limits.specs.declared.Limit.TheVariants as limit
 use Rattle.envelope.specs.Envelope.{valid_envelope}
 use Rattle.envelope.specs.declared.AutomationEnvelope.{AutomationEnvelope}
 use Rattle.fields.specs.Form.{space, newline}
 use Rattle.fields.specs.Text.{digits_of, number_text, optional_text, places_of, decimal_text}
 use Rattle.lines.specs.Lines.{dashes}
 use Rattle.sheet.specs.Sheet.{setting_names, point_names}
-use Rattle.fields.specs.declared.Optional.{Optional}
-use Rattle.fields.specs.declared.Optional.TheVariants as optional
 use Rattle.lines.specs.declared.settings.RawSettings.{RawSettings}
 use Rattle.lines.specs.declared.point.RawPoint.{RawPoint}
 
@@ -44,9 +39,8 @@ point_text r =
 -- ---- "Numbers are bits"
 
 -- a limit's bits, or none
-abbrev pub limit_bits : Limit → Optional
-limit_bits limit.None = optional.None
-limit_bits (limit.Number x) = optional.Bits (to_bits binary32 x)
+abbrev pub limit_bits : Option Float → Option ℕ
+limit_bits p = option_map (λ x. to_bits binary32 x) p
 
 -- the settings' numbers
 unfoldable pub raw_settings : AutomationEnvelope → RawSettings
@@ -59,16 +53,11 @@ raw_settings e = record {
   hard = cond e.hard 1 0;
 }
 
--- a position's digits, or none
-abbrev pub position_bits : SamplePosition → Optional
-position_bits position.None = optional.None
-position_bits (position.At n) = optional.Bits n
-
 -- a point's numbers
 unfoldable pub raw_point : AutomationPoint → RawPoint
 raw_point p = record {
   time = to_bits binary64 p.time;
-  position = position_bits p.sample_position;
+  position = p.sample_position;
   value = to_bits binary32 p.value;
   curve = code p.curve;
   cp1 = to_bits binary32 (controls p.curve).cp1;
@@ -80,8 +69,7 @@ raw_point p = record {
 -- the lines of the points, one after the other
 unfoldable pub point_texts : List AutomationPoint → List ℕ
 unfolding raw_point point_text
-point_texts [] = []
-point_texts (p ∷ ps) = point_text (raw_point p) ++ point_texts ps
+point_texts ps = flat_map (λ p. point_text (raw_point p)) ps
 
 -- names, settings, names, points
 unfoldable pub sheet_text : AutomationEnvelope → List ℕ

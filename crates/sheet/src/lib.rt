@@ -4,3 +4,5 @@
 pub mod play;
 pub mod read;
 pub mod write;
+
+pub use lines::SheetRefusal;

@@ -1,118 +1,63 @@
-// The sheet reader.
-ghost use Rattle.std.specs.Prelude.{◌≡◌, List, ℕ};
-ghost use Rattle.points.specs.Refusal.{number};
-ghost use Rattle.lines.specs.PointLines.{stop};
-ghost use Rattle.lines.specs.Told.{told_point_lines};
-ghost use Rattle.sheet.specs.Sheet.{with_settings, sheet_lines, read_sheet};
-ghost use Rattle.sheet.specs.Told.{told_sheet_lines, told_read, read_held};
+// The sheet reader. Nothing is given beside a refusal: no envelope, and no bytes after it.
+ghost use Rattle.std.specs.Prelude.{◌≡◌, true, false, length, drop, IfOk, IfErr};
+ghost use Rattle.fields.specs.Form.{starts_with};
+ghost use Rattle.lines.specs.Told.{told_lines};
+ghost use Rattle.sheet.specs.Sheet.{envelope_from, sheet_lines, read_sheet};
+ghost use Rattle.sheet.specs.Told.{told_read};
+ghost use Rattle.points.specs.declared.refusal.Refusal.TheVariants.{SheetForm};
 
 use envelope::AutomationEnvelope;
-use lines::point_lines::PointLines;
-use lines::settings::{Settings, SettingsLine};
-use points::refusal::{Answer, Refusal};
+use lines::point_lines::point_lines;
+use lines::settings::{Settings, settings_line};
+use lines::{SheetRefusal, on_line};
+use points::Points;
+use points::refusal::Refusal;
 
-// A refusal has its line, counted from 1.
-#[derive(Clone, Copy)]
-pub enum SheetAnswer {
-    Accepted,
-    Refused(Refusal, u32),
-}
-
-#[derive(Clone, Copy)]
-pub struct SheetLines {
-    pub answer: Answer,
-    pub line: u32,
-    pub envelope: AutomationEnvelope,
-    pub next: usize,
-}
-
-// The envelope of an accepted sheet; beside a refusal an empty one.
-#[derive(Clone, Copy)]
-pub struct ReadSheet {
-    pub answer: SheetAnswer,
-    pub envelope: AutomationEnvelope,
-}
-
-fn no_sheet(refusal: Refusal, line: u32) -> SheetLines
-    ensures { (s : List ℕ) → told_sheet_lines s result ≡ stop (number refusal) line }
+// The bytes after these names, which are a line.
+#[tactic(auto, using(fields::proofs::Starts::starts_front))]
+pub(crate) fn named<'a>(s: &'a [u8], names: &[u8], line: u32) -> Result<&'a [u8], SheetRefusal>
+    ensures ok { IfOk result (λ rest. (starts_with names.now s.now ≡ true) × (rest.now ≡ drop (length names.now) s.now)) }
+    ensures err { IfErr result (λ e. (starts_with names.now s.now ≡ false) × (e ≡ record { refusal = SheetForm; line = line })) }
 {
-    let envelope = AutomationEnvelope::new(0);
-    SheetLines {
-        answer: Answer::Refused(refusal),
-        line,
-        envelope,
-        next: 0,
-    }
+    let refusal = Refusal::SheetForm;
+    s.strip_prefix(names).ok_or(SheetRefusal { refusal, line })
 }
 
-fn with_settings(settings: Settings, r: PointLines) -> SheetLines
-    ensures { (s : List ℕ) → told_sheet_lines s result ≡ with_settings settings (told_point_lines s r) }
+// No From: none of the types is this crate's own.
+fn envelope_from(settings: Settings, points: Points) -> AutomationEnvelope
+    ensures { result ≡ envelope_from settings points }
 {
-    let answer = r.answer;
-    let points = r.points;
-    let min_value = settings.min;
-    let max_value = settings.max;
-    let step_size = settings.step;
-    SheetLines {
-        answer,
-        line: r.line,
-        envelope: AutomationEnvelope {
-            target: settings.target,
-            points,
-            enabled: settings.enabled,
-            min_value,
-            max_value,
-            step_size,
-            hard: settings.hard,
-        },
-        next: r.next,
+    AutomationEnvelope {
+        target: settings.target,
+        points,
+        enabled: settings.enabled,
+        min_value: settings.min,
+        max_value: settings.max,
+        step_size: settings.step,
+        hard: settings.hard,
     }
 }
 
 // A sheet's lines, up to where the points end.
-pub(crate) fn sheet_lines(s: &[u8], program: bool) -> SheetLines
-    ensures { told_sheet_lines s.now result ≡ sheet_lines program s.now }
+#[tactic(auto, unfolding(crate::specs::Sheet::sheet_lines))]
+pub(crate) fn sheet_lines(
+    s: &[u8],
+    program: bool,
+) -> Result<(AutomationEnvelope, &[u8]), SheetRefusal>
+    ensures { told_lines result ≡ sheet_lines program s.now }
 {
-    if !fields::bytes::starts_with(s, 0, b"target enabled min max step hard\n") {
-        return no_sheet(Refusal::SheetForm, 1);
-    }
-    // the names above have 33 bytes
-    match lines::settings::settings_line(s, 33) {
-        SettingsLine::Refused(refusal) => no_sheet(refusal, 2),
-        SettingsLine::Is(settings, at) => {
-            if !fields::bytes::starts_with(s, at, b"time position value curve cp1 cp2\n") {
-                return no_sheet(Refusal::SheetForm, 3);
-            }
-            // the names above have 34 bytes
-            with_settings(
-                settings,
-                lines::point_lines::point_lines(s, at + 34, program),
-            )
-        }
-    }
+    let s = named(s, b"target enabled min max step hard\n", 1)?;
+    let (settings, s) = on_line(settings_line(s), 2)?;
+    let s = named(s, b"time position value curve cp1 cp2\n", 3)?;
+    let (points, s) = point_lines(s, program)?;
+    Ok((envelope_from(settings, points), s))
 }
 
 // The envelope on the sheet, or the first refusal with its line.
-pub fn read_sheet(s: &[u8]) -> ReadSheet
-    ensures answer { told_read result ≡ read_sheet s.now }
-    ensures held { result ≡ read_held result.answer (read_sheet s.now) }
+#[tactic(auto, unfolding(crate::specs::Sheet::read_sheet))]
+pub fn read_sheet(s: &[u8]) -> Result<AutomationEnvelope, SheetRefusal>
+    ensures { told_read result ≡ read_sheet s.now }
 {
-    let r = sheet_lines(s, false);
-    let answer = r.answer;
-    match answer {
-        Answer::Refused(refusal) => {
-            let envelope = AutomationEnvelope::new(0);
-            ReadSheet {
-                answer: SheetAnswer::Refused(refusal, r.line),
-                envelope,
-            }
-        }
-        Answer::Accepted => {
-            let envelope = r.envelope;
-            ReadSheet {
-                answer: SheetAnswer::Accepted,
-                envelope,
-            }
-        }
-    }
+    let (envelope, _) = sheet_lines(s, false)?;
+    Ok(envelope)
 }

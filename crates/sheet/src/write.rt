@@ -1,39 +1,36 @@
 // The sheet writer, into lent bytes. Each function that puts something returns the place after it.
-ghost use Rattle.std.specs.Prelude.{◌≡◌, true, cond, ◌+◌, ◌≤◌, length};
-ghost use Rattle.points.specs.Point.{finite_point};
-ghost use Rattle.points.specs.Points.{list_of, every};
-ghost use Rattle.limits.specs.Limits.{finite_limit, finite_limits};
-ghost use Rattle.envelope.specs.Envelope.{limits_of, valid_envelope};
+ghost use Rattle.std.specs.Prelude.{◌≡◌, ◌+◌, ◌≤◌, length};
+ghost use Rattle.points.specs.Refusal.{said};
 ghost use Rattle.fields.specs.Text.{optional_text};
 ghost use Rattle.fields.specs.Told.{Put};
-ghost use Rattle.sheet.specs.Text.{settings_text, controls_text, point_text, limit_bits, raw_settings, position_bits, raw_point, point_texts, sheet_text, write_sheet};
-ghost use Rattle.sheet.specs.Told.{told_written};
+ghost use Rattle.sheet.specs.Text.{settings_text, controls_text, point_text, limit_bits, raw_settings, raw_point, point_texts, sheet_text, write_sheet};
 
 use envelope::AutomationEnvelope;
-use fields::Optional;
-use limits::Limit;
-use lines::point::RawPoint;
+use fields::write::{fit_bits, fit_decimal, fit_digits, fit_flag, fit_hex, fit_optional, fit_text};
+use lines::point::{BEZIER, RawPoint};
 use lines::settings::RawSettings;
+use points::AutomationPoint;
 use points::refusal::Refusal;
-use points::{AutomationPoint, Points, SamplePosition};
+use std::num::{f32_to_bits_with_nan, f64_to_bits_with_nan};
 
-// How many bytes were written.
-#[derive(Clone, Copy)]
-pub enum Written {
-    Bytes(usize),
-    Refused(Refusal),
+// The two last fields of a point's line.
+fn put_controls(out: &mut [u8], at: usize, r: RawPoint) -> usize
+    requires { at + length (controls_text r.curve r.cp1 r.cp2) ≤ length out.old }
+    ensures { Put out.old at (controls_text r.curve r.cp1 r.cp2) out.new result }
+{
+    if r.curve == BEZIER {
+        let next = fit_bits(out, at, r.cp1, b' ');
+        fit_bits(out, next, r.cp2, b'\n')
+    } else {
+        fit_text(out, at, b"- -\n")
+    }
 }
 
-fn put_controls(out: &mut [u8], at: usize, code: u32, cp1: u32, cp2: u32) -> usize
-    requires { at + length (controls_text code cp1 cp2) ≤ length out.old }
-    ensures { Put out.old at (controls_text code cp1 cp2) out.new result }
+// The same bits as a number of 64: the field of an optional number serves positions too.
+fn wide(bits: Option<u32>) -> Option<u64>
+    ensures { result ≡ bits }
 {
-    if code == 5 {
-        let next = fields::write::fit_bits(&mut *out, at, cp1, b' ');
-        fields::write::fit_bits(&mut *out, next, cp2, b'\n')
-    } else {
-        fields::write::fit_text(&mut *out, at, b"- -\n")
-    }
+    bits.map(u64::from)
 }
 
 // A point's line.
@@ -41,12 +38,11 @@ fn put_point(out: &mut [u8], at: usize, r: RawPoint) -> usize
     requires { at + length (point_text r) ≤ length out.old }
     ensures { Put out.old at (point_text r) out.new result }
 {
-    let position = r.position;
-    let a = fields::write::fit_hex(&mut *out, at, r.time, 16, b' ');
-    let b = fields::write::fit_optional(&mut *out, a, position, 16, b' ');
-    let c = fields::write::fit_bits(&mut *out, b, r.value, b' ');
-    let d = fields::write::fit_digits(&mut *out, c, r.curve as u64, 2, b' ');
-    put_controls(&mut *out, d, r.curve, r.cp1, r.cp2)
+    let a = fit_hex(out, at, r.time, 16, b' ');
+    let b = fit_optional(out, a, r.position, 16, b' ');
+    let c = fit_bits(out, b, r.value, b' ');
+    let d = fit_digits(out, c, u64::from(r.curve), 2, b' ');
+    put_controls(out, d, r)
 }
 
 // The settings line.
@@ -54,186 +50,139 @@ fn put_settings(out: &mut [u8], at: usize, r: RawSettings) -> usize
     requires { at + length (settings_text r) ≤ length out.old }
     ensures { Put out.old at (settings_text r) out.new result }
 {
-    let min = r.min;
-    let max = r.max;
-    let step = r.step;
-    let a = fields::write::fit_decimal(&mut *out, at, r.target, b' ');
-    let b = fields::write::fit_flag(&mut *out, a, r.enabled, b' ');
-    let c = fields::write::fit_optional(&mut *out, b, min, 8, b' ');
-    let d = fields::write::fit_optional(&mut *out, c, max, 8, b' ');
-    let e = fields::write::fit_optional(&mut *out, d, step, 8, b' ');
-    fields::write::fit_flag(&mut *out, e, r.hard, b'\n')
+    let a = fit_decimal(out, at, r.target, b' ');
+    let b = fit_flag(out, a, r.enabled, b' ');
+    let c = fit_optional(out, b, wide(r.min), 8, b' ');
+    let d = fit_optional(out, c, wide(r.max), 8, b' ');
+    let e = fit_optional(out, d, wide(r.step), 8, b' ');
+    fit_flag(out, e, r.hard, b'\n')
 }
 
-// ---- from the records to their bits
+// ---- from the records to their bits. No From: neither type is this crate's own.
 
-fn limit_bits(p: Limit) -> Optional
-    requires { finite_limit p ≡ true }
-    ensures { result ≡ limit_bits p }
+// A closure: the check does not admit this function of the library by its name.
+fn limit_bits(limit: Option<f32>) -> Option<u32>
+    ensures { result ≡ limit_bits limit }
 {
-    match p {
-        Limit::None => Optional::None,
-        Limit::Number(x) => Optional::Bits(f32::to_bits(x) as u64),
-    }
+    limit.map(|x| f32_to_bits_with_nan(x))
 }
 
-fn flag_digit(on: bool) -> u32
-    ensures { result ≡ cond on 1 0 }
+#[tactic(auto, unfolding(crate::specs::Text::raw_settings))]
+fn raw_settings(e: &AutomationEnvelope) -> RawSettings
+    ensures { result ≡ raw_settings e.now }
 {
-    if on { 1 } else { 0 }
-}
-
-fn raw_settings(e: AutomationEnvelope) -> RawSettings
-    requires { finite_limits (limits_of e) ≡ true }
-    ensures { result ≡ raw_settings e }
-{
-    let min_value = e.min_value;
-    let max_value = e.max_value;
-    let step_size = e.step_size;
-    let min = limit_bits(min_value);
-    let max = limit_bits(max_value);
-    let step = limit_bits(step_size);
     RawSettings {
         target: e.target,
-        enabled: flag_digit(e.enabled),
-        min,
-        max,
-        step,
-        hard: flag_digit(e.hard),
+        enabled: u32::from(e.enabled),
+        min: limit_bits(e.min_value),
+        max: limit_bits(e.max_value),
+        step: limit_bits(e.step_size),
+        hard: u32::from(e.hard),
     }
 }
 
-fn position_bits(p: SamplePosition) -> Optional
-    ensures { result ≡ position_bits p }
-{
-    match p {
-        SamplePosition::None => Optional::None,
-        SamplePosition::At(n) => Optional::Bits(n),
-    }
-}
-
+#[tactic(auto, unfolding(crate::specs::Text::raw_point))]
 fn raw_point(p: AutomationPoint) -> RawPoint
-    requires { finite_point p ≡ true }
     ensures { result ≡ raw_point p }
 {
-    let sample_position = p.sample_position;
-    let curve = p.curve;
-    let c = curve.controls();
-    let position = position_bits(sample_position);
+    let c = p.curve.controls();
     RawPoint {
-        time: f64::to_bits(p.time),
-        position,
-        value: f32::to_bits(p.value),
-        curve: curve.code(),
-        cp1: f32::to_bits(c.cp1),
-        cp2: f32::to_bits(c.cp2),
+        time: f64_to_bits_with_nan(p.time),
+        position: p.sample_position,
+        value: f32_to_bits_with_nan(p.value),
+        curve: p.curve.code(),
+        cp1: f32_to_bits_with_nan(c.cp1),
+        cp2: f32_to_bits_with_nan(c.cp2),
     }
 }
 
 // ---- how long the sheet is
 
-fn optional_length(p: Optional, width: usize) -> usize
+#[tactic(auto, using(crate::proofs::Texts::lengths), unfolding(fields::specs::Text::optional_text))]
+fn optional_length(p: Option<u64>, width: usize) -> usize
     requires { width ≤ 16 }
     ensures { result ≡ length (optional_text width 0 p) }
 {
-    match p {
-        Optional::None => 2,
-        Optional::Bits(_) => width + 1,
-    }
+    p.map_or(2, |_| width + 1)
 }
 
+#[tactic(auto, using(crate::proofs::Texts::lengths))]
 fn settings_length(r: RawSettings) -> usize
     ensures { result ≡ length (settings_text r) }
 {
-    let min = r.min;
-    let max = r.max;
-    let step = r.step;
     fields::write::places_of(r.target)
         + 5
-        + optional_length(min, 8)
-        + optional_length(max, 8)
-        + optional_length(step, 8)
+        + optional_length(wide(r.min), 8)
+        + optional_length(wide(r.max), 8)
+        + optional_length(wide(r.step), 8)
 }
 
-fn controls_length(code: u32) -> usize
-    ensures { result ≡ length (controls_text code 0 0) }
+#[tactic(auto, using(crate::proofs::Texts::lengths))]
+fn controls_length(r: RawPoint) -> usize
+    ensures { result ≡ length (controls_text r.curve r.cp1 r.cp2) }
 {
-    if code == 5 { 18 } else { 4 }
+    if r.curve == BEZIER { 18 } else { 4 }
 }
 
+#[tactic(auto, using(crate::proofs::Texts::lengths))]
 fn point_length(r: RawPoint) -> usize
-    ensures { result ≡ length (point_text r) }
+    ensures text { result ≡ length (point_text r) }
+    ensures small { result ≤ 65 }
 {
-    let position = r.position;
-    29 + optional_length(position, 16) + controls_length(r.curve)
+    29 + optional_length(r.position, 16) + controls_length(r)
 }
 
-fn points_length(points: Points) -> usize
-    requires { every finite_point (list_of points) ≡ true }
-    ensures { result ≡ length (point_texts (list_of points)) }
+#[tactic(auto, using(crate::proofs::Texts::texts_sum))]
+fn points_length(points: &[AutomationPoint]) -> usize
+    requires { length points.now ≤ 256 }
+    ensures { result ≡ length (point_texts points.now) }
 {
-    let n = points.used();
-    let mut total: usize = 0;
-    let mut i: usize = 0;
-    while i < n {
-        let p = points.places[i];
-        total += point_length(raw_point(p));
-        i += 1;
-    }
-    total
+    points.iter().map(|p| point_length(raw_point(*p))).sum()
 }
 
-fn sheet_length(e: AutomationEnvelope) -> usize
-    requires { valid_envelope e ≡ true }
-    ensures { result ≡ length (sheet_text e) }
+fn sheet_length(e: &AutomationEnvelope) -> usize
+    requires { e.now.points.count ≤ 256 }
+    ensures { result ≡ length (sheet_text e.now) }
 {
-    let points = e.points;
     // the names above the settings have 33 bytes, those above the points 34
-    33 + settings_length(raw_settings(e)) + 34 + points_length(points)
+    33 + settings_length(raw_settings(e)) + 34 + points_length(e.points.as_slice())
 }
 
 // ---- the whole sheet
 
-// The points' lines.
-fn put_points(out: &mut [u8], start: usize, points: Points) -> usize
-    requires finite { every finite_point (list_of points) ≡ true }
-    requires room { start + length (point_texts (list_of points)) ≤ length out.old }
-    ensures { Put out.old start (point_texts (list_of points)) out.new result }
+// The points' lines. A plain `for`: each line starts where the last one ended.
+fn put_points(out: &mut [u8], start: usize, points: &[AutomationPoint]) -> usize
+    requires { start + length (point_texts points.now) ≤ length out.old }
+    ensures { Put out.old start (point_texts points.now) out.new result }
 {
-    let n = points.used();
     let mut at = start;
-    let mut i: usize = 0;
-    while i < n {
-        let p = points.places[i];
-        at = put_point(&mut *out, at, raw_point(p));
-        i += 1;
+    for p in points {
+        at = put_point(out, at, raw_point(*p));
     }
     at
 }
 
-fn put_sheet(out: &mut [u8], e: AutomationEnvelope) -> usize
-    requires sound { valid_envelope e ≡ true }
-    requires room { length (sheet_text e) ≤ length out.old }
-    ensures { Put out.old 0 (sheet_text e) out.new result }
+fn put_sheet(out: &mut [u8], e: &AutomationEnvelope) -> usize
+    requires { length (sheet_text e.now) ≤ length out.old }
+    ensures { Put out.old 0 (sheet_text e.now) out.new result }
 {
-    let points = e.points;
-    let a = fields::write::fit_text(&mut *out, 0, b"target enabled min max step hard\n");
-    let b = put_settings(&mut *out, a, raw_settings(e));
-    let c = fields::write::fit_text(&mut *out, b, b"time position value curve cp1 cp2\n");
-    put_points(&mut *out, c, points)
+    let a = fit_text(out, 0, b"target enabled min max step hard\n");
+    let b = put_settings(out, a, raw_settings(e));
+    let c = fit_text(out, b, b"time position value curve cp1 cp2\n");
+    put_points(out, c, e.points.as_slice())
 }
 
-// The envelope's sheet from the start of the lent bytes; the places after it stay.
-pub fn write_sheet(envelope: AutomationEnvelope, out: &mut [u8]) -> Written
-    ensures answer { told_written result ≡ (write_sheet envelope out.old).said }
-    ensures out_after { out.new ≡ (write_sheet envelope out.old).bytes }
+// The envelope's sheet from the start of the lent bytes; the places after it stay. Says how many bytes it has.
+#[tactic(auto, using(crate::proofs::Texts::few), unfolding(crate::specs::Text::write_sheet))]
+pub fn write_sheet(envelope: &AutomationEnvelope, out: &mut [u8]) -> Result<usize, Refusal>
+    ensures answer { said result ≡ (write_sheet envelope.now out.old).said }
+    ensures out_after { out.new ≡ (write_sheet envelope.now out.old).bytes }
 {
     if !envelope.is_valid() {
-        return Written::Refused(Refusal::NotValid);
+        return Err(Refusal::NotValid);
     }
     if out.len() < sheet_length(envelope) {
-        return Written::Refused(Refusal::NoRoom);
+        return Err(Refusal::NoRoom);
     }
-    let n = put_sheet(&mut *out, envelope);
-    Written::Bytes(n)
+    Ok(put_sheet(out, envelope))
 }

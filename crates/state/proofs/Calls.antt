@@ -1,75 +1,64 @@
--- The ways out of the calls. Assumes nothing.
-use Prim.Native.Nat.{ℕ, ◌≤◌, ◌<◌}
-use mathlib.Core.Path.{◌≡◌, sym, ap, ◌∙◌}
-use mathlib.Core.Bool.{Bool, true, false, ◌&&◌, and-false}
-use mathlib.Core.List.{List, ◌++◌}
-use mathlib.Core.Option.{some}
-use borrow.Author.Tests.{lt-ltb, le-ltb}
-use lib.Dec.{eqb}
-use lib.ListN.{length, take, drop}
-use Rattle.numbers.proofs.Tests.{and_both}
+-- Reading a state, by the tests in the code's order. Assumes nothing.
+use Rattle.std.proofs.Common.{◌≡◌, ℕ, ◌+◌, Bool, true, false, cond, ◌&&◌, List, [], ◌∷◌, ◌++◌, length, take, drop, eqb, refl, sym, ap, ◌∙◌, arith}
+use Rattle.std.specs.Cmp.Lexicographic.{pointwise}
+use Rattle.std.proofs.lemmas.List.{length-take-le, take-append-drop}
+use mathlib.Core.Bool.{and_assoc, and-false}
 use Rattle.points.specs.Refusal.{refuses, gives}
 use Rattle.points.specs.Points.{every_pair}
 use Rattle.points.proofs.Laws.{pair_length}
-use Rattle.points.specs.declared.refusal.Refusal.TheVariants.{StoredState}
-use Rattle.points.specs.declared.refusal.Answer.TheVariants.{Accepted}
-use Rattle.envelope.specs.Envelope.{new, valid_envelope}
-use Rattle.envelope.specs.Edit.{told_edit, refused_edit}
+use Rattle.envelope.specs.Envelope.{valid_envelope}
 use Rattle.envelope.specs.declared.AutomationEnvelope.{AutomationEnvelope}
-use Rattle.envelope.specs.declared.Edited.{Edited}
-use Rattle.state.specs.State.{pack_settings, pack_points, points_of, pack, state_of, if_test, unpacked, read_as, read_state, state_over, write_state}
-use Rattle.state.proofs.StateLaws.{length-places, length-points_of}
-use Rattle.state.proofs.Words.{same_state}
+use Rattle.state.specs.State.{pack_settings, pack_points, points_of, pack, state_of, if_test, unpacked, read_as, read_state}
+use Rattle.state.proofs.StateLaws.{length-settings, length-places, length-points_of}
 
--- ---- writing
+-- lists that begin with as many are compared part by part
+pair_append : {A : Type 0} (q : A → A → Bool) (a b c d : List A) → length a ≡ length c → every_pair q (a ++ b) (c ++ d) ≡ (every_pair q a c && every_pair q b d)
+unfolding every_pair
+pair_append q [] b [] d h = refl
+pair_append q [] b (y ∷ c) d h = absurd (omega arith)
+pair_append q (x ∷ a) b [] d h = absurd (omega arith)
+pair_append q (x ∷ a) b (y ∷ c) d h = ap (λ (t : Bool). q x y && t) (pair_append q a b c d (omega arith)) ∙ sym (and_assoc (q x y) (every_pair q a c) (every_pair q b d))
 
-module _ (e : AutomationEnvelope) (w : List ℕ) where
-  pub over_none : length w < 1028 → w ≡ state_over e w
-  unfolding state_over
-  over_none h = rw (lt-ltb (length w) 1028 h)
+pair_is : (l m : List ℕ) → every_pair eqb l m ≡ pointwise eqb l m
+unfolding every_pair
+pair_is [] [] = refl
+pair_is [] (n ∷ m) = refl
+pair_is (k ∷ l) [] = refl
+pair_is (k ∷ l) (n ∷ m) = ap (λ (t : Bool). eqb k n && t) (pair_is l m)
 
-  pub over_all : 1028 ≤ length w → pack e ++ drop 1028 w ≡ state_over e w
-  unfolding state_over
-  over_all h = rw (le-ltb (length w) 1028 h)
+-- whether the words are the settings' and then the places'
+same_state : (e : AutomationEnvelope) (w : List ℕ) → length w ≡ 1028
+    → every_pair eqb (pack e) w ≡ (pointwise eqb (pack_settings e) (take 4 w) && every_pair eqb (pack_points e.points.places) (drop 4 w))
+unfolding pack
+same_state e w len =
+    ap (every_pair eqb (pack_settings e ++ pack_points e.points.places)) (sym (take-append-drop 4 w))
+    ∙ pair_append eqb (pack_settings e) (pack_points e.points.places) (take 4 w) (drop 4 w) (length-settings e ∙ sym (length-take-le 4 w (omega arith)))
+    ∙ ap (λ (t : Bool). t && every_pair eqb (pack_points e.points.places) (drop 4 w)) (pair_is (pack_settings e) (take 4 w))
 
-  pub not_valid : valid_envelope e ≡ false → record { said = refuses 1; words = w } ≡ write_state e w
-  unfolding write_state
-  not_valid v = rw v
+answered : (b : Bool) (e : AutomationEnvelope) → read_as (if_test b e) ≡ cond b (gives e) (refuses 12)
+answered true e = refl
+answered false e = refl
 
-  pub no_room : valid_envelope e ≡ true → length w < 1028 → record { said = refuses 8; words = w } ≡ write_state e w
-  unfolding write_state
-  no_room v h = rw (v, lt-ltb (length w) 1028 h)
+-- of as many words as a state has, by what the reading of the places gives
+module _ (w : List ℕ) (len : length w ≡ 1028) where
+  abbrev settings_same : Bool
+  settings_same = pointwise eqb (pack_settings (state_of w)) (take 4 w)
 
-  pub room : valid_envelope e ≡ true → 1028 ≤ length w → record { said = gives tt; words = pack e ++ drop 1028 w } ≡ write_state e w
-  unfolding write_state
-  room v h = rw (v, le-ltb (length w) 1028 h)
+  abbrev places_same : Bool
+  places_same = every_pair eqb (pack_points (points_of 256 (drop 4 w))) (drop 4 w)
 
--- ---- reading
+  pub read_is : read_state w ≡ cond (valid_envelope (state_of w) && (settings_same && places_same)) (gives (state_of w)) (refuses 12)
+  unfolding read_state unpacked state_of
+  read_is =
+      ap (λ (b : Bool). read_as (if_test (valid_envelope (state_of w) && b) (state_of w))) (same_state (state_of w) w len)
+      ∙ answered _ (state_of w)
 
-module _ (w : List ℕ) where
-  length-read : length (pack (state_of w)) ≡ 1028
-  unfolding state_of
-  length-read = length-places (state_of w) (length-points_of 256 (drop 4 w))
+length-read : (w : List ℕ) → length (pack (state_of w)) ≡ 1028
+unfolding state_of
+length-read w = length-places (state_of w) (length-points_of 256 (drop 4 w))
 
-  -- the tests in the code's order
-  pub tested : (v s t : Bool) → length w ≡ 1028 → v ≡ valid_envelope (state_of w) → s ≡ every_pair eqb (pack_settings (state_of w)) (take 4 w)
-      → t ≡ every_pair eqb (pack_points (points_of 256 (drop 4 w))) (drop 4 w) → unpacked w ≡ if_test (v && (s && t)) (state_of w)
-  unfolding unpacked state_of
-  tested v s t len hv hs ht =
-      ap (λ (b : Bool). if_test (valid_envelope (state_of w) && b) (state_of w)) (same_state (state_of w) w len)
-      ∙ ap (λ (b : Bool). if_test b (state_of w)) (sym (and_both hv (and_both hs ht)))
-
-  pub other_length : (length w ≡ 1028 → ⊥) → unpacked w ≡ if_test false (state_of w)
-  unfolding unpacked
-  other_length h =
-      ap (λ (b : Bool). if_test b (state_of w))
-      (ap (λ (b : Bool). valid_envelope (state_of w) && b) (pair_length eqb (pack (state_of w)) w (λ e. h (sym e ∙ length-read))) ∙ and-false (valid_envelope (state_of w)))
-
-  pub accepted : (b : Bool) (e : AutomationEnvelope) → unpacked w ≡ if_test b (state_of w) → b ≡ true → e ≡ state_of w
-      → told_edit (record { answer = Accepted; envelope = e }) ≡ read_state w
-  unfolding read_state
-  accepted b e u h k = ap (λ (s : AutomationEnvelope). read_as (some s)) k ∙ ap read_as (sym (u ∙ ap (λ (t : Bool). if_test t (state_of w)) h))
-
-  pub refused : (b : Bool) (r : Edited) → unpacked w ≡ if_test b (state_of w) → b ≡ false → r ≡ refused_edit (new 0) StoredState → told_edit r ≡ read_state w
-  unfolding read_state
-  refused b r u h k = ap told_edit k ∙ ap read_as (sym (u ∙ ap (λ (t : Bool). if_test t (state_of w)) h))
+pub read_other : (w : List ℕ) → (length w ≡ 1028 → ⊥) → read_state w ≡ refuses 12
+unfolding read_state unpacked
+read_other w h =
+    ap (λ (b : Bool). read_as (if_test b (state_of w)))
+    (ap (λ (b : Bool). valid_envelope (state_of w) && b) (pair_length eqb (pack (state_of w)) w (λ e. h (sym e ∙ length-read w))) ∙ and-false (valid_envelope (state_of w)))

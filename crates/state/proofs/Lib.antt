@@ -1,6 +1,5 @@
 -- What was packed reads back, and what reads was packed so.
 pub mod StateLaws
--- What owning a value tells; the words as the loops write and read them; what each call says.
-pub mod Good
+-- The words as the loops write and read them; what reading says.
 pub mod Words
 pub mod Calls

@@ -1,9 +1,10 @@
 -- Laws of the stored state: what was packed reads back, and what reads was packed so. Assumes nothing.
+use Rattle.std.proofs.lemmas.Option.{none-some, same_Some}
+use Rattle.std.specs.Prelude.{None, Option, Some, is_some}
 use Prim.Native.Nat.{ℕ, zero, suc, ◌+◌, ◌*◌, ◌/◌, ◌%◌, ◌<◌, ◌≤◌}
 use mathlib.Core.Path.{◌≡◌, refl, sym, ap, ◌∙◌}
 use mathlib.Core.Bool.{Bool, true, false, ◌&&◌, false≢true}
 use mathlib.Core.List.{List, [], ◌∷◌, ◌++◌}
-use mathlib.Core.Option.{some, some-injective, none-ne-some}
 use native.Mathlib.Nat.{mod-eq_of_lt}
 use native.Mathlib.Omega.{arith}
 use borrow.Author.Tests.{lt-ltb, eqb-true, eq-eqb, ne_eqb}
@@ -19,17 +20,13 @@ use Rattle.curve.specs.declared.CurveType.TheVariants.{Linear}
 use Rattle.points.specs.Points.{every, every_pair}
 use Rattle.points.proofs.Laws.{every_append, every_get_d, every_drop}
 use Rattle.points.specs.declared.AutomationPoint.{AutomationPoint}
-use Rattle.points.specs.declared.SamplePosition.{SamplePosition}
-use Rattle.points.specs.declared.SamplePosition.TheVariants as position
 use Rattle.limits.specs.Limits.{has_limit}
-use Rattle.limits.specs.declared.Limit.{Limit}
-use Rattle.limits.specs.declared.Limit.TheVariants as limit
 use Rattle.limits.specs.declared.Limits.{Limits}
 use Rattle.envelope.specs.Envelope.{limits_of, valid_envelope}
 use Rattle.envelope.specs.Typed.{typed_curve, typed_position, typed_point, typed_limit, typed}
 use Rattle.envelope.proofs.TypedParts.{point_parts, cp1_fits, cp2_fits, parted, target_lt, places_length, places_typed}
 use Rattle.envelope.specs.declared.AutomationEnvelope.{AutomationEnvelope}
-use Rattle.state.specs.State.{halves, high, low, flag, bit, limit_bits, limit_of, has_position, position_word, position_of, flags, pack_settings, pack_point, point_of, pack_points, points_of}
+use Rattle.state.specs.State.{halves, high, low, flag, bit, limit_bits, limit_of, position_word, position_of, flags, pack_settings, pack_point, point_of, pack_points, points_of}
 use Rattle.state.specs.State.{state_words}
 use Rattle.state.specs.State.{pack, state_of, if_test, unpacked}
 use Rattle.state.specs.Promised.{ReadsBack, OneToOne}
@@ -52,17 +49,17 @@ flag_back false e = rw e
 
 -- ---- a number or none
 
-limit_back : (l : Limit) {b : Bool} {n : ℕ} → typed_limit l ≡ true → b ≡ has_limit l → n ≡ limit_bits l → limit_of b n ≡ l
-limit_back limit.None t e k = rw e
-limit_back (limit.Number x) t e k = rw (e, k) (ap limit.Number (of_bits-to_bits binary32 x (yes t)))
+limit_back : (l : Option Float) {b : Bool} {n : ℕ} → typed_limit l ≡ true → b ≡ has_limit l → n ≡ limit_bits l → limit_of b n ≡ l
+limit_back None t e k = rw e
+limit_back (Some x) t e k = rw (e, k) (ap Some (of_bits-to_bits binary32 x (yes t)))
 
-limit_lt : (l : Limit) → typed_limit l ≡ true → limit_bits l < 0x1_0000_0000
-limit_lt limit.None t = omega arith
-limit_lt (limit.Number x) t = to_bits-lt binary32 x (yes t)
+limit_lt : (l : Option Float) → typed_limit l ≡ true → limit_bits l < 0x1_0000_0000
+limit_lt None t = omega arith
+limit_lt (Some x) t = to_bits-lt binary32 x (yes t)
 
-position_back : (p : SamplePosition) {b : Bool} → b ≡ has_position p → position_of b (position_word p) ≡ p
-position_back position.None e = rw e
-position_back (position.At n) e = rw e
+position_back : (p : Option ℕ) {b : Bool} → b ≡ is_some p → position_of b (position_word p) ≡ p
+position_back None e = rw e
+position_back (Some n) e = rw e
 
 -- ---- a point
 
@@ -74,15 +71,15 @@ point_back p l t =
     let cp2 = cp2_fits p t in
     let value-lt : to_bits binary32 p.value < 0x1_0000_0000 = to_bits-lt binary32 p.value (yes typings.2) in
     let cp1-lt : to_bits binary32 (controls p.curve).cp1 < 0x1_0000_0000 = to_bits-lt binary32 (controls p.curve).cp1 (yes cp1) in
-    let has = flag (has_position p.sample_position) in
+    let has = flag (is_some p.sample_position) in
     let tag = code p.curve * 2 + has in
     let tag_is : high (halves tag (to_bits binary32 p.value)) ≡ tag = high_halves tag value-lt in
-    let has-lt : has < 2 = flag_lt (has_position p.sample_position) in
+    let has-lt : has < 2 = flag_lt (is_some p.sample_position) in
     let odd : tag / 1 % 2 ≡ has = omega arith in
     let half : tag / 2 ≡ code p.curve = omega arith in
     λ i. record {
       time = of_bits-to_bits binary64 p.time (yes typings.0) i;
-      sample_position = position_back p.sample_position (flag_back (has_position p.sample_position) (ap (λ (n : ℕ). n / 1 % 2) tag_is ∙ odd)) i;
+      sample_position = position_back p.sample_position (flag_back (is_some p.sample_position) (ap (λ (n : ℕ). n / 1 % 2) tag_is ∙ odd)) i;
       value = (ap (of_bits binary32) (low_halves tag value-lt) ∙ of_bits-to_bits binary32 p.value (yes typings.2)) i;
       curve = (
           (λ j. curve_of ((ap (λ (n : ℕ). n / 2) tag_is ∙ half) j)
@@ -96,7 +93,7 @@ unfolding pack_point
 after_point p l = refl
 
 points_back : (l : List AutomationPoint) → every typed_point l ≡ true → points_of (length l) (pack_points l) ≡ l
-unfolding points_of pack_points every
+unfolding points_of pack_points
 points_back [] t = refl
 points_back (p ∷ l) t =
     λ i. point_back p (pack_points l) (and_left (typed_point p) (every typed_point l) t) i
@@ -190,30 +187,30 @@ word n = ltb n 0x1_0000_0000_0000_0000
 halves_word : (h l : ℕ) → h < 0x1_0000_0000 → l < 0x1_0000_0000 → word (halves h l) ≡ true
 halves_word h l p q = lt-ltb (halves h l) 0x1_0000_0000_0000_0000 (digits_lt p q)
 
-position-word : (p : SamplePosition) → typed_position p ≡ true → word (position_word p) ≡ true
-position-word position.None t = refl
-position-word (position.At n) t = t
+position-word : (p : Option ℕ) → typed_position p ≡ true → word (position_word p) ≡ true
+position-word None t = refl
+position-word (Some n) t = t
 
 point_words : (p : AutomationPoint) → typed_point p ≡ true → every word (pack_point p) ≡ true
-unfolding pack_point every
+unfolding pack_point
 point_words p t =
     let typings = point_parts p t in
-    let has = flag (has_position p.sample_position) in
-    let tag-lt : code p.curve * 2 + has < 0x1_0000_0000 = omega (arith, code_lt p.curve, flag_lt (has_position p.sample_position)) in
+    let has = flag (is_some p.sample_position) in
+    let tag-lt : code p.curve * 2 + has < 0x1_0000_0000 = omega (arith, code_lt p.curve, flag_lt (is_some p.sample_position)) in
     and_both (lt-ltb (to_bits binary64 p.time) 0x1_0000_0000_0000_0000 (to_bits-lt binary64 p.time (yes typings.0)))
     (and_both (position-word p.sample_position typings.1)
     (and_both (halves_word _ _ (to_bits-lt binary32 (controls p.curve).cp2 (yes (cp2_fits p t))) (to_bits-lt binary32 (controls p.curve).cp1 (yes (cp1_fits p t))))
     (and_both (halves_word _ _ tag-lt (to_bits-lt binary32 p.value (yes typings.2))) refl)))
 
 points_words : (l : List AutomationPoint) → every typed_point l ≡ true → every word (pack_points l) ≡ true
-unfolding pack_points every
+unfolding pack_points
 points_words [] t = refl
 points_words (p ∷ l) t =
     every_append word (pack_point p) (pack_points l)
     ∙ and_both (point_words p (and_left (typed_point p) (every typed_point l) t)) (points_words l (and_right (typed_point p) (every typed_point l) t))
 
 settings_words : (e : AutomationEnvelope) → typed e ≡ true → word e.points.count ≡ true → every word (pack_settings e) ≡ true
-unfolding pack_settings every
+unfolding pack_settings
 settings_words e t n =
     let s = parted e t in
     let flags-lt : flags e.enabled (limits_of e) < 0x1_0000_0000 = omega
@@ -245,17 +242,17 @@ same_is [] (n ∷ m) h = absurd (false≢true h)
 same_is (k ∷ l) [] h = absurd (false≢true h)
 same_is (k ∷ l) (n ∷ m) h = λ i. eqb-true k n (and_left (eqb k n) (every_pair eqb l m) h) i ∷ same_is l m (and_right (eqb k n) (every_pair eqb l m) h) i
 
-pub unpacked_pack : (e : AutomationEnvelope) → typed e ≡ true → valid_envelope e ≡ true → unpacked (pack e) ≡ some e
+pub unpacked_pack : (e : AutomationEnvelope) → typed e ≡ true → valid_envelope e ≡ true → unpacked (pack e) ≡ Some e
 unfolding unpacked
 unpacked_pack e t v =
     ap (λ (s : AutomationEnvelope). if_test (valid_envelope s && every_pair eqb (pack s) (pack e)) s) (state_of_pack e t)
     ∙ ap (λ (b : Bool). if_test b e) (and_both v (same_self (pack e)))
 
-passed : {A : Type 0} (b : Bool) (x y : A) → if_test b x ≡ some y → (b ≡ true) × (x ≡ y)
-passed true x y h = (refl, some-injective x y h)
-passed false x y h = absurd (none-ne-some y h)
+passed : {A : Type 0} (b : Bool) (x y : A) → if_test b x ≡ Some y → (b ≡ true) × (x ≡ y)
+passed true x y h = (refl, same_Some x y h)
+passed false x y h = absurd (none-some y h)
 
-module _ (w : List ℕ) (e : AutomationEnvelope) (h : unpacked w ≡ some e) where
+module _ (w : List ℕ) (e : AutomationEnvelope) (h : unpacked w ≡ Some e) where
   test : ((valid_envelope (state_of w) && every_pair eqb (pack (state_of w)) w) ≡ true) × (state_of w ≡ e)
   unfolding unpacked
   test = passed (valid_envelope (state_of w) && every_pair eqb (pack (state_of w)) w) (state_of w) e h
@@ -275,7 +272,7 @@ read_fits : (f : Format) (n : ℕ) → fits f (of_bits f n) ≡ true
 read_fits f n = is_true (fits f (of_bits f n)) (of_bits-fits f n)
 
 curve_typed : (n : ℕ) (cp1 cp2 : Float) → fits binary32 cp1 ≡ true → fits binary32 cp2 ≡ true → typed_curve (curve_of n cp1 cp2) ≡ true
-unfolding curve_of fits controls of_bits every
+unfolding curve_of fits controls of_bits
 curve_typed n cp1 cp2 p q = every_get_d typed_curve (curves cp1 cp2) n Linear plain all
   where
     plain : typed_curve Linear ≡ true
@@ -300,7 +297,7 @@ point_typed w h =
     (curve_typed (high (get_or w 3 0) / 2) _ _ (read_fits binary32 (low (get_or w 2 0))) (read_fits binary32 (high (get_or w 2 0))))
 
 points_typed : (n : ℕ) (w : List ℕ) → every word w ≡ true → every typed_point (points_of n w) ≡ true
-unfolding points_of every
+unfolding points_of
 points_typed zero w h = refl
 points_typed (suc n) w h = and_both (point_typed w h) (points_typed n (drop 4 w) (every_drop word 4 w h))
 
@@ -320,7 +317,7 @@ state_of_typed w h =
     (limit_typed (bit 8 (high (get_or w 0 0))) (low (get_or w 3 0))))
     (and_both (eq-eqb (length (points_of 256 (drop 4 w))) 256 (length-points_of 256 (drop 4 w))) (points_typed 256 (drop 4 w) (every_drop word 4 w h)))
 
-pub unpacked_typed : (w : List ℕ) (e : AutomationEnvelope) → every word w ≡ true → unpacked w ≡ some e → typed e ≡ true
+pub unpacked_typed : (w : List ℕ) (e : AutomationEnvelope) → every word w ≡ true → unpacked w ≡ Some e → typed e ≡ true
 unpacked_typed w e h u = ap typed (sym (unpacked_is w e u)) ∙ state_of_typed w h
 
 -- ---- states one after the other

@@ -1,227 +1,205 @@
 -- The words of a state, as the loops write and read them. Assumes nothing.
-use Prim.Native.Nat.{ℕ, zero, suc, ◌+◌, ◌*◌, ◌≤◌, ◌<◌}
-use mathlib.Core.Path.{◌≡◌, refl, sym, ap, ◌∙◌}
-use mathlib.Core.Bool.{Bool, true, ◌&&◌, and-true, and_assoc}
-use mathlib.Core.List.{List, [], ◌∷◌, ◌++◌, append_assoc, append-nil}
-use native.Mathlib.Nat.{add-zero, not-suc-le-zero, le_of_suc-le-suc}
-use native.Mathlib.Numerals.{add-one}
-use native.Mathlib.Omega.{arith}
-use lib.Dec.{eqb}
-use lib.Ieee.{of_bits, to_bits}
-use borrow.Author.Tests.{eqb-true}
-use Rattle.numbers.proofs.Tests.{and_both, and_left, and_right}
-use Rattle.fields.proofs.Stores.{sets_append}
+use Rattle.std.proofs.Common.{◌≡◌, ℕ, suc, ◌+◌, ◌*◌, ◌-◌, ◌≤◌, ◌<◌, Bool, true, false, cond, ◌&&◌, List, [], ◌∷◌, ◌++◌, length, get_or, take, drop, set, replicate, eqb, Err, Ok, Result, refl, sym, ap, ◌∙◌, arith}
+use Rattle.std.specs.Cmp.Lexicographic.{pointwise}
+use Rattle.std.proofs.lemmas.List.{append-nil, append_assoc, length-append, length-set, length-take-le, take_at, drop_at, drop-drop, take_all, take_more, take_more_set, flat_map_more, get_or-set_other, get_or-replicate, length-replicate, nil_from_length}
+use Rattle.std.proofs.lemmas.Slice.Eq.{bytes_eq-Decides}
+use Rattle.std.specs.Float.{binary64}
+use Rattle.std.specs.Float.Ieee.{of_bits, to_bits}
 use Rattle.curve.specs.Curve.{code, controls, curve_of}
-use lib.ListN.{length, get_or, take, drop, set, length-drop, take-append-drop}
-use lib.Seq.{sets, sets-eq, length-sets, take-suc, take-suc-set, take_all, take-add, drop-cons, drop-drop, get_or-drop, length-take-le}
+use borrow.Rule.Slice.PartMut.{put_mid}
 use Rattle.points.specs.Points.{every_pair}
-use Rattle.points.specs.Point.{unused}
+use Rattle.points.specs.Point.{unused, any_point}
 use Rattle.points.specs.declared.AutomationPoint.{AutomationPoint}
+use Rattle.points.specs.declared.refusal.Refusal.{Refusal}
+use Rattle.points.specs.declared.refusal.Refusal.TheVariants.{StoredState}
 use Rattle.envelope.specs.declared.AutomationEnvelope.{AutomationEnvelope}
-use Rattle.state.specs.State.{pack_settings, pack_point, point_of, pack_points, points_of, pack}
-use Rattle.state.proofs.StateLaws.{length-settings, length-points, length-places, length-points_of}
-
--- ---- runs of stores
-
--- four stores from a place on
-pub four_stores : (l : List ℕ) (at a b c d : ℕ) → set (set (set (set l at a) (at + 1) b) (at + 2) c) (at + 3) d ≡ sets l at (a ∷ b ∷ c ∷ d ∷ [])
-four_stores l at a b c d =
-    let one : at + 1 ≡ suc at = omega arith in
-    let two : at + 2 ≡ suc (suc at) = omega arith in
-    let three : at + 3 ≡ suc (suc (suc at)) = omega arith in
-    λ i. set (set (set (set l at a) (one i) b) (two i) c) (three i) d
-
--- ---- four words from a place on
-
-pub point_at_lem : (w : List ℕ) (at : ℕ) → point_of (get_or w at 0 ∷ get_or w (at + 1) 0 ∷ get_or w (at + 2) 0 ∷ get_or w (at + 3) 0 ∷ []) ≡ point_of (drop at w)
-unfolding point_of
-point_at_lem w at =
-    let first : get_or w at 0 ≡ get_or (drop at w) 0 0 = ap (λ (k : ℕ). get_or w k 0) (sym (add-zero at)) ∙ sym (get_or-drop at w 0 0) in
-    λ i. point_of (first i ∷ sym (get_or-drop at w 1 0) i ∷ sym (get_or-drop at w 2 0) i ∷ sym (get_or-drop at w 3 0) i ∷ [])
-
-take-four : (w : List ℕ) (at : ℕ) → at + 4 ≤ length w → take 4 (drop at w) ≡ get_or w at 0 ∷ get_or w (at + 1) 0 ∷ get_or w (at + 2) 0 ∷ get_or w (at + 3) 0 ∷ []
-take-four w at h =
-    let one : suc at ≡ at + 1 = omega arith in
-    let two : suc (at + 1) ≡ at + 2 = omega arith in
-    let three : suc (at + 2) ≡ at + 3 = omega arith in
-    let d₀ : drop at w ≡ get_or w at 0 ∷ drop (at + 1) w = drop-cons w at 0 (omega arith) ∙ ap (λ (k : ℕ). get_or w at 0 ∷ drop k w) one in
-    let d₁ : drop (at + 1) w ≡ get_or w (at + 1) 0 ∷ drop (at + 2) w = drop-cons w (at + 1) 0 (omega arith) ∙ ap (λ (k : ℕ). get_or w (at + 1) 0 ∷ drop k w) two in
-    let d₂ : drop (at + 2) w ≡ get_or w (at + 2) 0 ∷ drop (at + 3) w = drop-cons w (at + 2) 0 (omega arith) ∙ ap (λ (k : ℕ). get_or w (at + 2) 0 ∷ drop k w) three in
-    let d₃ : drop (at + 3) w ≡ get_or w (at + 3) 0 ∷ drop (suc (at + 3)) w = drop-cons w (at + 3) 0 (omega arith) in
-    ap (take 4) d₀
-    ∙ ap (λ (l : List ℕ). get_or w at 0 ∷ take 3 l) d₁
-    ∙ ap (λ (l : List ℕ). get_or w at 0 ∷ get_or w (at + 1) 0 ∷ take 2 l) d₂
-    ∙ ap (λ (l : List ℕ). get_or w at 0 ∷ get_or w (at + 1) 0 ∷ get_or w (at + 2) 0 ∷ take 1 l) d₃
-
--- a comparison with each of them
-pub same_four : (w : List ℕ) (at a b c d : ℕ) → at + 4 ≤ length w
-    → (eqb a (get_or w at 0) && (eqb b (get_or w (at + 1) 0) && (eqb c (get_or w (at + 2) 0) && eqb d (get_or w (at + 3) 0)))) ≡ every_pair eqb (a ∷ b ∷ c ∷ d ∷ []) (take 4 (drop at w))
-unfolding every_pair
-same_four w at a b c d h =
-    ap (λ (t : Bool). eqb a (get_or w at 0) && (eqb b (get_or w (at + 1) 0) && (eqb c (get_or w (at + 2) 0) && t))) (sym (and-true (eqb d (get_or w (at + 3) 0))))
-    ∙ ap (every_pair eqb (a ∷ b ∷ c ∷ d ∷ [])) (sym (take-four w at h))
-
--- words that are all 0 are an unused place's
-module _ (w : List ℕ) (at : ℕ)
-    (zeros : (eqb (get_or w at 0) 0 && (eqb (get_or w (at + 1) 0) 0 && (eqb (get_or w (at + 2) 0) 0 && eqb (get_or w (at + 3) 0) 0))) ≡ true) where
-  first : get_or w at 0 ≡ 0
-  first = eqb-true _ _ (and_left (eqb (get_or w at 0) 0) _ zeros)
-
-  second : get_or w (at + 1) 0 ≡ 0
-  second = eqb-true _ _ (and_left (eqb (get_or w (at + 1) 0) 0) _ (and_right (eqb (get_or w at 0) 0) _ zeros))
-
-  third : get_or w (at + 2) 0 ≡ 0
-  third = eqb-true _ _ (and_left (eqb (get_or w (at + 2) 0) 0) _ (and_right (eqb (get_or w (at + 1) 0) 0) _ (and_right (eqb (get_or w at 0) 0) _ zeros)))
-
-  fourth : get_or w (at + 3) 0 ≡ 0
-  fourth = eqb-true _ _ (and_right (eqb (get_or w (at + 2) 0) 0) _ (and_right (eqb (get_or w (at + 1) 0) 0) _ (and_right (eqb (get_or w at 0) 0) _ zeros)))
-
-  unused_point : unused ≡ point_of (0 ∷ 0 ∷ 0 ∷ 0 ∷ [])
-  unfolding point_of curve_of of_bits
-  unused_point = refl
-
-  unused_words : 0 ∷ 0 ∷ 0 ∷ 0 ∷ [] ≡ pack_point unused
-  unfolding pack_point code controls of_bits to_bits
-  unused_words = refl
-
-  pub unused_read : unused ≡ point_of (drop at w)
-  unused_read = unused_point ∙ (λ i. point_of (sym first i ∷ sym second i ∷ sym third i ∷ sym fourth i ∷ [])) ∙ point_at_lem w at
-
-  pub unused_same : at + 4 ≤ length w → true ≡ every_pair eqb (pack_point unused) (take 4 (drop at w))
-  unused_same h =
-      (λ i. eqb 0 (sym first i) && (eqb 0 (sym second i) && (eqb 0 (sym third i) && eqb 0 (sym fourth i))))
-      ∙ same_four w at 0 0 0 0 h
-      ∙ ap (λ (l : List ℕ). every_pair eqb l (take 4 (drop at w))) unused_words
+use Rattle.state.specs.State.{position_word, controls_word, value_word, pack_settings, pack_point, point_of, pack_points, points_of, pack}
+use Rattle.state.proofs.StateLaws.{length-settings, length-points}
 
 -- ---- the loop that writes the places
 
-pack_more : (l : List AutomationPoint) (i : ℕ) (d : AutomationPoint) → i < length l → pack_points (take (suc i) l) ≡ pack_points (take i l) ++ pack_point (get_or l i d)
-unfolding pack_points
-pack_more [] i d h = absurd (not-suc-le-zero h)
-pack_more (p ∷ l) zero d h = append-nil (pack_point p)
-pack_more (p ∷ l) (suc i) d h = ap (λ (m : List ℕ). pack_point p ++ m) (pack_more l i d (le_of_suc-le-suc h)) ∙ sym (append_assoc (pack_point p) _ _)
+module _ (e : AutomationEnvelope) (w : List ℕ) where
+  -- the words of the first i points
+  abbrev packed : ℕ → List ℕ
+  packed i = pack_settings e ++ pack_points (take i e.points.places)
 
--- v is w after a run of stores
-pub record Stored (w : List ℕ) (at : ℕ) (l v : List ℕ) : Type 0 where
-  pub run : v ≡ sets w at l
+  -- they stand in front, and the words after them as they were
+  pub record Put (i : ℕ) (words : List ℕ) : Type 0 where
+    pub run : words ≡ packed i ++ drop (4 + 4 * i) w
 
-pub stored_length : {w l v : List ℕ} {at : ℕ} → Stored w at l v → length v ≡ length w
-stored_length {w} {l} {v} {at} s = ap length s.run ∙ length-sets w at l
+  pub put_none : {ys : List ℕ} → ys ≡ pack_settings e → Put 0 (ys ++ drop 4 w)
+  unfolding pack_points
+  put_none is = record { run = ap (λ (l : List ℕ). l ++ drop 4 w) (is ∙ sym (append-nil (pack_settings e))) }
 
-pub put_none : {w : List ℕ} (l : List AutomationPoint) → Stored w 4 (pack_points (take 0 l)) w
-unfolding pack_points
-put_none l = record { run = refl }
+  length-packed : (i : ℕ) → i ≤ length e.points.places → length (packed i) ≡ 4 + 4 * i
+  length-packed i h =
+      omega (arith, length-append (pack_settings e) (pack_points (take i e.points.places)), length-settings e, length-points (take i e.points.places), length-take-le i e.points.places h)
 
-pub put_turn : {w x y : List ℕ} (l : List AutomationPoint) (i : ℕ) (d : AutomationPoint) → i < length l
-    → Stored w 4 (pack_points (take i l)) x → y ≡ sets x (4 + 4 * i) (pack_point (get_or l i d)) → Stored w 4 (pack_points (take (i + 1) l)) y
-put_turn {w} l i d h inv is =
-    let n : 4 + length (pack_points (take i l)) ≡ 4 + 4 * i = omega (arith, length-points (take i l), length-take-le i l (omega arith)) in
-    record {
-      run = is
-          ∙ ap (λ (v : List ℕ). sets v (4 + 4 * i) (pack_point (get_or l i d))) inv.run
-          ∙ ap (λ (k : ℕ). sets (sets w 4 (pack_points (take i l))) k (pack_point (get_or l i d))) (sym n)
-          ∙ sym (sets_append w 4 (pack_points (take i l)) (pack_point (get_or l i d)))
-          ∙ ap (sets w 4) (sym (pack_more l i d h) ∙ ap (λ (k : ℕ). pack_points (take k l)) (sym (add-one i)));
-    }
+  packed_more : (i : ℕ) → i < length e.points.places → packed i ++ pack_point (get_or e.points.places i any_point) ≡ packed (i + 1)
+  unfolding pack_points
+  packed_more i h =
+      flat_map_more pack_point (pack_settings e) (take i e.points.places) (get_or e.points.places i any_point)
+      ∙ ap (λ (l : List AutomationPoint). pack_settings e ++ pack_points l) (sym (take_more e.points.places i any_point h))
 
-pub put_all : {v x : List ℕ} (e : AutomationEnvelope) (w : List ℕ) (i : ℕ) → length e.points.places ≡ 256 → 1028 ≤ length w → i ≡ 256
-    → v ≡ sets w 0 (pack_settings e) → Stored v 4 (pack_points (take i e.points.places)) x → x ≡ pack e ++ drop 1028 w
-unfolding pack
-put_all {v} e w i len room k first inv =
-    let places = e.points.places in
-    let all : take i places ≡ places = take_all i places (omega arith) in
-    let four : 4 ≡ 0 + length (pack_settings e) = omega (arith, length-settings e) in
-    let n : 0 + length (pack_settings e ++ pack_points places) ≡ 1028 = omega (arith, length-places e len) in
-    inv.run
-    ∙ ap (λ (l : List AutomationPoint). sets v 4 (pack_points l)) all
-    ∙ ap (λ (u : List ℕ). sets u 4 (pack_points places)) first
-    ∙ ap (λ (m : ℕ). sets (sets w 0 (pack_settings e)) m (pack_points places)) four
-    ∙ sym (sets_append w 0 (pack_settings e) (pack_points places))
-    ∙ sets-eq (pack_settings e ++ pack_points places) w 0 (omega arith)
-    ∙ ap (λ (m : ℕ). (pack_settings e ++ pack_points places) ++ drop m w) n
+  pub put_more : {words ys : List ℕ} (i k : ℕ) → Put i words → i < length e.points.places → k ≡ 4 → ys ≡ pack_point (get_or e.points.places i any_point)
+      → Put (i + 1) (put_mid (4 + 4 * i) k words ys)
+  put_more {words} {ys} i k put h four is =
+      let rest : 4 + 4 * i + k ≡ 4 + 4 * (i + 1) = omega arith in
+      let at = length-packed i (omega arith) in
+      record {
+        run = ap (λ (l : List ℕ). put_mid (4 + 4 * i) k l ys) put.run
+            ∙ (λ j. take_at (packed i) (drop (4 + 4 * i) w) (4 + 4 * i) at j ++ (is j ++ drop k (drop_at (packed i) (drop (4 + 4 * i) w) (4 + 4 * i) at j)))
+            ∙ ap (λ (l : List ℕ). packed i ++ (pack_point (get_or e.points.places i any_point) ++ l)) (drop-drop k (4 + 4 * i) w ∙ ap (λ (n : ℕ). drop n w) rest)
+            ∙ sym (append_assoc (packed i) (pack_point (get_or e.points.places i any_point)) (drop (4 + 4 * (i + 1)) w))
+            ∙ ap (λ (l : List ℕ). l ++ drop (4 + 4 * (i + 1)) w) (packed_more i h);
+      }
+
+  pub put_all : {words : List ℕ} (i : ℕ) → Put i words → i ≡ 256 → length e.points.places ≡ 256 → words ≡ pack e ++ drop 1028 w
+  unfolding pack
+  put_all i put is len =
+      put.run ∙ ap (λ (n : ℕ). packed n ++ drop (4 + 4 * n) w) is
+      ∙ ap (λ (l : List AutomationPoint). (pack_settings e ++ pack_points l) ++ drop 1028 w) (take_all 256 e.points.places (omega arith))
 
 -- ---- the loop that reads the places
 
-points_more : (n : ℕ) (w : List ℕ) → points_of (suc n) w ≡ points_of n w ++ (point_of (drop (4 * n) w) ∷ [])
+-- a chunk of four words, by its words
+four : (P : List ℕ → Type 0) → ((a b c d : ℕ) → P (a ∷ b ∷ c ∷ d ∷ [])) → (w : List ℕ) → length w ≡ 4 → P w
+four P f [] h = absurd (omega arith)
+four P f (a ∷ []) h = absurd (omega arith)
+four P f (a ∷ b ∷ []) h = absurd (omega arith)
+four P f (a ∷ b ∷ c ∷ []) h = absurd (omega arith)
+four P f (a ∷ b ∷ c ∷ d ∷ []) h = f a b c d
+four P f (a ∷ b ∷ c ∷ d ∷ e ∷ w) h = absurd (omega arith)
+
+-- whether n points pack to the very words that they are read from
+abbrev same : ℕ → List ℕ → Bool
+same n w = every_pair eqb (pack_points (points_of n w)) w
+
+and_four : (a b c d e : Bool) → (a && (b && (c && (d && e)))) ≡ ((a && (b && (c && (d && true)))) && e)
+and_four false b c d e = refl
+and_four true false c d e = refl
+and_four true true false d e = refl
+and_four true true true false e = refl
+and_four true true true true e = refl
+
+-- an unused place's four words are all 0
+unused_point : point_of (0 ∷ 0 ∷ 0 ∷ 0 ∷ []) ≡ unused
+unfolding point_of curve_of of_bits
+unused_point = refl
+
+unused_words : pointwise eqb (pack_point unused) (0 ∷ 0 ∷ 0 ∷ 0 ∷ []) ≡ true
+unfolding pack_point code controls of_bits to_bits
+unused_words = refl
+
+point_more : (p : AutomationPoint) (a b c d : ℕ) (m r : List ℕ)
+    → every_pair eqb (pack_point p ++ m) (a ∷ b ∷ c ∷ d ∷ r) ≡ (pointwise eqb (pack_point p) (a ∷ b ∷ c ∷ d ∷ []) && every_pair eqb m r)
+unfolding pack_point every_pair
+point_more p a b c d m r =
+    and_four (eqb (to_bits binary64 p.time) a) (eqb (position_word p.sample_position) b) (eqb (controls_word p.curve) c) (eqb (value_word p) d) (every_pair eqb m r)
+
+module _ (n : ℕ) (r : List ℕ) where
+  points_more : (w : List ℕ) → length w ≡ 4 → points_of (suc n) (w ++ r) ≡ point_of w ∷ points_of n r
+  unfolding points_of point_of
+  points_more = four (λ w. points_of (suc n) (w ++ r) ≡ point_of w ∷ points_of n r) (λ a b c d. refl)
+
+  same_more : (w : List ℕ) → length w ≡ 4 → same (suc n) (w ++ r) ≡ (pointwise eqb (pack_point (point_of w)) w && same n r)
+  unfolding points_of point_of pack_points
+  same_more =
+      four (λ w. same (suc n) (w ++ r) ≡ (pointwise eqb (pack_point (point_of w)) w && same n r))
+      (λ a b c d. point_more (point_of (a ∷ b ∷ c ∷ d ∷ [])) a b c d (pack_points (points_of n r)) r)
+
+-- the places, if they pack to the same words
+abbrev pub places_if : Bool → List AutomationPoint → Result (List AutomationPoint) Refusal
+places_if b l = cond b (Ok l) (Err StoredState)
+
+points_none : [] ≡ points_of 0 []
 unfolding points_of
-points_more zero w = refl
-points_more (suc n) w =
-    let e : 4 + 4 * n ≡ 4 * suc n = omega arith in
-    ap (λ (l : List AutomationPoint). point_of w ∷ l)
-    (points_more n (drop 4 w) ∙ ap (λ (x : List ℕ). points_of n (drop 4 w) ++ (point_of x ∷ [])) (drop-drop (4 * n) 4 w ∙ ap (λ (k : ℕ). drop k w) e))
+points_none = refl
 
-packed_more : (l : List AutomationPoint) (p : AutomationPoint) → pack_points (l ++ (p ∷ [])) ≡ pack_points l ++ pack_point p
-unfolding pack_points
-packed_more [] p = append-nil (pack_point p)
-packed_more (q ∷ l) p = ap (λ (m : List ℕ). pack_point q ++ m) (packed_more l p) ∙ sym (append_assoc (pack_point q) (pack_points l) (pack_point p))
-
--- the comparison of one list after another
-pair_append : (q : ℕ → ℕ → Bool) (a b c d : List ℕ) → length a ≡ length c → every_pair q (a ++ b) (c ++ d) ≡ (every_pair q a c && every_pair q b d)
-unfolding every_pair
-pair_append q [] b [] d h = refl
-pair_append q [] b (y ∷ c) d h = absurd (omega arith)
-pair_append q (x ∷ a) b [] d h = absurd (omega arith)
-pair_append q (x ∷ a) b (y ∷ c) d h = ap (λ (t : Bool). q x y && t) (pair_append q a b c d (omega arith)) ∙ sym (and_assoc (q x y) (every_pair q a c) (every_pair q b d))
-
-pub read_none : (w : List ℕ) → [] ≡ points_of 0 (drop 4 w)
-unfolding points_of
-read_none w = refl
-
-pub same_none : (w : List ℕ) → true ≡ every_pair eqb (pack_points (points_of 0 (drop 4 w))) (take (4 * 0) (drop 4 w))
+same_none : same 0 [] ≡ true
 unfolding points_of pack_points every_pair
-same_none w = refl
+same_none = refl
 
-module _ (w : List ℕ) (i : ℕ) (p : AutomationPoint) (is : p ≡ point_of (drop (4 + 4 * i) w)) where
-  point_is : p ≡ point_of (drop (4 * i) (drop 4 w))
-  point_is = is ∙ ap point_of (sym (drop-drop (4 * i) 4 w))
+-- what the turns have read: the first i places, while rest is what they have left of the words
+pub record Reading (words : List ℕ) (i : ℕ) (rest : List ℕ) (places : List AutomationPoint) : Type 0 where
+  pub left : length rest + 4 * i ≡ 1024
+  pub read : take i places ++ points_of (256 - i) rest ≡ points_of 256 words
+  pub packs : same 256 words ≡ same (256 - i) rest
+  pub clear : (k : ℕ) → i ≤ k → k < 256 → get_or places k any_point ≡ unused
+  pub count : length places ≡ 256
 
-  more : points_of (i + 1) (drop 4 w) ≡ points_of i (drop 4 w) ++ (p ∷ [])
-  more = ap (λ (k : ℕ). points_of k (drop 4 w)) (add-one i) ∙ points_more i (drop 4 w) ∙ ap (λ (q : AutomationPoint). points_of i (drop 4 w) ++ (q ∷ [])) (sym point_is)
+pub turns_begin : {words rest : List ℕ} {i : ℕ} {p : AutomationPoint} → length words ≡ 1024 → rest ≡ words → i ≡ 0 → p ≡ unused → Reading words i rest (replicate 256 p)
+turns_begin {words} {rest} {i} {p} len r z u =
+    record {
+      left = omega (arith, ap length r);
+      read = (λ j. take (z j) (replicate 256 p) ++ points_of (256 - z j) (r j));
+      packs = (λ j. same (256 - sym z j) (sym r j));
+      clear = λ k a b. get_or-replicate 256 k p any_point b ∙ u;
+      count = length-replicate 256 p;
+    }
 
-  pub read_turn : (places : List AutomationPoint) → i < length places → take i places ≡ points_of i (drop 4 w) → take (i + 1) (set places i p) ≡ points_of (i + 1) (drop 4 w)
-  read_turn places h inv =
-      ap (λ (k : ℕ). take k (set places i p)) (add-one i)
-      ∙ take-suc-set places i p h
-      ∙ ap (λ (l : List AutomationPoint). l ++ (p ∷ [])) inv
-      ∙ sym more
+module _ {words rest : List ℕ} {i : ℕ} {places : List AutomationPoint} (s : Reading words i rest places) where
+  -- one more chunk
+  module _ (w r : List ℕ) (is : rest ≡ w ++ r) (len : length w ≡ 4) where
+    lefter : length r + 4 * (i + 1) ≡ 1024
+    lefter = omega (arith, s.left, ap length is, length-append w r)
 
-  -- where it stands already
-  pub stands_turn : (places : List AutomationPoint) (d : AutomationPoint) → i < length places → get_or places i d ≡ p → take i places ≡ points_of i (drop 4 w)
-      → take (i + 1) places ≡ points_of (i + 1) (drop 4 w)
-  stands_turn places d h e inv =
-      ap (λ (k : ℕ). take k places) (add-one i)
-      ∙ take-suc places i d h
-      ∙ (λ j. inv j ++ (e j ∷ []))
-      ∙ sym more
+    fewer : 256 - i ≡ suc (256 - (i + 1))
+    fewer = omega (arith, lefter)
 
-  pub same_turn : (same more_same : Bool) → 4 + 4 * i + 4 ≤ length w
-      → same ≡ every_pair eqb (pack_points (points_of i (drop 4 w))) (take (4 * i) (drop 4 w))
-      → more_same ≡ every_pair eqb (pack_point p) (take 4 (drop (4 + 4 * i) w))
-      → (same && more_same) ≡ every_pair eqb (pack_points (points_of (i + 1) (drop 4 w))) (take (4 * (i + 1)) (drop 4 w))
-  same_turn same more_same h inv this =
-      let n : 4 * (i + 1) ≡ 4 * i + 4 = omega arith in
-      let len : length (pack_points (points_of i (drop 4 w))) ≡ length (take (4 * i) (drop 4 w)) =
-      length-points (points_of i (drop 4 w)) ∙ ap (λ (k : ℕ). 4 * k) (length-points_of i (drop 4 w))
-      ∙ sym (length-take-le (4 * i) (drop 4 w) (simp length-drop (omega arith))) in
-      and_both inv (this ∙ ap (λ (l : List ℕ). every_pair eqb (pack_point p) (take 4 l)) (sym (drop-drop (4 * i) 4 w)))
-      ∙ sym (pair_append eqb (pack_points (points_of i (drop 4 w))) (pack_point p) (take (4 * i) (drop 4 w)) (take 4 (drop (4 * i) (drop 4 w))) len)
-      ∙ (λ j. every_pair eqb (sym (ap pack_points more ∙ packed_more (points_of i (drop 4 w)) p) j) (sym (ap (λ (k : ℕ). take k (drop 4 w)) n ∙ take-add (4 * i) 4 (drop 4 w)) j))
+    packs_more : same 256 words ≡ (pointwise eqb (pack_point (point_of w)) w && same (256 - (i + 1)) r)
+    packs_more = s.packs ∙ (λ j. same (fewer j) (is j)) ∙ same_more (256 - (i + 1)) r w len
 
-pub read_all : (w : List ℕ) (places : List AutomationPoint) (i : ℕ) → i ≡ 256 → length places ≡ 256 → take i places ≡ points_of i (drop 4 w) → places ≡ points_of 256 (drop 4 w)
-read_all w places i k len inv = sym (take_all i places (omega arith)) ∙ inv ∙ ap (λ (n : ℕ). points_of n (drop 4 w)) k
+    read_more : (q : List AutomationPoint) → q ≡ take i places ++ (point_of w ∷ []) → q ++ points_of (256 - (i + 1)) r ≡ points_of 256 words
+    read_more q h =
+        ap (λ (l : List AutomationPoint). l ++ points_of (256 - (i + 1)) r) h
+        ∙ append_assoc (take i places) (point_of w ∷ []) (points_of (256 - (i + 1)) r)
+        ∙ ap (λ (l : List AutomationPoint). take i places ++ l) (sym (points_more (256 - (i + 1)) r w len) ∙ (λ j. points_of (sym fewer j) (sym is j)))
+        ∙ s.read
 
-pub same_all : (w : List ℕ) (same : Bool) (i : ℕ) → i ≡ 256 → length w ≡ 1028 → same ≡ every_pair eqb (pack_points (points_of i (drop 4 w))) (take (4 * i) (drop 4 w))
-    → same ≡ every_pair eqb (pack_points (points_of 256 (drop 4 w))) (drop 4 w)
-same_all w same i k len inv =
-    inv
-    ∙ ap (every_pair eqb (pack_points (points_of i (drop 4 w)))) (take_all (4 * i) (drop 4 w) (simp length-drop (omega arith)))
-    ∙ ap (λ (n : ℕ). every_pair eqb (pack_points (points_of n (drop 4 w))) (drop 4 w)) k
+    -- it packs to the same words, and is put in its place
+    pub turn_put : (p : AutomationPoint) → p ≡ point_of w → pointwise eqb (pack_point (point_of w)) w ≡ true → Reading words (i + 1) r (set places i p)
+    turn_put p h t =
+        record {
+          left = lefter;
+          read = read_more (take (i + 1) (set places i p)) (take_more_set places i p (omega (arith, lefter, s.count)) ∙ ap (λ (q : AutomationPoint). take i places ++ (q ∷ [])) h);
+          packs = packs_more ∙ ap (λ (b : Bool). b && same (256 - (i + 1)) r) t;
+          clear = λ k a b. get_or-set_other places i k p any_point (λ e. omega (arith, e)) ∙ s.clear k (omega arith) b;
+          count = length-set places i p ∙ s.count;
+        }
 
--- ---- the whole state: the settings' words, then the places'
+    -- its words are all 0, and an unused place's point stands there already
+    pub turn_clear : pointwise eqb w (0 ∷ 0 ∷ 0 ∷ 0 ∷ []) ≡ true → Reading words (i + 1) r places
+    turn_clear t =
+        record {
+          left = lefter;
+          read = read_more (take (i + 1) places)
+              (take_more places i any_point (omega (arith, lefter, s.count))
+              ∙ ap (λ (q : AutomationPoint). take i places ++ (q ∷ [])) (s.clear i (omega arith) (omega (arith, lefter)) ∙ sym read_zeros));
+          packs = packs_more ∙ ap (λ (b : Bool). b && same (256 - (i + 1)) r) packs_zeros;
+          clear = λ k a b. s.clear k (omega arith) b;
+          count = s.count;
+        }
+      where
+        zeros : w ≡ 0 ∷ 0 ∷ 0 ∷ 0 ∷ []
+        zeros = (bytes_eq-Decides w (0 ∷ 0 ∷ 0 ∷ 0 ∷ [])).0 t
 
-pub same_state : (e : AutomationEnvelope) (w : List ℕ) → length w ≡ 1028
-    → every_pair eqb (pack e) w ≡ (every_pair eqb (pack_settings e) (take 4 w) && every_pair eqb (pack_points e.points.places) (drop 4 w))
-unfolding pack
-same_state e w len =
-    ap (every_pair eqb (pack_settings e ++ pack_points e.points.places)) (sym (take-append-drop 4 w))
-    ∙ pair_append eqb (pack_settings e) (pack_points e.points.places) (take 4 w) (drop 4 w) (length-settings e ∙ sym (length-take-le 4 w (omega arith)))
+        read_zeros : point_of w ≡ unused
+        read_zeros = ap point_of zeros ∙ unused_point
+
+        packs_zeros : pointwise eqb (pack_point (point_of w)) w ≡ true
+        packs_zeros = (λ j. pointwise eqb (pack_point (read_zeros j)) (zeros j)) ∙ unused_words
+
+    -- it packs to other words
+    pub turn_other : pointwise eqb (pack_point (point_of w)) w ≡ false → Err StoredState ≡ places_if (same 256 words) (points_of 256 words)
+    turn_other t = ap (λ (b : Bool). places_if b (points_of 256 words)) (sym (packs_more ∙ ap (λ (b : Bool). b && same (256 - (i + 1)) r) t))
+
+  -- no chunk is left
+  pub turns_end : length rest < 4 → Ok places ≡ places_if (same 256 words) (points_of 256 words)
+  turns_end h =
+      let last : i ≡ 256 = omega (arith, s.left) in
+      let none : 256 - i ≡ 0 = omega arith in
+      let nil : rest ≡ [] = nil_from_length rest (omega (arith, s.left)) in
+      let all : same 256 words ≡ true = s.packs ∙ (λ j. same (none j) (nil j)) ∙ same_none in
+      ap Ok (sym (append-nil places) ∙ (λ j. sym (take_all i places (omega (arith, s.count))) j ++ (points_none ∙ (λ k. points_of (sym none k) (sym nil k))) j) ∙ s.read)
+      ∙ ap (λ (b : Bool). places_if b (points_of 256 words)) (sym all)

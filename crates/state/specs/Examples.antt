@@ -1,19 +1,17 @@
 -- The example of docs/STATE.md.
-use Rattle.std.specs.Prelude.{◌≡◌, refl, true, false, [], ◌∷◌, drop, replicate}
+use Rattle.std.specs.Prelude.{◌≡◌, refl, true, false, [], ◌∷◌, drop, replicate, None, Some}
 use Rattle.std.specs.Float.{binary32, binary64}
 use Rattle.std.specs.Float.Ieee.{of_bits, to_bits}
 use Rattle.curve.specs.Curve.{code, controls}
 use Rattle.curve.specs.declared.CurveType.TheVariants.{QuadIn}
 use Rattle.points.specs.Points.{holding}
 use Rattle.points.specs.declared.AutomationPoint.{AutomationPoint}
-use Rattle.points.specs.declared.SamplePosition.TheVariants as position
-use Rattle.limits.specs.declared.Limit.TheVariants as limit
 use Rattle.envelope.specs.declared.AutomationEnvelope.{AutomationEnvelope}
 use Rattle.state.specs.State.{pack_settings, pack_point, pack_points, pack}
 
 -- time 0.25, position 0, value 1.0
 abbrev point : AutomationPoint
-point = record { time = of_bits binary64 0x3FD0_0000_0000_0000; sample_position = position.At 0; value = of_bits binary32 0x3F80_0000; curve = QuadIn }
+point = record { time = of_bits binary64 0x3FD0_0000_0000_0000; sample_position = Some 0; value = of_bits binary32 0x3F80_0000; curve = QuadIn }
 
 -- minimum -1.0, step 0.5
 abbrev envelope : AutomationEnvelope
@@ -22,9 +20,9 @@ envelope =
       target = 7;
       points = holding (point ∷ []);
       enabled = true;
-      min_value = limit.Number (of_bits binary32 0xBF80_0000);
-      max_value = limit.None;
-      step_size = limit.Number (of_bits binary32 0x3F00_0000);
+      min_value = Some (of_bits binary32 0xBF80_0000);
+      max_value = None;
+      step_size = Some (of_bits binary32 0x3F00_0000);
       hard = false;
     }
 

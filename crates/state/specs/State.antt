@@ -1,6 +1,6 @@
 -- 01, the session: "A stored state is 1,028 words (4 of settings, 4 a point), packed one-to-one as docs/ records." docs/STATE.md has the layout.
-use Rattle.std.specs.Prelude.{ℕ, zero, suc, ◌+◌, ◌*◌, ◌/◌, ◌%◌, Bool, true, false, cond, ◌&&◌, List, [], ◌∷◌, ◌++◌, ltb, eqb, length, get_or, drop}
-use Rattle.std.proofs.Math.Option.{Option, none, some}
+use Rattle.std.specs.Prelude.{ℕ, zero, suc, ◌+◌, ◌*◌, ◌/◌, ◌%◌, Bool, cond, ◌&&◌, List, [], ◌∷◌, ◌++◌, ltb, eqb, length, get_or, drop, Float, None, Option, Some, is_some, unwrap_or}
+use Rattle.std.specs.List.{flat_map}
 use Rattle.std.specs.Float.{binary32, binary64}
 use Rattle.std.specs.Float.Ieee.{of_bits, to_bits}
 use Rattle.curve.specs.Curve.{code, controls, curve_of}
@@ -8,14 +8,9 @@ use Rattle.curve.specs.declared.CurveType.{CurveType}
 use Rattle.points.specs.Refusal.{Said, refuses, gives}
 use Rattle.points.specs.Points.{every_pair}
 use Rattle.points.specs.declared.AutomationPoint.{AutomationPoint}
-use Rattle.points.specs.declared.SamplePosition.{SamplePosition}
-use Rattle.points.specs.declared.SamplePosition.TheVariants as position
 use Rattle.limits.specs.Limits.{has_limit}
-use Rattle.limits.specs.declared.Limit.{Limit}
-use Rattle.limits.specs.declared.Limit.TheVariants as limit
 use Rattle.limits.specs.declared.Limits.{Limits}
-use Rattle.envelope.specs.Envelope.{new, limits_of, valid_envelope}
-use Rattle.envelope.specs.Edit.{EditTold, declined}
+use Rattle.envelope.specs.Envelope.{limits_of, valid_envelope}
 use Rattle.envelope.specs.declared.AutomationEnvelope.{AutomationEnvelope}
 
 -- "1,028 words": 4 + 4 * 256
@@ -49,27 +44,21 @@ bit d n = eqb (n / d % 2) 1
 -- ---- a number or none: a flag, and the number's bits or 0
 
 -- its bits, or 0
-abbrev pub limit_bits : Limit → ℕ
-limit_bits limit.None = 0
-limit_bits (limit.Number x) = to_bits binary32 x
+abbrev pub limit_bits : Option Float → ℕ
+limit_bits None = 0
+limit_bits (Some x) = to_bits binary32 x
 
 -- back from the flag and the bits
-abbrev pub limit_of : Bool → ℕ → Limit
-limit_of has bits = cond has (limit.Number (of_bits binary32 bits)) limit.None
-
--- whether there is a position
-abbrev pub has_position : SamplePosition → Bool
-has_position position.None = false
-has_position (position.At n) = true
+abbrev pub limit_of : Bool → ℕ → Option Float
+limit_of has bits = cond has (Some (of_bits binary32 bits)) None
 
 -- the position, or 0
-abbrev pub position_word : SamplePosition → ℕ
-position_word position.None = 0
-position_word (position.At n) = n
+abbrev pub position_word : Option ℕ → ℕ
+position_word p = unwrap_or p 0
 
 -- back from the flag and the word
-abbrev pub position_of : Bool → ℕ → SamplePosition
-position_of has n = cond has (position.At n) position.None
+abbrev pub position_of : Bool → ℕ → Option ℕ
+position_of has n = cond has (Some n) None
 
 -- ---- "4 of settings": the flags and the target; the count; the maximum and the minimum; the step
 
@@ -94,7 +83,7 @@ controls_word c = halves (to_bits binary32 (controls c).cp2) (to_bits binary32 (
 
 -- the curve's number and the position's flag above the value
 abbrev pub value_word : AutomationPoint → ℕ
-value_word p = halves (code p.curve * 2 + flag (has_position p.sample_position)) (to_bits binary32 p.value)
+value_word p = halves (code p.curve * 2 + flag (is_some p.sample_position)) (to_bits binary32 p.value)
 
 -- the four words of a point
 unfoldable pub pack_point : AutomationPoint → List ℕ
@@ -111,8 +100,7 @@ point_of w = record {
 
 -- point after point
 unfoldable pub pack_points : List AutomationPoint → List ℕ
-pack_points [] = []
-pack_points (p ∷ l) = pack_point p ++ pack_points l
+pack_points = flat_map pack_point
 
 -- n points, four words each
 unfoldable pub points_of : ℕ → List ℕ → List AutomationPoint
@@ -139,7 +127,7 @@ state_of w = record {
 
 -- x where the test holds
 abbrev pub if_test : {A : Type 0} → Bool → A → Option A
-if_test b x = cond b (some x) none
+if_test b x = cond b (Some x) None
 
 -- the valid envelope that packs to these very words, if there is one
 unfoldable pub unpacked : List ℕ → Option AutomationEnvelope
@@ -147,13 +135,13 @@ unpacked w = if_test (valid_envelope (state_of w) && every_pair eqb (pack (state
 
 -- ---- the calls
 
--- the answer of reading: 12, "stored state doesn't pack a valid envelope", with an empty envelope beside it
-abbrev pub read_as : Option AutomationEnvelope → EditTold
-read_as none = declined (new 0) 12
-read_as (some e) = record { said = gives tt; envelope = e }
+-- the answer of reading: 12, "stored state doesn't pack a valid envelope"
+abbrev pub read_as : Option AutomationEnvelope → Said AutomationEnvelope
+read_as None = refuses 12
+read_as (Some e) = gives e
 
 -- reading a state from lent words
-unfoldable pub read_state : List ℕ → EditTold
+unfoldable pub read_state : List ℕ → Said AutomationEnvelope
 read_state w = read_as (unpacked w)
 
 -- a state from the start of lent words, if they have room for it: the words after it stay

@@ -1,59 +1,21 @@
 // Packing an envelope into lent words.
-ghost use Rattle.std.specs.Prelude.{◌≡◌, ◌++◌, ◌+◌, ◌<◌, ◌≤◌, length, drop};
-ghost use Rattle.std.proofs.lemmas.List.Edits.{sets};
+ghost use Rattle.std.specs.Prelude.{◌≡◌, ◌++◌, ◌+◌, ◌≤◌, length, drop};
 ghost use Rattle.points.specs.Refusal.{said};
-ghost use Rattle.limits.specs.Limits.{has_limit};
-ghost use Rattle.state.specs.State.{halves, flag, limit_bits, has_position, position_word, flags, bounds_word, controls_word, value_word, pack_settings, pack_point, pack, state_over, write_state};
+ghost use Rattle.state.specs.State.{halves, limit_bits, flags, bounds_word, controls_word, value_word, pack_settings, pack_point, pack, state_over, write_state};
 
+use crate::{POINT, SETTINGS, STATE_WORDS};
 use curve::CurveType;
 use envelope::AutomationEnvelope;
-use limits::{Limit, Limits};
-use points::refusal::{Answer, Refusal};
-use points::{AutomationPoint, SamplePosition};
+use limits::Limits;
+use points::AutomationPoint;
+use points::refusal::Refusal;
+use std::num::{f32_to_bits_with_nan, f64_to_bits_with_nan};
 
-fn flag(b: bool) -> u32
-    ensures value { result ≡ flag b }
-    ensures bit { result < 2 }
-{
-    if b { 1 } else { 0 }
-}
-
-fn limit_flag(l: Limit) -> u32
-    ensures value { result ≡ flag (has_limit l) }
-    ensures bit { result < 2 }
-{
-    match l {
-        Limit::None => 0,
-        Limit::Number(_) => 1,
-    }
-}
-
-pub(crate) fn limit_bits(l: Limit) -> u32
+// A limit's bits, or 0. A closure: the check does not admit this function of the library by its name.
+fn limit_bits(l: Option<f32>) -> u32
     ensures { result ≡ limit_bits l }
 {
-    match l {
-        Limit::None => 0,
-        Limit::Number(x) => std::num::f32_to_bits_with_nan(x),
-    }
-}
-
-fn position_flag(p: SamplePosition) -> u32
-    ensures value { result ≡ flag (has_position p) }
-    ensures bit { result < 2 }
-{
-    match p {
-        SamplePosition::None => 0,
-        SamplePosition::At(_) => 1,
-    }
-}
-
-pub(crate) fn position_word(p: SamplePosition) -> u64
-    ensures { result ≡ position_word p }
-{
-    match p {
-        SamplePosition::None => 0,
-        SamplePosition::At(n) => n,
-    }
+    l.map_or(0, |x| f32_to_bits_with_nan(x))
 }
 
 // ---- the words
@@ -62,127 +24,114 @@ pub(crate) fn position_word(p: SamplePosition) -> u64
 fn halves(high: u32, low: u32) -> u64
     ensures { result ≡ halves high low }
 {
-    high as u64 * 0x1_0000_0000 + low as u64
+    u64::from(high) * 0x1_0000_0000 + u64::from(low)
 }
 
 // The flags, and the target.
-pub(crate) fn flags_word(target: u32, enabled: bool, limits: Limits) -> u64
+fn flags_word(target: u32, enabled: bool, limits: Limits) -> u64
     ensures { result ≡ halves (flags enabled limits) target }
 {
-    let min = limits.min_value;
-    let max = limits.max_value;
-    let step = limits.step_size;
     halves(
-        flag(enabled)
-            + 2 * limit_flag(min)
-            + 4 * limit_flag(max)
-            + 8 * limit_flag(step)
-            + 16 * flag(limits.hard),
+        u32::from(enabled)
+            + 2 * u32::from(limits.min_value.is_some())
+            + 4 * u32::from(limits.max_value.is_some())
+            + 8 * u32::from(limits.step_size.is_some())
+            + 16 * u32::from(limits.hard),
         target,
     )
 }
 
 // The maximum and the minimum.
-pub(crate) fn bounds_word(limits: Limits) -> u64
+fn bounds_word(limits: Limits) -> u64
     ensures { result ≡ bounds_word limits }
 {
-    let min = limits.min_value;
-    let max = limits.max_value;
-    halves(limit_bits(max), limit_bits(min))
+    halves(limit_bits(limits.max_value), limit_bits(limits.min_value))
 }
 
-// The control numbers of a Bezier curve.
-pub(crate) fn controls_word(curve: CurveType) -> u64
+// The control numbers of a curve.
+fn controls_word(curve: CurveType) -> u64
     ensures { result ≡ controls_word curve }
 {
-    if let CurveType::Bezier(cp1, cp2) = curve {
-        halves(
-            std::num::f32_to_bits_with_nan(cp2),
-            std::num::f32_to_bits_with_nan(cp1),
-        )
-    } else {
-        0
-    }
+    let controls = curve.controls();
+    halves(
+        f32_to_bits_with_nan(controls.cp2),
+        f32_to_bits_with_nan(controls.cp1),
+    )
 }
 
 // The curve's number, whether there is a position, and the value.
-pub(crate) fn value_word(p: AutomationPoint) -> u64
+#[tactic(auto, using(curve::proofs::Laws::code_lt))]
+fn value_word(p: AutomationPoint) -> u64
     ensures { result ≡ value_word p }
 {
-    let curve = p.curve;
-    let position = p.sample_position;
     halves(
-        curve.code() * 2 + position_flag(position),
-        std::num::f32_to_bits_with_nan(p.value),
+        p.curve.code() * 2 + u32::from(p.sample_position.is_some()),
+        f32_to_bits_with_nan(p.value),
     )
+}
+
+#[tactic(auto, unfolding(crate::specs::State::pack_settings))]
+pub(crate) fn settings_words(envelope: &AutomationEnvelope) -> [u64; 4]
+    ensures { result ≡ pack_settings envelope.now }
+{
+    let limits = envelope.limits();
+    [
+        flags_word(envelope.target, envelope.enabled, limits),
+        envelope.points.count as u64,
+        bounds_word(limits),
+        u64::from(limit_bits(envelope.step_size)),
+    ]
+}
+
+#[tactic(auto, unfolding(crate::specs::State::pack_point))]
+pub(crate) fn point_words(p: AutomationPoint) -> [u64; 4]
+    ensures { result ≡ pack_point p }
+{
+    [
+        f64_to_bits_with_nan(p.time),
+        p.sample_position.unwrap_or(0),
+        controls_word(p.curve),
+        value_word(p),
+    ]
 }
 
 // ---- the stores
 
-fn put_settings(envelope: AutomationEnvelope, words: &mut [u64])
-    requires { 4 ≤ length words.old }
-    ensures { words.new ≡ sets words.old 0 (pack_settings envelope) }
-{
-    let limits = envelope.limits();
-    let step = envelope.step_size;
-    let points = envelope.points;
-    words[0] = flags_word(envelope.target, envelope.enabled, limits);
-    words[1] = points.count as u64;
-    words[2] = bounds_word(limits);
-    words[3] = limit_bits(step) as u64;
-}
-
-// A point, from the place `at`.
-fn put_point(p: AutomationPoint, words: &mut [u64], at: usize)
-    requires { at + 4 ≤ length words.old }
-    ensures { words.new ≡ sets words.old at (pack_point p) }
-{
-    let position = p.sample_position;
-    let curve = p.curve;
-    words[at] = std::num::f64_to_bits_with_nan(p.time);
-    words[at + 1] = position_word(position);
-    words[at + 2] = controls_word(curve);
-    words[at + 3] = value_word(p);
-}
-
-fn put_state(envelope: AutomationEnvelope, words: &mut [u64])
+fn put_state(envelope: &AutomationEnvelope, words: &mut [u64])
     requires { 1028 ≤ length words.old }
-    ensures { words.new ≡ pack envelope ++ drop 1028 words.old }
+    ensures { words.new ≡ pack envelope.now ++ drop 1028 words.old }
 {
-    put_settings(envelope, &mut *words);
-    let points = envelope.points;
-    let mut i: usize = 0;
-    while i < 256 {
-        let p = points.places[i];
-        put_point(p, &mut *words, 4 + 4 * i);
-        i += 1;
+    words[..SETTINGS].copy_from_slice(&settings_words(envelope));
+    // by place: of what is written through `chunks_exact_mut` a proof knows the length alone; and over a slice, which tells it that there are 256
+    for (i, p) in envelope.points.places[..].iter().enumerate() {
+        let at = SETTINGS + POINT * i;
+        words[at..at + POINT].copy_from_slice(&point_words(*p));
     }
 }
 
 // The envelope's state from the start of the lent words, if they have room; else they stay as they are. The crates above use it where they have tested
 // the envelope: every envelope packs.
-pub fn fit_state(envelope: AutomationEnvelope, words: &mut [u64])
-    ensures { words.new ≡ state_over envelope words.old }
+#[tactic(auto, unfolding(crate::specs::State::state_over))]
+pub fn fit_state(envelope: &AutomationEnvelope, words: &mut [u64])
+    ensures { words.new ≡ state_over envelope.now words.old }
 {
-    let short = 1028 > words.len();
-    if short {
-        return;
+    if words.len() >= STATE_WORDS {
+        put_state(envelope, words);
     }
-    put_state(envelope, &mut *words);
 }
 
 // The same with the refusals of a call: 1, then 8.
-pub fn write_state(envelope: AutomationEnvelope, words: &mut [u64]) -> Answer
-    ensures answer { said result ≡ (write_state envelope words.old).said }
-    ensures words_after { words.new ≡ (write_state envelope words.old).words }
+#[tactic(auto, unfolding(crate::specs::State::write_state))]
+pub fn write_state(envelope: &AutomationEnvelope, words: &mut [u64]) -> Result<(), Refusal>
+    ensures answer { said result ≡ (write_state envelope.now words.old).said }
+    ensures words_after { words.new ≡ (write_state envelope.now words.old).words }
 {
-    let valid = envelope.is_valid();
-    if !valid {
-        return Answer::Refused(Refusal::NotValid);
+    if !envelope.is_valid() {
+        return Err(Refusal::NotValid);
     }
-    if words.len() < 1028 {
-        return Answer::Refused(Refusal::NoRoom);
+    if words.len() < STATE_WORDS {
+        return Err(Refusal::NoRoom);
     }
-    put_state(envelope, &mut *words);
-    Answer::Accepted
+    put_state(envelope, words);
+    Ok(())
 }

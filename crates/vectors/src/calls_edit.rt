@@ -1,33 +1,24 @@
 // The calls of the edits: `NAME E ARGUMENTS => ok E`, and with a second envelope
-// `NAME E E ARGUMENTS => ok E`. `at` is the place after the name.
-use envelope::AutomationEnvelope;
-use listing::text::{Name, Outcome, Place};
-use listing_edits::{EditField, JoinField, edit_at, join_at};
-use listing_envelopes::answers::answers_edited;
-use listing_envelopes::records::envelope_at;
+// `NAME E E ARGUMENTS => ok E`. `line` is what comes after the name.
+use listing::text::{Line, Outcome};
+use listing_edits::{edit, join};
+use listing_envelopes::records::Envelope;
+use listing_points::answers::Answer;
 
-pub(crate) fn run(s: &[u8], at: usize) -> Outcome {
-    let given = envelope_at(s, at);
-    let envelope = given.envelope;
-    let end = given.end;
-    let Place::At(second) = end else {
-        return Outcome::Unknown;
-    };
-    let EditField::Is(edit, next) = edit_at(s, Name { from: 0, to: at }, second) else {
-        return join(s, at, envelope, second);
-    };
-    answers_edited(s, at, next, envelope.edit(edit))
+// What an edit comes to; none where the line has no envelope and the arguments of an edit of that name.
+fn edited(name: &[u8], mut line: Line<'_>) -> Option<Outcome> {
+    let Envelope(e) = line.field()?;
+    let edit = edit(name, &mut line)?;
+    Some(Outcome::of(line.says(&Answer(e.edit(edit).map(Envelope)))))
 }
 
-fn join(s: &[u8], at: usize, envelope: AutomationEnvelope, second: usize) -> Outcome {
-    let given = envelope_at(s, second);
-    let other = given.envelope;
-    let end = given.end;
-    let Place::At(third) = end else {
-        return Outcome::Unknown;
-    };
-    let JoinField::Is(join, next) = join_at(s, Name { from: 0, to: at }, third) else {
-        return Outcome::Unknown;
-    };
-    answers_edited(s, at, next, envelope.join(join, other))
+// The same of one with a second envelope.
+fn joined(name: &[u8], mut line: Line<'_>) -> Option<Outcome> {
+    let (Envelope(e), Envelope(other)) = line.field()?;
+    let join = join(name, &mut line)?;
+    Some(Outcome::of(line.says(&Answer(e.join(join, &other).map(Envelope)))))
+}
+
+pub(crate) fn run(name: &[u8], line: Line<'_>) -> Option<Outcome> {
+    edited(name, line).or_else(|| joined(name, line))
 }

@@ -1,48 +1,36 @@
--- `analysis::get_range` meets its contract. Assumes nothing.
-use mathlib.Core.Path.{sym, ap, ◌∙◌}
-use mathlib.Core.List.{◌++◌, foldl, foldl-append}
-use Rattle.numbers.proofs.Tests.{and_right, and_both}
-use Rattle.points.specs.Points.{list_of, valid_points}
+-- `analysis::get_range` meets its contract: valid (`tested`), with finite ends, the bounds are those of the lookups and of the points inside (`range_with`).
+use Prim.Native.Nat.{ℕ}
+use mathlib.Core.Path.{◌≡◌, ap, ap₂, ◌∙◌}
+use mathlib.Core.Bool.{true, ◌&&◌}
+use mathlib.Core.List.{List}
+use Rattle.std.proofs.Common.{rules, of_calls}
+use Rattle.std.specs.List.{fold}
+use Rattle.numbers.specs.Bounds.{finite}
 use Rattle.points.specs.Refusal.{gives}
-use Rattle.limits.specs.Limits.{finite_limits}
-use Rattle.analysis.specs.Analysis.{raw_inside, get_range}
-use Rattle.analysis.specs.Ranges.{no_values, widen, as_range, values_at_times}
+use Rattle.points.specs.declared.AutomationPoint.{AutomationPoint}
+use Rattle.lookup.specs.Lookup.{value_at}
+use Rattle.lookup.specs.Valid.{valid}
+use Rattle.lookup.proofs.ValidLaws.{tested}
+use Rattle.points.specs.Points.{list_of}
+use Rattle.lookup.specs.Runs.{run}
+use Rattle.analysis.specs.Analysis.{given_values, raw_inside, get_range, range_time}
+use Rattle.analysis.specs.Ranges.{widen, as_range}
 use Rattle.analysis.specs.declared.Bounds.{Bounds}
-use Rattle.analysis.proofs.Ranges.{range_is}
+use Rattle.analysis.proofs.Ranges.{range_with}
 use Rattle.analysis.proofs.get_range.Goals as goal
 
-pub times_range-requires : goal.times_range-requires
-times_range-requires c =
-    let args = c.args in
-    let is-valid = c.is_valid in
-    let if1 = c.if-is_valid in
-    and_right (finite_limits args.limits) (valid_points args.points) (sym is-valid.ensures ∙ if1.true)
-
-pub returns-then-is_finite : goal.returns-then-is_finite
+pub returns : goal.returns
 unfolding get_range
-returns-then-is_finite c =
-    let is-valid = c.is_valid in
-    let if1 = c.if-is_valid in
-    let is_finite = c.is_finite in
-    let is-finite2 = c.is_finite-then-is_valid in
-    let if2 = c.if-is_finite in
-    let times-range = c.times_range in
+returns c =
     let a = c.args in
-    let values = values_at_times a.points a.enabled a.limits a.start_time a.end_time 101 in
-    let raw = raw_inside a.start_time a.end_time (list_of a.points) in
-    rw (sym is-valid.ensures ∙ if1.true, sym (and_both is_finite.ensures.value is-finite2.ensures.value) ∙ if2.true)
+    let h = a.heard.now in
+    let v = tested (valid h.points h.limits) h c.in_ok-valid.valid _ c.valid.result c.valid.ensures c.in_ok-valid.was in
+    let e = v.1 in
+    let ends : (finite a.start_time && finite a.end_time) ≡ true = search rules in
+    let f = λ (i : ℕ). value_at h.points h.enabled h.limits (range_time a.start_time a.end_time i) in
+    let lookups = c.of-lookups.ensures f (λ k y s p. search (rules, of_calls)) in
+    rw (v.0, ends)
+    (ap gives
     (c.range.ensures
-    ∙ ap (λ (b : Bounds). gives (as_range b)) (c.inside.ensures ∙ ap (λ (b : Bounds). foldl widen b raw) times-range.ensures ∙ sym (foldl-append widen no_values values raw))
-    ∙ ap gives (range_is (values ++ raw)))
-
-pub returns-else-is_finite : goal.returns-else-is_finite
-unfolding get_range
-returns-else-is_finite c =
-    let is-valid = c.is_valid in
-    let if1 = c.if-is_valid in
-    let is_finite = c.is_finite in
-    rw (sym is-valid.ensures ∙ if1.true, sym (and_both is_finite.ensures.value c.is_finite-then-is_valid.ensures.value) ∙ c.if-is_finite.false)
-
-pub returns-else-is_valid : goal.returns-else-is_valid
-unfolding get_range
-returns-else-is_valid c = rw (sym c.is_valid.ensures ∙ c.if-is_valid.false)
+    ∙ ap as_range (c.inside.ensures ∙ ap₂ (λ (b : Bounds) (l : List AutomationPoint). fold widen b (raw_inside a.start_time a.end_time l)) lookups c.points.ensures)
+    ∙ range_with (given_values (run f 0 101)) (raw_inside a.start_time a.end_time (list_of h.points))))

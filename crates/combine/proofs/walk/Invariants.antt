@@ -1,11 +1,13 @@
--- `combine::walk` meets its contract. Assumes nothing.
-use Prim.Native.Nat.{◌+◌, ◌-◌, ◌≤◌}
-use Rattle.combine.specs.Walk.{side_with}
-use Rattle.combine.proofs.Walking.{Done}
+use Prim.Native.Nat.{◌+◌}
+use mathlib.Core.Path.{◌≡◌}
+use lib.ListN.{length}
+use Rattle.points.specs.Points.{list_of}
+use Rattle.combine.proofs.Combining.{Walked}
 use Rattle.combine.proofs.walk.Given as goal
 
-abbrev pub invariant-loop-i : goal.invariant-loop-i
-invariant-loop-i l = (l.i ≤ l.a.count) × (l.j ≤ l.b.count) × Done l.operation (side_with l.a l.left) (side_with l.b l.right) l.out l.ok l.total l.i l.j
+abbrev pub invariant-loop-time : goal.invariant-loop-time
+invariant-loop-time l =
+    (l.firsts ≡ list_of l.first.points) × (l.seconds ≡ list_of l.other.points) × Walked l.operation l.first l.other l.points l.others l.made l.fits
 
-abbrev pub decreases-loop-i : goal.decreases-loop-i
-decreases-loop-i l = l.end - (l.i + l.j)
+abbrev pub decreases-loop-time : goal.decreases-loop-time
+decreases-loop-time l = length l.points + length l.others

@@ -1,8 +1,6 @@
-use Prim.Native.Nat.{◌-◌}
+use Rattle.std.proofs.Common.{◌-◌}
 use Rattle.player.proofs.print_blocks.Given as goal
 
-abbrev pub invariant-loop-left : goal.invariant-loop-left
-invariant-loop-left g l = Unit {0}
-
-abbrev pub decreases-loop-left : goal.decreases-loop-left
-decreases-loop-left g l = l.left.count - l.left.next
+-- each block leaves fewer samples
+abbrev pub decreases-loop-play : goal.decreases-loop-play
+decreases-loop-play g l = l.play.count - l.play.next

@@ -1,18 +1,15 @@
--- `render::write_segments` meets its contract: the loop has the first i samples written, and fewer are left each turn. Between the first point and the last
--- the search ends between two (`search_inside`) and a stretch is added (`stretch_written`, `run_part`), elsewhere one sample (`outside_sample`, `run_turn`).
-use Prim.Native.Nat.{◌+◌, ◌≤◌, ◌-◌}
+-- `render::write_segments` meets its contract: the segment serves the points, and the samples before i are written.
+use Prim.Native.Nat.{ℕ, ◌+◌, ◌<◌}
 use mathlib.Core.Path.{◌≡◌}
-use mathlib.Core.Bool.{true}
-use mathlib.Core.List.{◌++◌}
-use lib.ListN.{length, drop}
+use lib.ListN.{get_or}
+use lib.Ieee.{Float}
+use Rattle.std.specs.Prelude.{IfSome}
+use Rattle.points.specs.Points.{list_of}
 use Rattle.render.specs.Render.{sample_or}
-use Rattle.lookup.specs.Runs.{run}
+use Rattle.render.specs.Writer.{Serves}
 use Rattle.render.proofs.write_segments.Given as goal
 
 abbrev pub invariant-loop-i : goal.invariant-loop-i
 invariant-loop-i l =
-    (l.i ≤ length l.initial.out) × (length l.out ≡ length l.initial.out) × (l.k ≡ l.first + l.i) ×
-    (l.out ≡ run (sample_or l.silent l.points true l.limits l.rate) l.first l.i ++ drop l.i l.initial.out)
-
-abbrev pub decreases-loop-i : goal.decreases-loop-i
-decreases-loop-i l = length l.initial.out - l.i
+    IfSome l.segment (Serves (list_of l.valid.points))
+    × ((k : ℕ) (d : Float) → k < l.i → get_or l.out k d ≡ sample_or l.silent l.valid.points l.valid.enabled l.valid.limits l.rate (l.first + k))

@@ -1,14 +1,9 @@
-use Prim.Native.Nat.{◌≤◌, ◌-◌, min}
-use mathlib.Core.Path.{◌≡◌}
-use lib.ListN.{length}
+-- `replay::replay`: the calls that came have run, and their answers stand in as many places.
+use Rattle.std.proofs.Common.{length}
 use Rattle.replay.proofs.ReplayLaws.{Replaying}
 use Rattle.replay.proofs.replay.Given as goal
 
 abbrev pub invariant-loop-i : goal.invariant-loop-i
 invariant-loop-i l =
-    (l.i ≤ l.n) × (l.n ≡ min (min (length l.kinds) (length l.xs)) (min (length l.ys) (length l.initial.codes))) ×
-    (length l.memory ≡ length l.initial.memory) × (length l.codes ≡ length l.initial.codes)
-    × Replaying l.target l.initial.memory l.kinds l.xs l.ys l.initial.codes l.codes l.i l.session l.memory
-
-abbrev pub decreases-loop-i : goal.decreases-loop-i
-decreases-loop-i l = l.n - l.i
+    (goal.iterator-loop-i).can_next l.i-iterator × (goal.iterator-loop-i).is_finite l.i-iterator
+    × Replaying l.target l.fn.memory l.commands l.fn.answers l.answers (length l.yielded) l.session l.memory

@@ -1,11 +1,9 @@
--- `listing::bytes::bytes_of`: each byte stands after the one before, and no more are put than there is room.
-use Prim.Native.Nat.{◌-◌, ◌≤◌}
-use lib.ListN.{length}
-use mathlib.Core.Path.{◌≡◌}
+-- `listing::bytes::bytes_of`: less text is left after each byte, and no more bytes are put than there is room.
+use Rattle.std.proofs.Common.{◌≤◌, length}
 use Rattle.listing.proofs.bytes.bytes_of.Given as goal
 
-abbrev pub invariant-loop-at : goal.invariant-loop-at
-invariant-loop-at l = (l.n ≤ length l.out) × (length l.out ≡ length l.initial.out) × (l.end ≤ length l.s)
+abbrev pub invariant-loop-rest : goal.invariant-loop-rest
+invariant-loop-rest l = l.n ≤ length l.out
 
-abbrev pub decreases-loop-at : goal.decreases-loop-at
-decreases-loop-at l = l.end - l.at
+abbrev pub decreases-loop-rest : goal.decreases-loop-rest
+decreases-loop-rest l = length l.rest

@@ -5,4 +5,4 @@ use Rattle.points.specs.declared.Points.{Points}
 use Rattle.points.proofs.list.none.Goals as goal
 
 pub returns : goal.returns
-returns c = ap {B = Points} (λ (p : AutomationPoint). record { count = 0; places = replicate 256 p }) c.unused-unused.ensures
+returns c = ap {B = Points} (λ (p : AutomationPoint). record { count = 0; places = replicate 256 p }) c.unused.ensures

@@ -1,12 +1,24 @@
--- `render::Segment::around` meets its contract: the test of the key is that of `segment_around` (`eq-eqb`, `ne_eqb`), and both branches are what `new` ensures.
-use mathlib.Core.Path.{sym, ◌∙◌}
-use borrow.Author.Tests.{eq-eqb, ne_eqb}
+use Prim.Native.Nat.{◌+◌, ◌-◌, ◌<◌}
+use mathlib.Core.Path.{◌≡◌}
+use lib.ListN.{length}
+use Rattle.std.proofs.Common.{rules}
+use Rattle.points.specs.Points.{list_of}
+use Rattle.lookup.specs.Lookup.{point_at}
+use Rattle.render.specs.Writer.{segment_of, Serves}
+use Rattle.render.proofs.Segments.{serves_heard}
 use Rattle.render.proofs.Segment.around.Goals as goal
 
-pub returns-then-order_key-key : goal.returns-then-order_key-key
-returns-then-order_key-key c = rw (eq-eqb _ _ (sym c.order_key.ensures ∙ c.if-order_key-key.true)) c.new.ensures
-
-pub returns-else-order_key-key : goal.returns-else-order_key-key
-returns-else-order_key-key c =
-    let order-key = c.order_key in
-    rw (ne_eqb _ _ (λ e. c.if-order_key-key.false (order-key.ensures ∙ e))) c.new-else-order_key-key.ensures
+pub returns-in_ok-q-in-len2-up : goal.returns-in_ok-q-in-len2-up
+returns-in_ok-q-in-len2-up c =
+    let l = c.points-points.result.now in
+    let i = c.place-i.result in
+    let p = c.in_ok-p-in-len2-up.p.now in
+    let q = c.in_ok-q-in-len2-up.q.now in
+    let h = c.valid.inside.heard.now in
+    let k : c.in_ok-checked_sub-in-len2-up.field-0 + 1 ≡ i = search rules in
+    let e : p ≡ point_at l (i - 1) = search rules in
+    let f : q ≡ point_at l i = search rules in
+    let b : i < length l = search rules in
+    let s : Serves (list_of h.points) (segment_of p q) =
+    serves_heard h c.valid.invariant l c.points-points.ensures p q i (search rules) b e f c.new.ensures.numbers c.new-way.ensures.numbers in
+    search rules

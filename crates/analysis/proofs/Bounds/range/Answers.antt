@@ -1,9 +1,0 @@
--- `analysis::Bounds::range` meets its contract. Assumes nothing.
-use mathlib.Core.Path.{sym, ◌∙◌}
-use Rattle.analysis.proofs.Bounds.range.Goals as goal
-
-pub returns-then-is_finite : goal.returns-then-is_finite
-returns-then-is_finite c = rw (sym c.is_finite.ensures.value ∙ c.if-is_finite.true)
-
-pub returns-else-is_finite : goal.returns-else-is_finite
-returns-else-is_finite c = rw (sym c.is_finite.ensures.value ∙ c.if-is_finite.false)

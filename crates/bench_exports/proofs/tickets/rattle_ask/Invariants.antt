@@ -1,8 +1,0 @@
-use Rattle.std.proofs.Common.{◌-◌, ◌≤◌}
-use Rattle.bench_exports.proofs.tickets.rattle_ask.Given as goal
-
-abbrev pub invariant-loop-i : goal.invariant-loop-i
-invariant-loop-i l = l.i ≤ l.turns
-
-abbrev pub decreases-loop-i : goal.decreases-loop-i
-decreases-loop-i l = l.turns - l.i

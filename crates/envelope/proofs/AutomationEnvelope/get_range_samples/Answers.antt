@@ -1,7 +1,0 @@
--- `envelope::AutomationEnvelope::get_range_samples` meets its contract: `limits` answers `limits_of self`,
--- and with those limits the contract of `analysis::get_range_samples` is this one, by definition of `range_samples_of`.
-use mathlib.Core.Path.{sym}
-use Rattle.envelope.proofs.AutomationEnvelope.get_range_samples.Goals as goal
-
-pub returns : goal.returns
-returns c = rw (sym c.limits.ensures) c.get_range_samples.ensures

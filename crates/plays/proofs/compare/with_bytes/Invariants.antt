@@ -1,9 +1,0 @@
--- `plays::compare::with_bytes`: byte after byte, up to the end.
-use Rattle.std.proofs.Common.{◌-◌, ◌≤◌, length}
-use Rattle.plays.proofs.compare.with_bytes.Given as goal
-
-abbrev pub invariant-loop-i : goal.invariant-loop-i
-invariant-loop-i l = l.i ≤ length l.out
-
-abbrev pub decreases-loop-i : goal.decreases-loop-i
-decreases-loop-i l = length l.out - l.i
