@@ -178,7 +178,8 @@ impl Session {
         Ok(())
     }
 
-    // Any of 01's edits that take a second envelope: 1 for either comes first. `edit` and this are two: over a closure the contract would speak of all that one computes, and with one function for the refusal after 1 the goal here did not close.
+    // Any of 01's edits that take a second envelope: 1 for either comes first.
+    // `edit` and this are two: over a closure the contract would speak of all that one computes, and with one function for the refusal after 1 the goal here did not close.
     #[tactic(auto, using(crate::proofs::Ways::editing))]
     pub fn join(
         &mut self,
