@@ -1,4 +1,5 @@
-// What bench/ measures, as C functions on numbers and slices. Those here pass their arguments on; those of the modules repeat a call on an envelope. A tool, on which no caller stands: the latter are proved safe and ending, and state no result.
+// What bench/ measures, as C functions on numbers and slices. Those here pass their arguments on; those of the modules repeat a call on an envelope.
+// A tool, on which no caller stands: the latter are proved safe and ending, and state no result.
 #![tactic(auto)]
 
 ghost use Rattle.std.specs.Prelude.{◌≡◌, pos, from_bits};

@@ -48,7 +48,8 @@ carry : (start : AutomationEnvelope) (d : ℕ) (h h' : Hist) (s s' : Session) (m
 carry start d h h' s s' m m' p q r v = rw (p, q, r) v
 
 -- one call that obeys its contract takes the rule's history to the rule's next, and says what the rule says
-module _ (start : AutomationEnvelope) (d : ℕ) (h : Hist) (s : Session) (m : List ℕ) (v : Inv start d h s m) (c : Call) (a : Result (Unit {0}) Refusal) (s' : Session) (m' : List ℕ) (ob : Obeys s m c a s' m') where
+module _ (start : AutomationEnvelope) (d : ℕ) (h : Hist) (s : Session) (m : List ℕ) (v : Inv start d h s m) (c : Call) (a : Result (Unit {0}) Refusal)
+    (s' : Session) (m' : List ℕ) (ob : Obeys s m c a s' m') where
   abbrev st : CallStep start d h s m c
   st = step start d h s m v c
 

@@ -11,7 +11,8 @@ use Rattle.replay.proofs.replay.Given as given
 use Rattle.replay.proofs.replay.Goals as goal
 use Rattle.replay.proofs.replay.Goals.{After-into_iter-i-iterator}
 
-road : (c : After-into_iter-i-iterator) → YieldsList (given.iterator-loop-i).next_gives (λ p. (p.0, p.1.now)) c.into_iter-i-iterator.result (enumerate_from 0 (take (length c.args.answers.now) c.args.commands.now))
+road : (c : After-into_iter-i-iterator)
+    → YieldsList (given.iterator-loop-i).next_gives (λ p. (p.0, p.1.now)) c.into_iter-i-iterator.result (enumerate_from 0 (take (length c.args.answers.now) c.args.commands.now))
 road c = YieldsList-from_enumerate (YieldsList-from_take (length c.args.answers.now) (YieldsList-from_slice c.args.commands.now (cc)) (cc)) (cc)
 
 pub loop-i-init : goal.loop-i-init

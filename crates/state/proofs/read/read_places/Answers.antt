@@ -14,8 +14,10 @@ returns-then-ne-2 c =
 
 pub loop-i-preserved-then-ne : goal.loop-i-preserved-then-ne
 loop-i-preserved-then-ne c =
-    let step = c.in-Some.ensures.steps.0 in
-    (step.0 ∙ c.loop-i.invariant.0, rw (c.in-Some.ensures.steps.2, c.in-Some.ensures.steps.1) (turn_put c.loop-i.invariant.1 c.in-Some.w.now _ step.1.0 (step.1.1 ∙ c.loop-i.invariant.0) _ c.read_point-p.ensures (grind arith)))
+    let step = c.in-Some.ensures.steps.0 in (
+      step.0 ∙ c.loop-i.invariant.0,
+      rw (c.in-Some.ensures.steps.2, c.in-Some.ensures.steps.1) (turn_put c.loop-i.invariant.1 c.in-Some.w.now _ step.1.0 (step.1.1 ∙ c.loop-i.invariant.0) _ c.read_point-p.ensures (grind arith)),
+    )
 
 pub loop-i-preserved : goal.loop-i-preserved
 loop-i-preserved c =
