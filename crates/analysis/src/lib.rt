@@ -136,9 +136,10 @@ pub fn get_range_samples(
         return Err(Refusal::TooManySamples);
     }
     let keyed = valid.keyed()?;
+    let keys = lookup::place::keys::<u64>(heard.points());
     let lookups = Bounds::of(
         span / step + 1,
-        |k| keyed.value_at_sample(start_sample + k * step),
+        |k| keyed.value_by_keys(&keys, start_sample + k * step),
     );
     Ok(lookups.range())
 }

@@ -64,12 +64,19 @@ pub extern "C" fn rattle_roundf(x: f32) -> f32
     x.round()
 }
 
+// The number itself, and of a NaN the one with the bits 7FC00000: a caller in C sees them, and a root that the processor takes may have others.
+fn one_nan(x: f32) -> f32
+    ensures { result ≡ x }
+{
+    std::num::f32_from_bits_with_nan(std::num::f32_to_bits_with_nan(x))
+}
+
 #[unsafe(no_mangle)]
 #[tactic(auto, using(numbers::proofs::StdRoot::std_sqrt))]
 pub extern "C" fn rattle_sqrtf(x: f32) -> f32
     ensures { result ≡ sqrt binary32 x }
 {
-    x.sqrt()
+    one_nan(x.sqrt())
 }
 
 // The curves, from 0.25 to 0.75.
@@ -118,7 +125,7 @@ pub extern "C" fn rattle_logarithmic(t: f32) -> f32
     ensures { result ≡ interpolated Logarithmic (from_bits binary32 0x3E80_0000) (from_bits binary32 0x3F40_0000) t }
 {
     let c = CurveType::Logarithmic;
-    c.interpolate(0.25, 0.75, t)
+    one_nan(c.interpolate(0.25, 0.75, t))
 }
 
 #[unsafe(no_mangle)]
@@ -126,7 +133,7 @@ pub extern "C" fn rattle_circular(t: f32) -> f32
     ensures { result ≡ interpolated Circular (from_bits binary32 0x3E80_0000) (from_bits binary32 0x3F40_0000) t }
 {
     let c = CurveType::Circular;
-    c.interpolate(0.25, 0.75, t)
+    one_nan(c.interpolate(0.25, 0.75, t))
 }
 
 #[unsafe(no_mangle)]

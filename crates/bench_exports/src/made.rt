@@ -16,7 +16,7 @@ pub(crate) fn point(time: f64, value: f32, curve: CurveType) -> AutomationPoint 
 pub(crate) fn made(times: &[f64], values: &[f32], code: u32) -> AutomationEnvelope {
     let curve = curve_of(code);
     let mut points = points::list::none();
-    for (time, value) in times.iter().zip(values) {
+    for (time, value) in times.iter().zip(values).take(256) {
         points.push(point(*time, *value, curve));
     }
     AutomationEnvelope {

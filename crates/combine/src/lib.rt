@@ -9,6 +9,7 @@ ghost use Rattle.settle.specs.Settle.{settle};
 ghost use Rattle.combine.specs.Combine.{finite_operation, applied, combined_point, combined_list, combined_points};
 ghost use Rattle.combine.specs.Walk.{next_time, past};
 
+use limits::Limits;
 use lookup::{Heard, Valid};
 use points::refusal::Refusal;
 use points::{AutomationPoint, Points};
@@ -22,6 +23,14 @@ pub enum Operation {
     Min,
     Max,
     Subtract,
+}
+
+// What a combination takes of an envelope, as a value of its own.
+#[derive(Clone, Copy)]
+pub struct Side {
+    pub points: Points,
+    pub enabled: bool,
+    pub limits: Limits,
 }
 
 impl Operation {
@@ -47,6 +56,19 @@ impl Operation {
             Operation::Min => numbers::order::min(a, b),
             Operation::Max => numbers::order::max(a, b),
             Operation::Subtract => a - b,
+        }
+    }
+}
+
+impl Side {
+    // The same lent, as `combine` takes it.
+    pub fn heard(&self) -> Heard<'_>
+        ensures { result ≡ record { points = self.now.points; enabled = self.now.enabled; limits = self.now.limits } }
+    {
+        Heard {
+            points: &self.points,
+            enabled: self.enabled,
+            limits: self.limits,
         }
     }
 }

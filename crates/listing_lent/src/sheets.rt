@@ -19,10 +19,10 @@ fn says_bytes(line: &mut Line<'_>, sheet: &[u8]) -> Option<()> {
     line.past(b" => ok bytes")?;
     sheet.len().is_said(line)?;
     line.past(b" ")?;
-    for b in sheet {
-        line.past(&[shown(*b)])?;
-    }
-    line.ended()
+    // the text is all that is left
+    let text = line.rest;
+    let same = text.len() == sheet.len() && text.iter().zip(sheet).all(|(t, b)| *t == shown(*b));
+    same.then_some(())
 }
 
 fn sheet(mut line: Line<'_>) -> Option<()> {

@@ -12,4 +12,4 @@
 mod reader;
 mod report;
 
-pub use reader::Lines;
+pub use reader::{Lines, Reader};

@@ -1,7 +1,6 @@
 // Reading a list line by line. What is told of the lines is printed to `out`.
 ghost use Rattle.std.specs.Prelude.{◌≤◌};
 
-use crate::report::Tally;
 use listing::text::Outcome;
 use std::io;
 
@@ -17,21 +16,28 @@ struct Place {
     ghost in_buf: { end ≤ 131072 },
 }
 
+// What has come of a list so far: `number` is the last line's; `run` and `differ` count the lines of a part that were
+// run, and those of them that aren't right.
+#[derive(Clone, Copy, Default)]
+pub struct Reader {
+    pub ended: bool,
+    pub number: u64,
+    pub run: u64,
+    pub differ: u64,
+}
+
 // A list that is being read. The buffer's first `full` bytes are the list's, and the next line begins
 // at `at`: one array serves the whole list, so what it holds and how far that is read stand beside it.
-// `cut` is set while the rest of a line goes by that is longer than the buffer. `number` is the last
-// line's.
+// `cut` is set while the rest of a line goes by that is longer than the buffer.
 #[derive(Drop)]
 pub struct Lines<R, P> {
+    pub reader: Reader,
     input: R,
     out: P,
     buf: [u8; ROOM],
     at: usize,
     full: usize,
     cut: bool,
-    ended: bool,
-    number: u64,
-    tally: Tally,
     ghost in_order: { at ≤ full },
     ghost in_buf: { full ≤ 131072 },
 }
@@ -45,15 +51,13 @@ impl<R: io::Read, P: Print> Lines<R, P> {
     // A list of which nothing is read yet.
     pub fn new(input: R, out: P) -> Self {
         Lines {
+            reader: Reader::default(),
             input,
             out,
             buf: [0; ROOM],
             at: 0,
             full: 0,
             cut: false,
-            ended: false,
-            number: 0,
-            tally: Tally::default(),
         }
     }
 
@@ -62,9 +66,9 @@ impl<R: io::Read, P: Print> Lines<R, P> {
         let bytes = &self.buf[line.start..line.end];
         let run = is_run(bytes);
         let ends_part = bytes.starts_with(b"##");
-        self.number = self.number.wrapping_add(1);
+        self.reader.number = self.reader.number.wrapping_add(1);
         if ends_part {
-            self.tally.end_part(&self.out);
+            self.reader.end_part(&self.out);
         }
         run.then_some(line)
     }
@@ -94,7 +98,7 @@ impl<R: io::Read, P: Print> Lines<R, P> {
                 n > 0
             }
             Err(_) => {
-                self.tally.count_unread(&self.out);
+                self.reader.count_unread(&self.out);
                 false
             }
         }
@@ -124,7 +128,7 @@ impl<R: io::Read, P: Print> Lines<R, P> {
         if self.read_more() {
             return None;
         }
-        self.ended = true;
+        self.reader.ended = true;
         if self.full == 0 || self.cut {
             return None;
         }
@@ -139,7 +143,7 @@ impl<R: io::Read, P: Print> Lines<R, P> {
     // so the steps are counted, up to a number that no run uses up.
     fn next_place(&mut self) -> Option<Place> {
         for _ in 0..u64::MAX {
-            if self.ended {
+            if self.reader.ended {
                 return None;
             }
             if let Some(line) = self.step() {
@@ -159,10 +163,10 @@ impl<R: io::Read, P: Print> Lines<R, P> {
 
     // The last line that was given was run, and came to this; none where it is no call that we have.
     pub fn counted(&mut self, outcome: Option<Outcome>) {
-        self.tally.count(&self.out, self.number, outcome);
+        self.reader.count(&self.out, outcome);
     }
 
     pub fn print_tally(&self) {
-        let _ = println!(self.out; "{}", self.tally);
+        let _ = println!(self.out; "{}", self.reader);
     }
 }

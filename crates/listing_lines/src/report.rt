@@ -1,22 +1,17 @@
 // What is printed of the lines that were run, and their count. What the output doesn't take is let go.
+use crate::reader::Reader;
 use listing::text::Outcome;
 use std::fmt;
 
-// The lines of a part that were run, and those of them that aren't right.
-#[derive(Clone, Copy, Default)]
-pub(crate) struct Tally {
-    run: u64,
-    differ: u64,
-}
-
-impl fmt::Display for Tally {
+// The tally of the part.
+impl fmt::Display for Reader {
     fn fmt<W: fmt::Write>(&self, f: &mut fmt::Formatter<W>) -> fmt::Result {
-        let Tally { run, differ } = *self;
+        let Reader { run, differ, .. } = *self;
         write!(f, "{run} run, {differ} differ")
     }
 }
 
-impl Tally {
+impl Reader {
     fn right(&mut self) {
         self.run = self.run.wrapping_add(1);
     }
@@ -26,8 +21,9 @@ impl Tally {
         self.differ = self.differ.wrapping_add(1);
     }
 
-    // The line of this number was run, and came to this.
-    pub(crate) fn count(&mut self, out: &impl Print, number: u64, outcome: Option<Outcome>) {
+    // The last line was run, and came to this.
+    pub(crate) fn count(&mut self, out: &impl Print, outcome: Option<Outcome>) {
+        let number = self.number;
         match outcome {
             Some(Outcome::Same) => self.right(),
             Some(Outcome::Differs) => {
@@ -50,6 +46,7 @@ impl Tally {
     // The end of a part of the list.
     pub(crate) fn end_part(&mut self, out: &impl Print) {
         let _ = println!(out; "{self}");
-        *self = Tally::default();
+        self.run = 0;
+        self.differ = 0;
     }
 }

@@ -37,17 +37,44 @@ pub struct List(pub Points);
 
 impl Field for List {
     fn read(line: &mut Line<'_>) -> Option<List> {
+        let ListPart { points, is_whole } = line.field()?;
+        is_whole.then_some(List(points))
+    }
+}
+
+// As much of a list as a line has: the number, and the points before the first that can't be read.
+#[derive(Clone, Copy)]
+pub struct ListPart {
+    pub points: Points,
+    pub is_whole: bool,
+}
+
+impl Field for ListPart {
+    fn read(line: &mut Line<'_>) -> Option<ListPart> {
         let count: usize = line.field()?;
         let mut places = [unused(); 256];
-        for place in places.iter_mut().take(count) {
-            let Point(p) = line.field()?;
-            *place = p;
-        }
-        for _ in 256..count {
-            line.field::<Point>()?;
-        }
-        Some(List(Points { count, places }))
+        let is_whole = read_points(line, count, &mut places).is_some();
+        Some(ListPart {
+            points: Points { count, places },
+            is_whole,
+        })
     }
+}
+
+// Reads so many points, the first ones into the places.
+fn read_points(
+    line: &mut Line<'_>,
+    count: usize,
+    places: &mut [AutomationPoint; 256],
+) -> Option<()> {
+    for place in places.iter_mut().take(count) {
+        let Point(p) = line.field()?;
+        *place = p;
+    }
+    for _ in 256..count {
+        line.field::<Point>()?;
+    }
+    Some(())
 }
 
 impl Said for List {

@@ -8,7 +8,7 @@ use listing_envelopes::records::Envelope;
 use listing_looks::looks::{STATE_WORDS, look};
 use listing_looks::words;
 use listing_points::answers::Refused;
-use listing_tickets::asks::Three;
+use listing_tickets::asks::TicketPart;
 use listing_tickets::commits::commit_twice;
 use points::refusal::Refusal;
 use session::Session;
@@ -66,10 +66,14 @@ fn edited(mut line: Line<'_>, session: &mut Session, memory: &mut [u64]) -> Opti
     answers(&mut line, session, answer)
 }
 
-// Made twice; both have to answer the line.
+// Made twice; both have to answer the line. Of a ticket that can't be read whole as much as can be is committed: the line
+// differs and the session stays, but the memory has what the call left in it.
 fn commit(mut line: Line<'_>, session: &mut Session, memory: &mut [u64]) -> Option<()> {
-    let Three(ticket) = line.field()?;
+    let TicketPart { ticket, is_whole } = line.field()?;
     let (asked, made) = commit_twice(session, &ticket, memory)?;
+    if !is_whole {
+        return None;
+    }
     let mut again = line;
     *session = asked.session;
     answers(&mut line, session, asked.answer)?;

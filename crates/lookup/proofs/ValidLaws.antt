@@ -1,6 +1,6 @@
 -- What validity of what is heard tells. Assumes nothing.
 use Rattle.std.specs.Prelude.{Err, Ok, Result}
-use mathlib.Core.Path.{◌≡◌, refl, sym, ◌∙◌}
+use mathlib.Core.Path.{◌≡◌, refl}
 use mathlib.Core.Bool.{Bool, true, false, cond}
 use Rattle.numbers.proofs.Tests.{and_right}
 use Rattle.limits.specs.Limits.{finite_limits}

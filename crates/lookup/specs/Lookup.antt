@@ -29,6 +29,10 @@ last_point l = point_at l (length l - 1)
 abbrev pub around : {A : Type 0} → (AutomationPoint → ℕ) → ℕ → (AutomationPoint → AutomationPoint → A) → ℕ → ℕ → AutomationPoint → AutomationPoint → Option A
 around key k give n i p q = cond (ltb i n) (cond (eqb (key q) k) (Some (give q q)) (cond (ltb 0 i) (Some (give p q)) None)) None
 
+-- the same at a place of a list
+abbrev pub around_at : {A : Type 0} → (AutomationPoint → ℕ) → ℕ → (AutomationPoint → AutomationPoint → A) → List AutomationPoint → ℕ → Option A
+around_at key k give l i = around key k give (length l) i (point_at l (i - 1)) (point_at l i)
+
 -- 000's search for the surrounding points, over any key
 unfoldable pub surrounded : {A : Type 0} → (AutomationPoint → ℕ) → ℕ → (AutomationPoint → AutomationPoint → A) → List AutomationPoint → Option A
 unfolding place_by
@@ -105,6 +109,12 @@ heard true limits raw = option_map (constrained limits) raw
 -- the lookup by time of a valid envelope
 abbrev pub value_at : Points → Bool → Limits → Float → Option Float
 value_at points enabled limits time = heard enabled limits (raw_at (list_of points) time)
+
+-- the lookup by time of an envelope, where a search is said to end at a place
+abbrev pub value_near : Points → Bool → Limits → Float → ℕ → Option Float
+value_near points enabled limits time i =
+    let l = list_of points in
+    heard enabled limits (found ended (λ p. le time p.time) (λ p. le p.time time) (around_at time_key (order_key time) (between time) l i) l)
 
 -- the lookup by sample of a valid envelope whose keys rise
 abbrev pub value_at_sample : Points → Bool → Limits → ℕ → Option Float

@@ -12,6 +12,7 @@ use points::{AutomationPoint, Points};
 use std::marker::Model;
 
 pub mod axis;
+pub mod place;
 pub mod sample;
 pub mod time;
 

@@ -1,6 +1,6 @@
 -- Bit patterns, at any format: which are a NaN's, which a finite number's, and that a pattern tells two values apart. Assumes nothing.
-use Rattle.std.proofs.Common.{◌≡◌, ℕ, zero, suc, ◌+◌, ◌*◌, ◌/◌, ◌%◌, ◌<◌, ◌≤◌, Bool, true, false, cond, not, T, eqb, leb, pos, sym, refl, ap, ◌∙◌, subst, arith, le-ltb, eq-eqb, ne_eqb, eqb-true}
-use lib.Ieee.{Float, Format, nan, inf, fin, binary32, binary64, of_bits, of_fields, to_bits, is_nan, nan_bits, odd, prec, low, hid, ones, top, fits, div}
+use Rattle.std.proofs.Common.{◌≡◌, ℕ, zero, suc, ◌+◌, ◌*◌, ◌/◌, ◌%◌, ◌<◌, ◌≤◌, Bool, true, false, cond, not, T, eqb, leb, pos, sym, refl, ap, ◌∙◌, subst, arith, le-ltb, lt-ltb, eq-eqb, ne_eqb, eqb-true}
+use lib.Ieee.{Float, Format, nan, inf, fin, binary32, binary64, of_bits, of_fields, to_bits, is_nan, nan_bits, odd, prec, low, hid, ones, top, fits, ne, div}
 use lib.Ieee.Bits.{of_bits-to_bits, to_bits-of_bits, nan_bits_is, nan_bits_above}
 use lib.Ieee.Compare.{differs_from_itself}
 use Rattle.numbers.specs.Bounds.{finite}
@@ -18,7 +18,15 @@ unfolding div of_bits
 zero_by_zero binary32 = refl
 zero_by_zero binary64 = refl
 
--- up to the patterns of the infinities there is none
+-- writing: what differs from itself is the NaN
+pub nan_bits_lem : (f : Format) (x : Float) → ne x x ≡ true → to_bits f nan ≡ to_bits f x
+nan_bits_lem f x h = ap (to_bits f) (sym (differs_from_itself x (yes h)))
+
+-- reading: above the patterns of the infinities there are only NaNs
+pub nan_read : (f : Format) (n : ℕ) → ones f * hid f < n % top f → div f (of_bits f 0) (of_bits f 0) ≡ of_bits f n
+nan_read f n h = zero_by_zero f ∙ sym (nan_is (of_bits f n) (sym (nan_bits_is f n) ∙ nan_bits_above f n ∙ lt-ltb (ones f * hid f) (n % top f) h))
+
+-- and up to them there is none
 pub number_read : (f : Format) (n : ℕ) → n % top f ≤ ones f * hid f → T (not (nan_bits f n))
 number_read f n h = no (nan_bits_above f n ∙ le-ltb (ones f * hid f) (n % top f) h)
 

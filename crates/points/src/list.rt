@@ -73,7 +73,7 @@ impl Points {
     pub fn is_valid(&self) -> bool
         ensures { result ≡ valid_points self.now }
     {
-        (self.count <= 256) & (self.all_finite() & self.times_rise() & self.rest_unused())
+        (self.count <= 256) && (self.all_finite() & self.times_rise() & self.rest_unused())
     }
 
     // 1 unless the points are valid. Valid ones are what holds their list.

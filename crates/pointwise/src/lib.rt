@@ -324,7 +324,7 @@ pub fn clamp_values(points: &Points, min: f32, max: f32) -> Result<Points, Refus
     ensures { result ≡ clamped_edit points.now min max }
 {
     let ok = min.is_finite() & max.is_finite();
-    if points.is_valid() & ok & (min > max) {
+    if ok && min > max && points.is_valid() {
         return Err(Refusal::BoundsCross);
     }
     edit_each(points, ok, Change::Clamp(min, max))

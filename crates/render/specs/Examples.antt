@@ -6,7 +6,7 @@ use Rattle.numbers.specs.Bounds.{finite}
 use Rattle.numbers.specs.Narrow.{narrow}
 use Rattle.numbers.specs.Order.{order_key}
 use Rattle.curve.specs.F32.{f32, f0, f1, f0·5}
-use Rattle.curve.specs.Curve.{code, controls, finite_controls, interpolated, eased, clamped}
+use Rattle.curve.specs.Curve.{code, controls, finite_controls, interpolated, eased}
 use Rattle.curve.specs.declared.CurveType.TheVariants.{Linear}
 use Rattle.points.specs.Points.{holding, rising_by, valid_points}
 use Rattle.points.specs.Refusal.{gives}

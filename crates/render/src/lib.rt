@@ -10,7 +10,8 @@ ghost use Rattle.points.specs.Refusal.{said};
 ghost use Rattle.points.specs.declared.refusal.Refusal.TheVariants.{NotFinite};
 ghost use Rattle.lookup.specs.Runs.{run};
 ghost use Rattle.render.specs.Render.{sample_or, sample_at, sample_count, most_samples, run_into, render, to_buffer, iter_samples, next_sample};
-ghost use Rattle.render.specs.Writer.{segment_of, segment_at, inside, Serves};
+ghost use Rattle.lookup.specs.Lookup.{point_at, last_point};
+ghost use Rattle.render.specs.Writer.{segment_of, segment_at, inside, Serves, ends_of, outside_at, Written};
 
 use curve::CurveType;
 use limits::Limits;
@@ -29,7 +30,7 @@ pub struct SampleIterator {
     pub total_samples: u64,
 }
 
-// The way from one point to the next, kept from sample to sample: with a search for each, blocks took 1.2 to 1.85 times as long and missed their bars.
+// The way from one point to the next, which serves a stretch of samples: with a search for each, blocks took 1.2 to 1.85 times as long and missed their bars.
 #[derive(Clone, Copy)]
 struct Segment {
     from: f64,
@@ -37,6 +38,15 @@ struct Segment {
     start: f32,
     end: f32,
     curve: CurveType,
+}
+
+// The times of the first point and the last, and their values, constrained once for all the samples outside.
+#[derive(Clone, Copy)]
+struct Ends {
+    first: f64,
+    early: f32,
+    last: f64,
+    late: f32,
 }
 
 impl Segment {
@@ -61,31 +71,19 @@ impl Segment {
         (self.from < time) & (time < self.to)
     }
 
-    // The segment that holds a time.
-    fn around(valid: &Valid<'_>, time: f64) -> Option<Segment>
+    // The segment before a place, if it holds the time. The first point and the last are looked at too: what serves has to say that their times are `f64`s.
+    fn before(valid: &Valid<'_>, place: usize, time: f64) -> Option<Segment>
         ensures { IfSome result (λ s. (inside s time ≡ true) × Serves (list_of valid.now.points) s) }
     {
         let points = valid.heard.points();
         match points {
             [first, .., last] if Segment::new(*first, *last).holds(time) => {
-                let i = valid.place(time);
-                let p = points.get(i.checked_sub(1)?)?;
-                let q = points.get(i)?;
+                let p = points.get(place.checked_sub(1)?)?;
+                let q = points.get(place)?;
                 let way = Segment::new(*p, *q);
                 way.holds(time).then_some(way)
             }
             _ => None,
-        }
-    }
-
-    // The same, where there may be one at hand.
-    fn holding(segment: Option<Segment>, valid: &Valid<'_>, time: f64) -> Option<Segment>
-        requires { IfSome segment (Serves (list_of valid.now.points)) }
-        ensures { IfSome result (λ s. (inside s time ≡ true) × Serves (list_of valid.now.points) s) }
-    {
-        match segment {
-            Some(s) if s.holds(time) => Some(s),
-            _ => Segment::around(valid, time),
         }
     }
 
@@ -102,25 +100,85 @@ impl Segment {
             limits.apply_constraints(self.curve.interpolate(self.start, self.end, t))
         }
     }
+
+    // Its values at the samples that are numbered from the first on, written from a place on as long as their times lie inside it; the place after them.
+    fn write(self, limits: Limits, rate: f64, first: u32, out: &mut [f32], place: usize) -> usize
+        requires { first + length out.old ≤ most_samples }
+        ensures { Written self limits rate first place out.old out.new result }
+    {
+        for i in place..out.len() {
+            let time = (first + i as u32) as f64 / rate;
+            if !self.holds(time) {
+                return i;
+            }
+            out[i] = self.value_at(limits, time);
+        }
+        place.max(out.len())
+    }
 }
 
-// The samples of an enabled envelope. Each segment is searched for once and serves while the times stay inside it.
+impl Ends {
+    fn new(limits: Limits, p: AutomationPoint, q: AutomationPoint) -> Ends
+        ensures { result ≡ ends_of limits p q }
+    {
+        Ends {
+            first: p.time,
+            early: limits.apply_constraints(p.value),
+            last: q.time,
+            late: limits.apply_constraints(q.value),
+        }
+    }
+
+    // None between the two, and at a NaN.
+    fn value_at(self, time: f64) -> Option<f32>
+        ensures { result ≡ outside_at self time }
+    {
+        if time <= self.first {
+            Some(self.early)
+        } else if time >= self.last {
+            Some(self.late)
+        } else {
+            None
+        }
+    }
+}
+
+// The samples of an enabled envelope of two points or more. Each segment is searched for once and serves while the times stay inside it. A `while`: a turn writes any number of samples.
 #[tactic(auto, using(lookup::proofs::RunLaws::run_places))]
-fn write_segments(valid: &Valid<'_>, rate: f64, first: u32, silent: f32, out: &mut [f32])
+fn write_segments(
+    valid: &Valid<'_>,
+    ends: Ends,
+    rate: f64,
+    first: u32,
+    silent: f32,
+    out: &mut [f32],
+)
     requires enabled { valid.now.enabled ≡ true }
+    requires two { 2 ≤ length (list_of valid.now.points) }
+    requires ends { ends ≡ ends_of valid.now.limits (point_at (list_of valid.now.points) 0) (last_point (list_of valid.now.points)) }
     requires few { first + length out.old ≤ most_samples }
     ensures { out.new ≡ run (sample_or silent valid.now.points valid.now.enabled valid.now.limits rate) first (length out.old) }
 {
     let heard = valid.heard;
     let limits = heard.limits;
-    let mut segment: Option<Segment> = None;
-    for (i, x) in out.iter_mut().enumerate() {
+    let mut i = 0;
+    // the place that is tried first: after the one before
+    let mut guess = 0;
+    while i < out.len() {
         let time = (first + i as u32) as f64 / rate;
-        segment = Segment::holding(segment, valid, time);
-        *x = match segment {
-            Some(s) => s.value_at(limits, time),
-            None => valid.value_at(time).unwrap_or(silent),
-        };
+        if let Some(v) = ends.value_at(time) {
+            out[i] = v;
+            i += 1;
+        } else {
+            let place = valid.place_by_guess(guess, time);
+            guess = place.saturating_add(1);
+            if let Some(s) = Segment::before(valid, place, time) {
+                i = s.write(limits, rate, first, out, i);
+            } else {
+                out[i] = valid.value_near(time, place).unwrap_or(silent);
+                i += 1;
+            }
+        }
     }
 }
 
@@ -131,11 +189,13 @@ fn write_samples(valid: &Valid<'_>, rate: f64, first: u32, silent: f32, out: &mu
     ensures { out.new ≡ run (sample_or silent valid.now.points valid.now.enabled valid.now.limits rate) first (length out.old) }
 {
     let heard = valid.heard;
-    if heard.enabled && heard.points().len() > 1 {
-        write_segments(valid, rate, first, silent, out);
-    } else {
+    match heard.points() {
+        [p, .., q] if heard.enabled => {
+            let ends = Ends::new(heard.limits, *p, *q);
+            write_segments(valid, ends, rate, first, silent, out);
+        }
         // the same at every time
-        out.fill(valid.value_at(0.0).unwrap_or(silent));
+        _ => out.fill(valid.value_at(0.0).unwrap_or(silent)),
     }
 }
 

@@ -1,7 +1,7 @@
 // The session: edits of one envelope, with steps back and forward over a lent step memory. docs/STATE.md says where it keeps what.
 #![tactic(auto)]
 
-ghost use Rattle.std.specs.Prelude.{◌≡◌, if◌then◌else◌, is_ok, true, ◌+◌, ◌*◌, ◌^◌, ◌<◌, ◌≤◌, length, Ok};
+ghost use Rattle.std.specs.Prelude.{◌≡◌, if◌then◌else◌, cond, is_ok, true, ◌+◌, ◌*◌, ◌^◌, ◌<◌, ◌≤◌, length, Ok, Err};
 ghost use Rattle.points.specs.Refusal.{said, gives};
 ghost use Rattle.points.specs.declared.refusal.Refusal.TheVariants.{NotValid};
 ghost use Rattle.points.specs.Checks.{refusal_of, first_failing};
@@ -141,6 +141,13 @@ impl Session {
         }
     }
 
+    // A refusal that comes after 1; `valid` says whether the call's envelopes are valid, so that they give no 1. The session stays as it is.
+    pub fn refuse_after(&self, valid: bool, refusal: Refusal) -> Result<(), Refusal>
+        ensures { result ≡ Err (cond valid refusal NotValid) }
+    {
+        Err(if valid { refusal } else { Refusal::NotValid })
+    }
+
     // ---- edits
 
     // What an accepted edit makes of the session: it counts if it altered a bit, and the envelope before it goes into its slot, if there is one.
@@ -171,7 +178,7 @@ impl Session {
         self.check_order()?;
         if let Err(refusal) = self.admit(memory) {
             let valid = self.envelope.is_valid();
-            return Err(if valid { refusal } else { Refusal::NotValid });
+            return self.refuse_after(valid, refusal);
         }
         let made = self.envelope.edit(e)?;
         self.settle(&made, memory);
@@ -179,7 +186,7 @@ impl Session {
     }
 
     // Any of 01's edits that take a second envelope: 1 for either comes first.
-    // `edit` and this are two: over a closure the contract would speak of all that one computes, and with one function for the refusal after 1 the goal here did not close.
+    // `edit` and this are two: over a closure the contract would speak of all that one computes.
     #[tactic(auto, using(crate::proofs::Ways::editing))]
     pub fn join(
         &mut self,
@@ -192,7 +199,7 @@ impl Session {
         self.check_order()?;
         if let Err(refusal) = self.admit(memory) {
             let valid = self.envelope.is_valid() & other.is_valid();
-            return Err(if valid { refusal } else { Refusal::NotValid });
+            return self.refuse_after(valid, refusal);
         }
         let made = self.envelope.join(join, other)?;
         self.settle(&made, memory);

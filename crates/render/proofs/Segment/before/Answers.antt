@@ -6,12 +6,12 @@ use Rattle.points.specs.Points.{list_of}
 use Rattle.lookup.specs.Lookup.{point_at}
 use Rattle.render.specs.Writer.{segment_of, Serves}
 use Rattle.render.proofs.Segments.{serves_heard}
-use Rattle.render.proofs.Segment.around.Goals as goal
+use Rattle.render.proofs.Segment.before.Goals as goal
 
 pub returns-in_ok-q-in-len2-up : goal.returns-in_ok-q-in-len2-up
 returns-in_ok-q-in-len2-up c =
     let l = c.points-points.result.now in
-    let i = c.place-i.result in
+    let i = c.args.place in
     let p = c.in_ok-p-in-len2-up.p.now in
     let q = c.in_ok-q-in-len2-up.q.now in
     let h = c.valid.inside.heard.now in
